@@ -1,0 +1,7 @@
+pub mod Clusters
+pub mod Facts
+pub mod Forward
+pub mod Backward
+pub mod Parts
+pub mod Steps
+pub mod Cases

@@ -1,0 +1,86 @@
+-- One cluster after the other, by their lengths in bytes: what next_cluster and prev_cluster tell of a part. Assumes nothing.
+use mathlib.Core.Path.{_≡_, refl, sym, ap, subst, _∙_}
+use mathlib.Core.Bool.{true}
+use mathlib.Core.List.{List, [], _∷_, _++_}
+use Prim.Native.Nat.{ℕ, _+_, _-_, _<_, _≤_}
+use native.Mathlib.Omega.{arith}
+use lib.ListN.{length, take, drop, length-take}
+use lib.Seq.{take-take, length-take-le}
+use Rattle.lists.specs.Lists.{headOr, lastOr}
+use Rattle.lists.proofs.Bools.{by-less}
+use Rattle.lists.proofs.Parts.{part-tail}
+use Rattle.utf8.specs.Utf8.{char, bad, first}
+use Rattle.utf8.specs.Chars.{chars, valid, boundary}
+use Rattle.utf8.proofs.Chars.{chars-step, size-pos}
+use Rattle.utf8.proofs.Append.{by-first}
+use Rattle.utf8.proofs.Boundary.{boundary-take}
+use Rattle.unicode.specs.Repertoire.{Repertoire}
+use Rattle.cluster.specs.Clusters.{clusters, clustersOf, bytes}
+use Rattle.cluster.specs.Facts.{facts}
+use Rattle.cluster.specs.declared.Cluster.{Cluster}
+use Rattle.cluster.proofs.Clusters.{runOf, clusters-head, clusters-step, clusters-none}
+use Rattle.cluster.proofs.Parts.{LastCut, last-cut}
+
+module _ (R : Repertoire) where
+  abbrev pub firstCluster : List ℕ → List ℕ
+  firstCluster t = headOr [] (clustersOf R t)
+
+  abbrev pub lastCluster : List ℕ → List ℕ
+  lastCluster t = lastOr [] (clustersOf R t)
+
+  head-pos : (t : List ℕ) (c n : ℕ) → first t ≡ char c n → 0 < bytes (firstCluster t)
+  head-pos t c n e =
+      let k : firstCluster t ≡ c ∷ runOf R c (chars (drop n t)) =
+      ap (λ (l : List ℕ). headOr [] (clusters R l)) (chars-step t c n e) ∙ clusters-head R c (chars (drop n t))
+      in
+      rw k (let p = size-pos c in omega arith)
+
+  -- a cluster was found
+  pub step-some : (t : List ℕ) → 0 < bytes (firstCluster t) → clustersOf R t ≡ firstCluster t ∷ clustersOf R (drop (bytes (firstCluster t)) t)
+  step-some t h =
+      by-first _ t (λ c n e. clusters-step R t c n e)
+      (λ e. absurd (let z : bytes (firstCluster t) ≡ 0 = ap (λ (l : List (List ℕ)). bytes (headOr [] l)) (clusters-none R t e) in omega arith))
+
+  -- none was
+  pub step-none : (t : List ℕ) → bytes (firstCluster t) ≡ 0 → clustersOf R t ≡ []
+  step-none t z = by-first _ t (λ c n e. absurd (let p = head-pos t c n e in omega arith)) (λ e. clusters-none R t e)
+
+  -- what next_cluster tells of `&s[a..]`
+  pub next-told : (s : List ℕ) (a : ℕ) (k : Cluster) → a ≤ length s →
+      (k ≡ facts R (firstCluster (take (length s - a) (drop a s)))) × (k .len ≤ length (take (length s - a) (drop a s))) →
+      (k ≡ facts R (firstCluster (drop a s))) × (a + k .len ≤ length s)
+  next-told s a k h e =
+      let q = e .1 in
+      let l = length-take (length s - a) (drop a s) in
+      (subst (λ (t : List ℕ). k ≡ facts R (firstCluster t)) (part-tail s a) (e .0), omega arith)
+
+  -- the last cluster before a boundary: k, of n bytes
+  pub record Before (s : List ℕ) (at n : ℕ) (k : List ℕ) : Type 0 where
+    pub some : 0 < n
+    pub fits : n ≤ at
+    pub edge : boundary s (at - n) ≡ true
+    pub split : clustersOf R (take at s) ≡ clustersOf R (take (at - n) s) ++ (k ∷ [])
+
+  before : (s : List ℕ) (at : ℕ) → boundary s at ≡ true → at ≤ length s → 0 < at → Before s at (bytes (lastCluster (take at s))) (lastCluster (take at s))
+  before s at b h p =
+      let l : length (take at s) ≡ at = length-take-le at s h in
+      let n = bytes (lastCluster (take at s)) in
+      let z = last-cut R (take at s) b (omega arith) in
+      let f = z .fits in
+      record {
+        some = z .some;
+        fits = omega arith;
+        edge = boundary-take s at (at - n) (omega arith) ∙ ap (λ (x : ℕ). boundary (take at s) (x - n)) (sym l) ∙ z .edge;
+        split =
+            z .split ∙ ap (λ (x : ℕ). clustersOf R (take (x - n) (take at s)) ++ (lastCluster (take at s) ∷ [])) l ∙
+            ap (λ (x : List ℕ). clustersOf R x ++ (lastCluster (take at s) ∷ [])) (take-take (at - n) at s (omega arith));
+      }
+
+  -- what prev_cluster tells of `&s[..at]`
+  pub prev-some : (s : List ℕ) (at : ℕ) (k : Cluster) → boundary s at ≡ true → at ≤ length s → 0 < at → k ≡ facts R (lastCluster (take at s)) →
+      Before s at (k .len) (lastCluster (take at s))
+  prev-some s at k b h p e = subst (λ (n : ℕ). Before s at n (lastCluster (take at s))) (sym (ap (λ (x : Cluster). x .len) e)) (before s at b h p)
+
+  pub prev-none : (s : List ℕ) (at : ℕ) (k : Cluster) → boundary s at ≡ true → at ≤ length s → k ≡ facts R (lastCluster (take at s)) → k .len ≡ 0 → at ≡ 0
+  prev-none s at k b h e z =
+      by-less _ 0 at (λ p. absurd (let q = prev-some s at k b h p e .some in omega arith)) (λ p. omega arith)

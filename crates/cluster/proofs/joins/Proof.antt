@@ -1,0 +1,41 @@
+use Rattle.cluster.specs.Clusters.{joined}
+use borrow.Author.Needs.{needs}
+use Rattle.cluster.proofs.joins.Statement.{statement}
+use Rattle.cluster.proofs.joins.Tie as tie
+
+returns : tie.Need-returns
+unfolding joined
+returns c = simp (c .if1 .taken)
+
+is-control-requires : tie.Need-is-control-requires
+is-control-requires c κs = search needs
+
+returns-2 : tie.Need-returns-2
+unfolding joined
+returns-2 c = simp (c .before .before .if1 .left, ← c .before .is-control .ensures, c .if2 .taken)
+
+is-control-requires-2 : tie.Need-is-control-requires-2
+is-control-requires-2 c κs = search needs
+
+returns-3 : tie.Need-returns-3
+unfolding joined
+returns-3 c = simp (c .before .before .before .before .if1 .left, ← c .before .before .before .is-control .ensures, c .before .before .if2 .left, ← c .before .is-control2 .ensures, c .if3 .taken)
+
+is-mark-requires : tie.Need-is-mark-requires
+is-mark-requires c κs = search needs
+
+returns-4 : tie.Need-returns-4
+unfolding joined
+returns-4 c = simp (c .before .before .before .before .before .if1 .left, ← c .before .before .before .before .is-control .ensures, c .before .before .before .if2 .left, ← c .before .before .is-control2 .ensures, c .before .if3 .left) (c .is-mark .ensures)
+
+pub joins-spec : {M : Type 1} → statement M
+joins-spec =
+    tie.close
+    (tie.spec
+    returns
+    is-control-requires
+    returns-2
+    is-control-requires-2
+    returns-3
+    is-mark-requires
+    returns-4)

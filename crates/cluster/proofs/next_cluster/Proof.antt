@@ -1,0 +1,104 @@
+use borrow.Author.Needs.{needs}
+use Prim.Native.Nat.{_≤_, _-_}
+use mathlib.Core.Path.{sym, ap, _∙_}
+use native.Mathlib.Omega.{arith}
+use borrow.Author.Tests.{not-true, not-false}
+use lib.ListN.{length}
+use Rattle.utf8.specs.Answer.{asFirst}
+use Rattle.utf8.proofs.Chars.{first-within}
+use Rattle.utf8.proofs.Forms.{first-end}
+use Rattle.unicode.specs.Repertoire.{catalogue}
+use Rattle.unicode.proofs.Text.{within-at}
+use Rattle.cluster.proofs.Forward.{Scanned, scan-start, scan-none, scan-more, scan-break, scan-end}
+use Rattle.cluster.proofs.next_cluster.Statement.{statement}
+use Rattle.cluster.proofs.next_cluster.Tie as tie
+
+abbrev Inv-loop : tie.InvT-loop
+Inv-loop s cp len p₀ i₀ k₀ p i k = (i ≤ length s) × Scanned catalogue s i p k
+
+abbrev μ-loop : tie.MeasureT-loop
+μ-loop s cp len p₀ i₀ k₀ p i k = length s - i
+
+decode-at-requires : tie.Need-decode-at-requires Inv-loop μ-loop
+decode-at-requires c κs = search needs
+
+enum-known-d : tie.Need-enum-known-d Inv-loop μ-loop
+enum-known-d c = search needs
+
+enum-told : tie.Need-enum-told Inv-loop μ-loop
+enum-told c = search needs
+
+empty-requires : tie.Need-empty-requires Inv-loop μ-loop
+empty-requires c κs = search needs
+
+returns : tie.Need-returns Inv-loop μ-loop
+returns c = (c .empty .ensures ∙ scan-none catalogue (c .before .before .before .before .before .args .s .now) (sym (c .before .before .before .decode-at .ensures) ∙ ap asFirst (c .before .enum-told .given .1)), omega (arith, ap (λ x. x .len) (c .empty .ensures)))
+
+of-requires : tie.Need-of-requires Inv-loop μ-loop
+of-requires c κs = search needs
+
+loop-holds : tie.Need-loop-holds Inv-loop μ-loop
+loop-holds c = let e = sym (c .before .before .before .before .decode-at .ensures) ∙ ap asFirst (c .before .before .d .given .1) in
+    (first-within _ _ _ e .fits, scan-start catalogue (c .before .before .before .before .before .before .args .s .now) _ _ _ e (c .of .ensures))
+
+decode-at-requires-2 : tie.Need-decode-at-requires-2 Inv-loop μ-loop
+decode-at-requires-2 c κs = search needs
+
+enum-known-e : tie.Need-enum-known-e Inv-loop μ-loop
+enum-known-e c = search needs
+
+enum-told-2 : tie.Need-enum-told-2 Inv-loop μ-loop
+enum-told-2 c = search needs
+
+returns-2 : tie.Need-returns-2 Inv-loop μ-loop
+returns-2 c = let z = c .before .before .before .before .loop .inv .1 in
+    (scan-end catalogue (c .before .before .before .before .before .before .before .before .before .before .before .args .s .now) _ _ _ z (sym (c .before .before .decode-at2 .ensures) ∙ ap asFirst (c .enum-told2 .given .1)), omega (arith, z .sized, c .before .before .before .before .loop .inv .0))
+
+joins-requires : tie.Need-joins-requires Inv-loop μ-loop
+joins-requires c κs = search needs
+
+returns-3 : tie.Need-returns-3 Inv-loop μ-loop
+returns-3 c = let z = c .before .before .before .before .before .before .before .loop .inv .1 in
+    (scan-break catalogue (c .before .before .before .before .before .before .before .before .before .before .before .before .before .before .args .s .now) _ _ _ z _ _ (sym (c .before .before .before .before .before .decode-at2 .ensures) ∙ ap asFirst (c .before .before .before .e .given .1)) (sym (c .before .joins .ensures) ∙ not-true _ (c .if1 .taken)), omega (arith, z .sized, c .before .before .before .before .before .before .before .loop .inv .0))
+
+add-i : tie.Need-add-i Inv-loop μ-loop
+add-i c = omega (arith, within-at (c .before .before .before .before .before .before .before .before .before .before .before .before .before .before .args .s .now) (c .before .before .before .before .before .before .before .loop .i) _ _ (c .before .before .before .before .before .before .before .loop .inv .0) (sym (c .before .before .before .before .before .decode-at2 .ensures) ∙ ap asFirst (c .before .before .before .e .given .1)))
+
+with-requires : tie.Need-with-requires Inv-loop μ-loop
+with-requires c κs = omega (arith, c .before .before .before .before .before .before .before .loop .inv .1 .sized, within-at (c .before .before .before .before .before .before .before .before .before .before .before .before .before .before .args .s .now) (c .before .before .before .before .before .before .before .loop .i) _ _ (c .before .before .before .before .before .before .before .loop .inv .0) (sym (c .before .before .before .before .before .decode-at2 .ensures) ∙ ap asFirst (c .before .before .before .e .given .1)))
+
+loop-less : tie.Need-loop-less Inv-loop μ-loop
+loop-less c = omega (arith, within-at (c .before .before .before .before .before .before .before .before .before .before .before .before .before .before .before .args .s .now) (c .before .before .before .before .before .before .before .before .loop .i) _ _ (c .before .before .before .before .before .before .before .before .loop .inv .0) (sym (c .before .before .before .before .before .before .decode-at2 .ensures) ∙ ap asFirst (c .before .before .before .before .e .given .1)))
+
+loop-again : tie.Need-loop-again Inv-loop μ-loop
+loop-again c = let e = sym (c .before .before .before .before .before .before .decode-at2 .ensures) ∙ ap asFirst (c .before .before .before .before .e .given .1) in
+    (within-at (c .before .before .before .before .before .before .before .before .before .before .before .before .before .before .before .args .s .now) (c .before .before .before .before .before .before .before .before .loop .i) _ _ (c .before .before .before .before .before .before .before .before .loop .inv .0) e .1, scan-more catalogue (c .before .before .before .before .before .before .before .before .before .before .before .before .before .before .before .args .s .now) _ _ _ (c .before .before .before .before .before .before .before .before .loop .inv .1) _ _ _ e (sym (c .before .before .joins .ensures) ∙ not-false _ (c .before .if1 .left)) (c .with .ensures))
+
+returns-4 : tie.Need-returns-4 Inv-loop μ-loop
+returns-4 c = let z = c .before .loop .inv .1 in
+    (scan-end catalogue (c .before .before .before .before .before .before .before .before .args .s .now) _ _ _ z (first-end (c .before .before .before .before .before .before .before .before .args .s .now) (c .before .loop .i) (c .loop-test .left)), omega (arith, z .sized, c .before .loop .inv .0))
+
+pub next-cluster-spec : {M : Type 1} → statement M
+next-cluster-spec =
+    tie.close
+    (tie.spec
+    Inv-loop
+    μ-loop
+    decode-at-requires
+    enum-known-d
+    enum-told
+    empty-requires
+    returns
+    of-requires
+    loop-holds
+    decode-at-requires-2
+    enum-known-e
+    enum-told-2
+    returns-2
+    joins-requires
+    returns-3
+    add-i
+    with-requires
+    loop-less
+    loop-again
+    returns-4)

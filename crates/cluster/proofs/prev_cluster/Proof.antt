@@ -1,0 +1,108 @@
+use borrow.Author.Needs.{needs}
+use mathlib.Core.Path.{_≡_, sym, ap, _∙_}
+use native.Mathlib.Omega.{arith}
+use borrow.Author.Tests.{not-true, not-false}
+use Rattle.utf8.specs.Answer.{asFirst}
+use Rattle.utf8.proofs.Boundary.{boundary-end}
+use Rattle.unicode.specs.Repertoire.{catalogue}
+use Rattle.utf8.proofs.Ends.{ends-before, ends-never, ends-char}
+use Rattle.cluster.proofs.Backward.{Backed, back-empty, back-start, back-more, back-stop, back-done}
+use Rattle.cluster.proofs.prev_cluster.Statement.{statement}
+use Rattle.cluster.proofs.prev_cluster.Tie as tie
+
+abbrev Inv-loop : tie.InvT-loop
+Inv-loop s n j₀ cp len c₀ k₀ j c k = Backed catalogue s j c k
+
+abbrev μ-loop : tie.MeasureT-loop
+μ-loop s n j₀ cp len c₀ k₀ j c k = j
+
+empty-requires : tie.Need-empty-requires Inv-loop μ-loop
+empty-requires c κs = search needs
+
+returns : tie.Need-returns Inv-loop μ-loop
+returns c = (back-empty catalogue (c .before .before .before .args .s .now) _ (c .before .if1 .taken) (c .empty .ensures), omega (arith, ap (λ x. x .len) (c .empty .ensures)))
+
+prev-char-requires : tie.Need-prev-char-requires Inv-loop μ-loop
+prev-char-requires c κs = search needs
+
+decode-at-requires : tie.Need-decode-at-requires Inv-loop μ-loop
+decode-at-requires c κs = search needs
+
+enum-known-d : tie.Need-enum-known-d Inv-loop μ-loop
+enum-known-d c = search needs
+
+enum-told : tie.Need-enum-told Inv-loop μ-loop
+enum-told c = search needs
+
+empty-requires-2 : tie.Need-empty-requires-2 Inv-loop μ-loop
+empty-requires-2 c κs = search needs
+
+returns-2 : tie.Need-returns-2 Inv-loop μ-loop
+returns-2 c = ends-never _ _ _ _ (ends-before (c .before .before .before .before .before .before .before .args .s .now) _ _ (c .before .before .before .before .before .before .before .pre) (boundary-end _ (c .before .before .before .before .before .before .before .pre)) (omega (arith, c .before .before .before .before .before .if1 .left)) (omega arith) (c .before .before .before .before .prev-char .ensures)) (sym (c .before .before .before .decode-at .ensures) ∙ ap asFirst (c .before .enum-told .given .1))
+
+of-requires : tie.Need-of-requires Inv-loop μ-loop
+of-requires c κs = search needs
+
+loop-holds : tie.Need-loop-holds Inv-loop μ-loop
+loop-holds c = back-start catalogue (c .before .before .before .before .before .before .before .before .args .s .now) _ _ _ _ (ends-before (c .before .before .before .before .before .before .before .before .args .s .now) _ _ (c .before .before .before .before .before .before .before .before .pre) (boundary-end _ (c .before .before .before .before .before .before .before .before .pre)) (omega (arith, c .before .before .before .before .before .before .if1 .left)) (omega arith) (c .before .before .before .before .before .prev-char .ensures)) (sym (c .before .before .before .before .decode-at .ensures) ∙ ap asFirst (c .before .before .d .given .1)) (c .of .ensures)
+
+prev-char-requires-2 : tie.Need-prev-char-requires-2 Inv-loop μ-loop
+prev-char-requires-2 c κs = search needs
+
+decode-at-requires-2 : tie.Need-decode-at-requires-2 Inv-loop μ-loop
+decode-at-requires-2 c κs = search needs
+
+enum-known-e : tie.Need-enum-known-e Inv-loop μ-loop
+enum-known-e c = search needs
+
+enum-told-2 : tie.Need-enum-told-2 Inv-loop μ-loop
+enum-told-2 c = search needs
+
+returns-3 : tie.Need-returns-3 Inv-loop μ-loop
+returns-3 c = ends-never _ _ _ _ (ends-before (c .before .before .before .before .before .before .before .before .before .before .before .before .before .before .args .s .now) (c .before .before .before .before .before .loop .j) _ (c .before .before .before .before .before .before .before .before .before .before .before .before .before .before .pre) (c .before .before .before .before .before .loop .inv .start) (c .before .before .before .before .loop-test .taken) (omega (arith, c .before .before .before .before .before .loop .inv .sized)) (c .before .before .before .prev-char2 .ensures)) (sym (c .before .before .decode-at2 .ensures) ∙ ap asFirst (c .enum-told2 .given .1))
+
+joins-requires : tie.Need-joins-requires Inv-loop μ-loop
+joins-requires c κs = search needs
+
+returns-4 : tie.Need-returns-4 Inv-loop μ-loop
+returns-4 c = (back-stop catalogue (c .before .before .before .before .before .before .before .before .before .before .before .before .before .before .before .before .before .args .s .now) _ _ _ (c .before .before .before .before .before .before .before .before .loop .inv) _ _ _ (ends-before (c .before .before .before .before .before .before .before .before .before .before .before .before .before .before .before .before .before .args .s .now) (c .before .before .before .before .before .before .before .before .loop .j) _ (c .before .before .before .before .before .before .before .before .before .before .before .before .before .before .before .before .before .pre) (c .before .before .before .before .before .before .before .before .loop .inv .start) (c .before .before .before .before .before .before .before .loop-test .taken) (omega (arith, c .before .before .before .before .before .before .before .before .loop .inv .sized)) (c .before .before .before .before .before .before .prev-char2 .ensures)) (sym (c .before .before .before .before .before .decode-at2 .ensures) ∙ ap asFirst (c .before .before .before .e .given .1)) (sym (c .before .joins .ensures) ∙ not-true _ (c .if2 .taken)), omega (arith, c .before .before .before .before .before .before .before .before .loop .inv .sized))
+
+with-requires : tie.Need-with-requires Inv-loop μ-loop
+with-requires c κs = let e = (ends-before (c .before .before .before .before .before .before .before .before .before .before .before .before .before .before .before .before .before .args .s .now) (c .before .before .before .before .before .before .before .before .loop .j) _ (c .before .before .before .before .before .before .before .before .before .before .before .before .before .before .before .before .before .pre) (c .before .before .before .before .before .before .before .before .loop .inv .start) (c .before .before .before .before .before .before .before .loop-test .taken) (omega (arith, c .before .before .before .before .before .before .before .before .loop .inv .sized)) (c .before .before .before .before .before .before .prev-char2 .ensures)) in let m = ends-char _ _ _ _ _ e (sym (c .before .before .before .before .before .decode-at2 .ensures) ∙ ap asFirst (c .before .before .before .e .given .1)) in let b = e .below in omega (arith, c .before .before .before .before .before .before .before .before .loop .inv .sized)
+
+loop-less : tie.Need-loop-less Inv-loop μ-loop
+loop-less c = (ends-before (c .before .before .before .before .before .before .before .before .before .before .before .before .before .before .before .before .before .before .args .s .now) (c .before .before .before .before .before .before .before .before .before .loop .j) _ (c .before .before .before .before .before .before .before .before .before .before .before .before .before .before .before .before .before .before .pre) (c .before .before .before .before .before .before .before .before .before .loop .inv .start) (c .before .before .before .before .before .before .before .before .loop-test .taken) (omega (arith, c .before .before .before .before .before .before .before .before .before .loop .inv .sized)) (c .before .before .before .before .before .before .before .prev-char2 .ensures)) .below
+
+loop-again : tie.Need-loop-again Inv-loop μ-loop
+loop-again c = back-more catalogue (c .before .before .before .before .before .before .before .before .before .before .before .before .before .before .before .before .before .before .args .s .now) _ _ _ (c .before .before .before .before .before .before .before .before .before .loop .inv) _ _ _ (ends-before (c .before .before .before .before .before .before .before .before .before .before .before .before .before .before .before .before .before .before .args .s .now) (c .before .before .before .before .before .before .before .before .before .loop .j) _ (c .before .before .before .before .before .before .before .before .before .before .before .before .before .before .before .before .before .before .pre) (c .before .before .before .before .before .before .before .before .before .loop .inv .start) (c .before .before .before .before .before .before .before .before .loop-test .taken) (omega (arith, c .before .before .before .before .before .before .before .before .before .loop .inv .sized)) (c .before .before .before .before .before .before .before .prev-char2 .ensures)) (sym (c .before .before .before .before .before .before .decode-at2 .ensures) ∙ ap asFirst (c .before .before .before .before .e .given .1)) _ (sym (c .before .before .joins .ensures) ∙ not-false _ (c .before .if2 .left)) (c .with .ensures)
+
+returns-5 : tie.Need-returns-5 Inv-loop μ-loop
+returns-5 c = let z : c .before .loop .j ≡ 0 = omega (arith, c .loop-test .left) in (back-done catalogue (c .before .before .before .before .before .before .before .before .before .before .args .s .now) _ _ (rw z at (c .before .loop .inv)), omega (arith, c .before .loop .inv .sized))
+
+pub prev-cluster-spec : {M : Type 1} → statement M
+prev-cluster-spec =
+    tie.close
+    (tie.spec
+    Inv-loop
+    μ-loop
+    empty-requires
+    returns
+    prev-char-requires
+    decode-at-requires
+    enum-known-d
+    enum-told
+    empty-requires-2
+    returns-2
+    of-requires
+    loop-holds
+    prev-char-requires-2
+    decode-at-requires-2
+    enum-known-e
+    enum-told-2
+    returns-3
+    joins-requires
+    returns-4
+    with-requires
+    loop-less
+    loop-again
+    returns-5)

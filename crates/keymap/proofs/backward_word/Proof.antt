@@ -1,0 +1,27 @@
+use mathlib.Core.Path.{sym, ap, _∙_}
+use Rattle.keymap.specs.Codes.{backwardWord}
+use borrow.Author.Needs.{needs}
+use Rattle.keymap.proofs.backward_word.Statement.{statement}
+use Rattle.keymap.proofs.backward_word.Tie as tie
+
+from-code-requires : tie.Need-from-code-requires
+from-code-requires c κs = search needs
+
+enum-known-w : tie.Need-enum-known-w
+enum-known-w c = search needs
+
+enum-told : tie.Need-enum-told
+enum-told c = search needs
+
+returns : tie.Need-returns
+returns c =
+    let e = c .before .before .before .from-code .ensures in
+    let w = c .before .w .given in
+    sym (ap (backwardWord (c .before .before .before .before .args .n)) (sym e ∙ w .1))
+
+returns-2 : tie.Need-returns-2
+returns-2 c = sym (ap (backwardWord (c .before .before .before .args .n)) (sym (c .before .before .from-code .ensures) ∙ c .enum-told .given .1))
+
+pub backward-word-spec : {M : Type 1} → statement M
+backward-word-spec =
+    tie.close (tie.spec from-code-requires enum-known-w enum-told returns returns-2)

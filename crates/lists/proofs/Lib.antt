@@ -1,0 +1,6 @@
+pub mod Bools
+pub mod Tables
+pub mod Parts
+pub mod Alls
+pub mod Ends
+pub mod Stores

@@ -1,0 +1,38 @@
+-- Functions on lists that several definitions use.
+use Prim.Native.Nat.{ℕ, _+_}
+use mathlib.Core.Bool.{Bool, true, false, _&&_, _||_}
+use mathlib.Core.List.{List, [], _∷_, _++_}
+
+abbrev pub all : (ℕ → Bool) → List ℕ → Bool
+all f [] = true
+all f (x ∷ l) = f x && all f l
+
+abbrev pub any : (ℕ → Bool) → List ℕ → Bool
+any f [] = false
+any f (x ∷ l) = f x || any f l
+
+abbrev pub sum : List ℕ → ℕ
+sum [] = 0
+sum (x ∷ l) = x + sum l
+
+module _ {A : Type 0} where
+  -- the lists, one behind the other
+  abbrev pub concat : List (List A) → List A
+  concat [] = []
+  concat (k ∷ ks) = k ++ concat ks
+
+  -- the first element, z where there is none
+  abbrev pub headOr : A → List A → A
+  headOr z [] = z
+  headOr z (x ∷ l) = x
+
+  -- the last element, z where there is none
+  unfoldable pub lastOr : A → List A → A
+  lastOr z [] = z
+  lastOr z (x ∷ l) = lastOr x l
+
+  -- all but the last element
+  unfoldable pub init : List A → List A
+  init [] = []
+  init (x ∷ []) = []
+  init (x ∷ (y ∷ l)) = x ∷ init (y ∷ l)

@@ -1,0 +1,5 @@
+pub mod Text
+pub mod Plain
+pub mod Cased
+pub mod Catalogue
+pub mod Written

@@ -1,0 +1,29 @@
+use mathlib.Core.Path.{ap, sym, _∙_}
+use Rattle.unicode.specs.Repertoire.{catalogue}
+use Rattle.unicode.specs.Case.{caseOf}
+use borrow.Author.Needs.{needs}
+use Rattle.unicode.proofs.case_of.Statement.{statement}
+use Rattle.unicode.proofs.case_of.Tie as tie
+
+enum-told : tie.Need-enum-told
+enum-told c = search needs
+
+upper-of-requires : tie.Need-upper-of-requires
+upper-of-requires c κs = search needs
+
+enum-told-2 : tie.Need-enum-told-2
+enum-told-2 c = search needs
+
+lower-of-requires : tie.Need-lower-of-requires
+lower-of-requires c κs = search needs
+
+returns : tie.Need-returns
+returns c = c .upper-of .ensures ∙ ap (λ k. caseOf catalogue k (c .before .before .before .args .cp)) (sym (c .before .enum-told .given .1))
+
+returns-2 : tie.Need-returns-2
+returns-2 c = c .lower-of .ensures ∙ ap (λ k. caseOf catalogue k (c .before .before .before .args .cp)) (sym (c .before .enum-told2 .given .1))
+
+pub case-of-spec : {M : Type 1} → statement M
+case-of-spec =
+    tie.close
+    (tie.spec enum-told upper-of-requires enum-told-2 lower-of-requires returns returns-2)

@@ -1,0 +1,87 @@
+use borrow.Author.Needs.{needs}
+use Prim.Native.Nat.{_-_}
+use mathlib.Core.Path.{sym, ap, _∙_}
+use native.Mathlib.Omega.{arith}
+use lib.ListN.{length}
+use Rattle.utf8.specs.Answer.{asFirst}
+use Rattle.utf8.proofs.Forms.{first-end}
+use Rattle.unicode.specs.Repertoire.{catalogue}
+use Rattle.unicode.proofs.Text.{within-at}
+use Rattle.unicode.proofs.Catalogue.{catalogue-shrinks}
+use Rattle.unicode.proofs.Written.{Writing, writing-length, writing-start, writing-fits, writing-step, writing-end, no-room}
+use Rattle.unicode.proofs.change_case.Statement.{statement}
+use Rattle.unicode.proofs.change_case.Tie as tie
+
+abbrev Inv-loop : tie.InvT-loop
+Inv-loop s case out₀ i₀ n₀ out i n = Writing catalogue case out₀ s out i n
+
+abbrev μ-loop : tie.MeasureT-loop
+μ-loop s case out₀ i₀ n₀ out i n = length s - i
+
+returns : tie.Need-returns Inv-loop μ-loop
+returns c = no-room _ _ _ (c .if1 .taken)
+
+loop-holds : tie.Need-loop-holds Inv-loop μ-loop
+loop-holds c = writing-start catalogue _ _ _ (c .if1 .left)
+
+decode-at-requires : tie.Need-decode-at-requires Inv-loop μ-loop
+decode-at-requires c κs = search needs
+
+enum-known-d : tie.Need-enum-known-d Inv-loop μ-loop
+enum-known-d c = search needs
+
+enum-told : tie.Need-enum-told Inv-loop μ-loop
+enum-told c = search needs
+
+same-length : tie.Need-same-length Inv-loop μ-loop
+same-length c = writing-length (c .before .before .before .before .loop .inv)
+
+returns-2 : tie.Need-returns-2 Inv-loop μ-loop
+returns-2 c = writing-end _ _ _ _ _ _ (c .before .before .before .before .loop .inv) (sym (c .before .before .decode-at .ensures) ∙ ap asFirst (c .enum-told .given .1))
+
+case-of-requires : tie.Need-case-of-requires Inv-loop μ-loop
+case-of-requires c κs = search needs
+
+write-mapped-requires : tie.Need-write-mapped-requires Inv-loop μ-loop
+write-mapped-requires c κs = writing-fits catalogue _ _ _ catalogue-shrinks _ _ _ _ _ _ (c .before .before .before .before .before .before .before .loop .inv) (sym (c .before .before .before .before .before .decode-at .ensures) ∙ ap asFirst (c .before .before .before .d .given .1)) (c .case-of .ensures)
+
+loop-again : tie.Need-loop-again Inv-loop μ-loop
+loop-again c = writing-step catalogue _ _ _ catalogue-shrinks _ _ _ _ _ _ (c .before .before .before .before .before .before .before .before .before .before .loop .inv) (sym (c .before .before .before .before .before .before .before .before .decode-at .ensures) ∙ ap asFirst (c .before .before .before .before .before .before .d .given .1)) (c .before .before .before .case-of .ensures) _ _ (c .before .before .write-mapped .ensures)
+
+add-n : tie.Need-add-n Inv-loop μ-loop
+add-n c = let w = loop-again c in omega (arith, w .under, w .within)
+
+add-i : tie.Need-add-i Inv-loop μ-loop
+add-i c = let w = loop-again c in omega (arith, w .within)
+
+loop-less : tie.Need-loop-less Inv-loop μ-loop
+loop-less c = let h = within-at _ _ _ _ (c .before .before .before .before .before .before .before .before .before .before .loop .inv .within) (sym (c .before .before .before .before .before .before .before .before .decode-at .ensures) ∙ ap asFirst (c .before .before .before .before .before .before .d .given .1)) in
+    omega (arith, h .0, h .1)
+
+same-length-2 : tie.Need-same-length-2 Inv-loop μ-loop
+same-length-2 c = writing-length (c .before .loop .inv)
+
+returns-3 : tie.Need-returns-3 Inv-loop μ-loop
+returns-3 c = writing-end _ _ _ _ _ _ (c .before .loop .inv) (first-end (c .before .before .before .before .before .args .s .now) (c .before .loop .i) (c .loop-test .left))
+
+pub change-case-spec : {M : Type 1} → statement M
+change-case-spec =
+    tie.close
+    (tie.spec
+    Inv-loop
+    μ-loop
+    returns
+    loop-holds
+    decode-at-requires
+    enum-known-d
+    enum-told
+    same-length
+    returns-2
+    case-of-requires
+    write-mapped-requires
+    add-n
+    add-i
+    loop-less
+    loop-again
+    same-length-2
+    returns-3)

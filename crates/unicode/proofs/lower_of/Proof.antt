@@ -1,0 +1,42 @@
+use native.Mathlib.Omega.{arith}
+use Rattle.unicode.specs.Repertoire.{isCapital}
+use Rattle.unicode.proofs.Catalogue.{capital-most, lower-diaeresis, lower-capital, lower-other}
+use borrow.Author.Needs.{needs}
+use Rattle.unicode.proofs.lower_of.Statement.{statement}
+use Rattle.unicode.proofs.lower_of.Tie as tie
+
+returns : tie.Need-returns
+returns c = lower-diaeresis _ (c .if1 .taken)
+
+between-requires : tie.Need-between-requires
+between-requires c κs = search needs
+
+between-requires-2 : tie.Need-between-requires-2
+between-requires-2 c κs = search needs
+
+between-requires-3 : tie.Need-between-requires-3
+between-requires-3 c κs = search needs
+
+add-t7 : tie.Need-add-t7
+unfolding isCapital
+add-t7 c = omega (arith, capital-most (c .before .before .before .before .before .args .cp) (cc))
+
+returns-2 : tie.Need-returns-2
+unfolding isCapital
+returns-2 c = lower-capital _ (c .before .before .before .before .if1 .left) (cc)
+
+returns-3 : tie.Need-returns-3
+unfolding isCapital
+returns-3 c = lower-other _ (c .before .before .before .before .if1 .left) (cc)
+
+pub lower-of-spec : {M : Type 1} → statement M
+lower-of-spec =
+    tie.close
+    (tie.spec
+    returns
+    between-requires
+    between-requires-2
+    between-requires-3
+    add-t7
+    returns-2
+    returns-3)

@@ -1,0 +1,62 @@
+use mathlib.Core.Path.{sym, ap, _∙_}
+use Rattle.lists.proofs.Parts.{getD-any}
+use Rattle.utf8.specs.Answer.{asFirst}
+use Rattle.utf8.proofs.Forms.{first-end}
+use Rattle.unicode.specs.Repertoire.{catalogue}
+use Rattle.unicode.specs.Text.{plain}
+use Rattle.unicode.proofs.Text.{member-in, member-out, member-bad}
+use Rattle.unicode.proofs.Plain.{one-at, plain-one}
+use borrow.Author.Needs.{needs}
+use Rattle.unicode.proofs.member_len.Statement.{statement}
+use Rattle.unicode.proofs.member_len.Tie as tie
+
+returns : tie.Need-returns
+returns c = member-bad catalogue _ (first-end (c .before .before .args .s .now) (c .before .before .args .at) (c .if1 .taken))
+
+shared-slice-read-is-plain : tie.Need-shared-slice-read-is-plain
+shared-slice-read-is-plain c = search needs
+
+is-plain-requires : tie.Need-is-plain-requires
+is-plain-requires c κs = search needs
+
+returns-2 : tie.Need-returns-2
+returns-2 c = let a = c .before .before .before .before .before .args in
+    sym (one-at catalogue plain plain-one (a .s .now) (a .at)
+    (ap plain (getD-any (a .s .now) (a .at) 256 0 (c .before .before .before .if1 .left)) ∙ sym (c .before .is-plain .ensures) ∙ c .if2 .taken))
+
+decode-at-requires : tie.Need-decode-at-requires
+decode-at-requires c κs = search needs
+
+enum-known-d : tie.Need-enum-known-d
+enum-known-d c = search needs
+
+in-repertoire-requires : tie.Need-in-repertoire-requires
+in-repertoire-requires c κs = search needs
+
+enum-told : tie.Need-enum-told
+enum-told c = search needs
+
+returns-3 : tie.Need-returns-3
+returns-3 c = member-in catalogue _ _ _ (sym (c .before .before .before .before .before .decode-at .ensures) ∙ ap asFirst (c .before .before .before .d .given .1)) (sym (c .before .in-repertoire .ensures) ∙ c .if3 .taken)
+
+returns-4 : tie.Need-returns-4
+returns-4 c = member-out catalogue _ _ _ (sym (c .before .before .before .before .before .decode-at .ensures) ∙ ap asFirst (c .before .before .before .d .given .1)) (sym (c .before .in-repertoire .ensures) ∙ c .if3 .left)
+
+returns-5 : tie.Need-returns-5
+returns-5 c = member-bad catalogue _ (sym (c .before .before .decode-at .ensures) ∙ ap asFirst (c .enum-told .given .1))
+
+pub member-len-spec : {M : Type 1} → statement M
+member-len-spec =
+    tie.close
+    (tie.spec
+    returns
+    shared-slice-read-is-plain
+    is-plain-requires
+    returns-2
+    decode-at-requires
+    enum-known-d
+    in-repertoire-requires
+    enum-told
+    returns-3
+    returns-4
+    returns-5)

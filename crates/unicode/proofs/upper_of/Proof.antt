@@ -1,0 +1,45 @@
+use Rattle.unicode.specs.Repertoire.{isSmall}
+use Rattle.unicode.proofs.Catalogue.{small-least, upper-sharp, upper-diaeresis, upper-small, upper-other}
+use borrow.Author.Needs.{needs}
+use Rattle.unicode.proofs.upper_of.Statement.{statement}
+use Rattle.unicode.proofs.upper_of.Tie as tie
+
+returns : tie.Need-returns
+returns c = upper-sharp _ (c .if1 .taken)
+
+returns-2 : tie.Need-returns-2
+returns-2 c = upper-diaeresis _ (c .before .if1 .left) (c .if2 .taken)
+
+between-requires : tie.Need-between-requires
+between-requires c κs = search needs
+
+between-requires-2 : tie.Need-between-requires-2
+between-requires-2 c κs = search needs
+
+between-requires-3 : tie.Need-between-requires-3
+between-requires-3 c κs = search needs
+
+sub-t7 : tie.Need-sub-t7
+unfolding isSmall
+sub-t7 c = small-least _ (cc)
+
+returns-3 : tie.Need-returns-3
+unfolding isSmall
+returns-3 c = upper-small _ (c .before .before .before .before .before .if1 .left) (c .before .before .before .before .if2 .left) (cc)
+
+returns-4 : tie.Need-returns-4
+unfolding isSmall
+returns-4 c = upper-other _ (c .before .before .before .before .before .if1 .left) (c .before .before .before .before .if2 .left) (cc)
+
+pub upper-of-spec : {M : Type 1} → statement M
+upper-of-spec =
+    tie.close
+    (tie.spec
+    returns
+    returns-2
+    between-requires
+    between-requires-2
+    between-requires-3
+    sub-t7
+    returns-3
+    returns-4)

@@ -1,0 +1,55 @@
+use native.Mathlib.Omega.{arith}
+use Rattle.unicode.proofs.Written.{wrote-one, wrote-half, wrote-two}
+use borrow.Author.Needs.{needs}
+use Rattle.unicode.proofs.write_mapped.Statement.{statement}
+use Rattle.unicode.proofs.write_mapped.Tie as tie
+
+enum-known-m : tie.Need-enum-known-m
+enum-known-m c = search needs
+
+encode-at-requires : tie.Need-encode-at-requires
+encode-at-requires c κs = search needs
+
+enum-known-m-2 : tie.Need-enum-known-m-2
+enum-known-m-2 c = search needs
+
+encode-at-requires-2 : tie.Need-encode-at-requires-2
+encode-at-requires-2 c κs = search needs
+
+add-encode-at : tie.Need-add-encode-at
+add-encode-at c = omega (arith, wrote-half (c .before .before .before .before .before .before .before .before .before .args .out .now) (c .before .before .before .before .before .before .before .before .before .args .at) (c .before .before .before .before .before .before .before .before .before .args .m) _ _ _ _ (c .before .before .before .before .before .before .before .before .before .pre) (c .before .before .before .before .before .before .m2 .given .1) (c .before .before .before .encode-at2 .ensures) .room)
+
+encode-at-requires-3 : tie.Need-encode-at-requires-3
+encode-at-requires-3 c κs = search needs
+
+add-result : tie.Need-add-result
+add-result c = let w = wrote-two (c .before .before .before .before .before .before .before .before .before .before .before .before .args .out .now) (c .before .before .before .before .before .before .before .before .before .before .before .before .args .at) (c .before .before .before .before .before .before .before .before .before .before .before .before .args .m) _ _ _ _ _ _ (c .before .before .before .before .before .before .before .before .before .m2 .given .1) (wrote-half _ _ _ _ _ _ _ (c .before .before .before .before .before .before .before .before .before .before .before .before .pre) (c .before .before .before .before .before .before .before .before .before .m2 .given .1) (c .before .before .before .before .before .before .encode-at2 .ensures)) (c .before .before .encode-at3 .ensures) in
+    omega (arith, w .counted, c .before .before .before .before .before .before .before .before .before .before .before .before .pre .room)
+
+same-length : tie.Need-same-length
+same-length c = search needs
+
+returns : tie.Need-returns
+returns c = wrote-one _ _ _ _ _ _ (c .before .before .before .before .before .before .before .before .pre) (c .before .before .before .before .before .m .given .1) (c .before .before .encode-at .ensures)
+
+same-length-2 : tie.Need-same-length-2
+same-length-2 c = search needs
+
+returns-2 : tie.Need-returns-2
+returns-2 c = wrote-two _ _ _ _ _ _ _ _ _ (c .before .before .before .before .before .before .before .before .before .m2 .given .1) (wrote-half _ _ _ _ _ _ _ (c .before .before .before .before .before .before .before .before .before .before .before .before .pre) (c .before .before .before .before .before .before .before .before .before .m2 .given .1) (c .before .before .before .before .before .before .encode-at2 .ensures)) (c .before .before .encode-at3 .ensures)
+
+pub write-mapped-spec : {M : Type 1} → statement M
+write-mapped-spec =
+    tie.close
+    (tie.spec
+    enum-known-m
+    encode-at-requires
+    enum-known-m-2
+    encode-at-requires-2
+    add-encode-at
+    encode-at-requires-3
+    add-result
+    same-length
+    returns
+    same-length-2
+    returns-2)

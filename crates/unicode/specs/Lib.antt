@@ -1,0 +1,3 @@
+pub mod Repertoire
+pub mod Text
+pub mod Case

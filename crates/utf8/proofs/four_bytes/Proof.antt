@@ -1,0 +1,60 @@
+use Rattle.utf8.specs.Utf8.{four}
+use native.Mathlib.Omega.{arith}
+use lib.Bits.{and-mask, mask-lt}
+use borrow.Author.Needs.{needs}
+use Rattle.utf8.proofs.four_bytes.Statement.{statement}
+use Rattle.utf8.proofs.four_bytes.Tie as tie
+
+starts-four-requires : tie.Need-starts-four-requires
+starts-four-requires c κs = search needs
+
+between-requires : tie.Need-between-requires
+between-requires c κs = search needs
+
+between-requires-2 : tie.Need-between-requires-2
+between-requires-2 c κs = search needs
+
+join-requires : tie.Need-join-requires
+unfolding four
+join-requires c κs = omega (arith, mask-lt (c .before .before .before .before .before .before .args .a) 3)
+
+join-requires-2 : tie.Need-join-requires-2
+unfolding four
+join-requires-2 c κs = omega (arith, mask-lt (c .before .before .before .before .before .before .before .args .a) 3)
+
+join-requires-3 : tie.Need-join-requires-3
+unfolding four
+join-requires-3 c κs = omega (arith, mask-lt (c .before .before .before .before .before .before .before .before .args .a) 3)
+
+returns : tie.Need-returns
+unfolding four
+returns c =
+    simp (← c .before .before .before .before .before .before .before .before .starts-four .ensures, c .before .before .before .before .before .before .before .if1 .taken, ← c .before .before .before .before .before .before .between .ensures, c .before .before .before .before .before .if2 .taken, ← c .before .before .before .before .between2 .ensures, c .before .before .before .if3 .taken)
+    (cc (and-mask (c .before .before .before .before .before .before .before .before .before .args .a) 3))
+
+returns-2 : tie.Need-returns-2
+unfolding four
+returns-2 c = simp (← c .before .before .before .before .before .starts-four .ensures, c .before .before .before .before .if1 .taken, ← c .before .before .before .between .ensures, c .before .before .if2 .taken, ← c .before .between2 .ensures, c .if3 .left)
+
+returns-3 : tie.Need-returns-3
+unfolding four
+returns-3 c = simp (← c .before .before .before .starts-four .ensures, c .before .before .if1 .taken, ← c .before .between .ensures, c .if2 .left)
+
+returns-4 : tie.Need-returns-4
+unfolding four
+returns-4 c = simp (← c .before .starts-four .ensures, c .if1 .left)
+
+pub four-bytes-spec : {M : Type 1} → statement M
+four-bytes-spec =
+    tie.close
+    (tie.spec
+    starts-four-requires
+    between-requires
+    between-requires-2
+    join-requires
+    join-requires-2
+    join-requires-3
+    returns
+    returns-2
+    returns-3
+    returns-4)

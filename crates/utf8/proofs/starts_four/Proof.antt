@@ -1,0 +1,46 @@
+use Rattle.utf8.specs.Utf8.{lead4}
+use borrow.Author.Tests.{eq-eqb, ne-eqb}
+use borrow.Author.Needs.{needs}
+use Rattle.utf8.proofs.starts_four.Statement.{statement}
+use Rattle.utf8.proofs.starts_four.Tie as tie
+
+between-requires : tie.Need-between-requires
+between-requires c κs = search needs
+
+returns : tie.Need-returns
+unfolding lead4
+returns c = simp (eq-eqb _ _ (c .before .if1 .taken)) (c .between .ensures)
+
+between-requires-2 : tie.Need-between-requires-2
+between-requires-2 c κs = search needs
+
+between-requires-3 : tie.Need-between-requires-3
+between-requires-3 c κs = search needs
+
+returns-2 : tie.Need-returns-2
+unfolding lead4
+returns-2 c = simp (ne-eqb _ _ (c .before .before .before .if1 .left), ← c .before .before .between2 .ensures, c .before .if2 .taken) (c .between3 .ensures)
+
+between-requires-4 : tie.Need-between-requires-4
+between-requires-4 c κs = search needs
+
+returns-3 : tie.Need-returns-3
+unfolding lead4
+returns-3 c = simp (ne-eqb _ _ (c .before .before .before .before .if1 .left), ← c .before .before .before .between2 .ensures, c .before .before .if2 .left, eq-eqb _ _ (c .before .if3 .taken)) (c .between4 .ensures)
+
+returns-4 : tie.Need-returns-4
+unfolding lead4
+returns-4 c = simp (ne-eqb _ _ (c .before .before .before .if1 .left), ← c .before .before .between2 .ensures, c .before .if2 .left, ne-eqb _ _ (c .if3 .left))
+
+pub starts-four-spec : {M : Type 1} → statement M
+starts-four-spec =
+    tie.close
+    (tie.spec
+    between-requires
+    returns
+    between-requires-2
+    between-requires-3
+    returns-2
+    between-requires-4
+    returns-3
+    returns-4)

@@ -1,0 +1,46 @@
+use Rattle.utf8.specs.Utf8.{three}
+use native.Mathlib.Omega.{arith}
+use lib.Bits.{and-mask, mask-lt}
+use borrow.Author.Needs.{needs}
+use Rattle.utf8.proofs.three_bytes.Statement.{statement}
+use Rattle.utf8.proofs.three_bytes.Tie as tie
+
+starts-three-requires : tie.Need-starts-three-requires
+starts-three-requires c κs = search needs
+
+between-requires : tie.Need-between-requires
+between-requires c κs = search needs
+
+join-requires : tie.Need-join-requires
+unfolding three
+join-requires c κs = omega (arith, mask-lt (c .before .before .before .before .args .a) 4)
+
+join-requires-2 : tie.Need-join-requires-2
+unfolding three
+join-requires-2 c κs = omega (arith, mask-lt (c .before .before .before .before .before .args .a) 4)
+
+returns : tie.Need-returns
+unfolding three
+returns c =
+    simp (← c .before .before .before .before .before .starts-three .ensures, c .before .before .before .before .if1 .taken, ← c .before .before .before .between .ensures, c .before .before .if2 .taken)
+    (cc (and-mask (c .before .before .before .before .before .before .args .a) 4))
+
+returns-2 : tie.Need-returns-2
+unfolding three
+returns-2 c = simp (← c .before .before .before .starts-three .ensures, c .before .before .if1 .taken, ← c .before .between .ensures, c .if2 .left)
+
+returns-3 : tie.Need-returns-3
+unfolding three
+returns-3 c = simp (← c .before .starts-three .ensures, c .if1 .left)
+
+pub three-bytes-spec : {M : Type 1} → statement M
+three-bytes-spec =
+    tie.close
+    (tie.spec
+    starts-three-requires
+    between-requires
+    join-requires
+    join-requires-2
+    returns
+    returns-2
+    returns-3)

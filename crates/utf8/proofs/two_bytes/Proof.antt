@@ -1,0 +1,35 @@
+use Rattle.utf8.specs.Utf8.{two}
+use native.Mathlib.Omega.{arith}
+use lib.Bits.{and-mask, mask-lt}
+use borrow.Author.Needs.{needs}
+use Rattle.utf8.proofs.two_bytes.Statement.{statement}
+use Rattle.utf8.proofs.two_bytes.Tie as tie
+
+between-requires : tie.Need-between-requires
+between-requires c κs = search needs
+
+between-requires-2 : tie.Need-between-requires-2
+between-requires-2 c κs = search needs
+
+join-requires : tie.Need-join-requires
+unfolding two
+join-requires c κs = omega (arith, mask-lt (c .before .before .before .before .args .a) 5)
+
+returns : tie.Need-returns
+unfolding two
+returns c =
+    simp (← c .before .before .before .before .between .ensures, c .before .before .before .if1 .taken, ← c .before .before .between2 .ensures, c .before .if2 .taken)
+    (cc (and-mask (c .before .before .before .before .before .args .a) 5))
+
+returns-2 : tie.Need-returns-2
+unfolding two
+returns-2 c = simp (← c .before .before .before .between .ensures, c .before .before .if1 .taken, ← c .before .between2 .ensures, c .if2 .left)
+
+returns-3 : tie.Need-returns-3
+unfolding two
+returns-3 c = simp (← c .before .between .ensures, c .if1 .left)
+
+pub two-bytes-spec : {M : Type 1} → statement M
+two-bytes-spec =
+    tie.close
+    (tie.spec between-requires between-requires-2 join-requires returns returns-2 returns-3)

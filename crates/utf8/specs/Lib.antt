@@ -1,0 +1,4 @@
+pub mod Utf8
+pub mod Chars
+pub mod Encode
+pub mod Answer
