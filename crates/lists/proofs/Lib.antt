@@ -4,3 +4,4 @@ pub mod Parts
 pub mod Alls
 pub mod Ends
 pub mod Stores
+pub mod Every

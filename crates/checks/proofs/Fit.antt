@@ -1,0 +1,89 @@
+-- The checks of a lent text, one law for each way they go, and what holds where they pass. Assumes nothing.
+use mathlib.Core.Path.{_≡_, refl, sym, ap, _∙_}
+use mathlib.Core.Bool.{Bool, true, false, cond, _||_, not, or-true, or-false}
+use mathlib.Core.List.{List}
+use Prim.Native.Nat.{ℕ, _<_, _≤_}
+use native.Mathlib.Omega.{arith}
+use borrow.Author.Tests.{lt-ltb, le-ltb, ltb-false, not-false}
+use lib.Dec.{ltb}
+use lib.ListN.{length, take}
+use Rattle.lists.proofs.Bools.{by-test, never}
+use Rattle.utf8.specs.Chars.{valid, boundary}
+use Rattle.unicode.specs.Repertoire.{Repertoire}
+use Rattle.unicode.specs.Text.{isText}
+use Rattle.unicode.proofs.Text.{text-valid}
+use Rattle.checks.specs.Checks.{Tests, both, refusal, lentText, lineTests, ownTests}
+use Rattle.checks.specs.declared.Line.{Line}
+
+-- no test is met
+pub record Passed (t : Tests) : Type 0 where
+  pub sizes : t .sizes ≡ false
+  pub code : t .code ≡ false
+  pub foreign : t .foreign ≡ false
+  pub place : t .place ≡ false
+  pub split : t .split ≡ false
+  pub prompt : t .prompt ≡ false
+  pub damaged : t .damaged ≡ false
+
+not-met : (b : Bool) (n m : ℕ) → cond b n m ≡ 0 → 0 < n → (b ≡ false) × (m ≡ 0)
+not-met true n m e h = absurd (omega arith)
+not-met false n m e h = (refl, e)
+
+pub refusal-passed : (t : Tests) → refusal t ≡ 0 → Passed t
+unfolding refusal
+refusal-passed t e =
+    let a = not-met (t .sizes) 2 _ e (omega arith) in
+    let b = not-met (t .code) 3 _ (a .1) (omega arith) in
+    let c = not-met (t .foreign) 4 _ (b .1) (omega arith) in
+    let d = not-met (t .place) 5 _ (c .1) (omega arith) in
+    let f = not-met (t .split) 6 _ (d .1) (omega arith) in
+    let g = not-met (t .prompt) 7 _ (f .1) (omega arith) in
+    let h = not-met (t .damaged) 8 0 (g .1) (omega arith) in
+    record { sizes = a .0; code = b .0; foreign = c .0; place = d .0; split = f .0; prompt = g .0; damaged = h .0 }
+
+-- a lent text and its cursor that pass
+pub record Fit (R : Repertoire) (buffer : List ℕ) (line : Line) : Type 0 where
+  pub small : length buffer ≤ 4096
+  pub used : line .len ≤ length buffer
+  pub text : isText R (lentText buffer line) ≡ true
+  pub within : line .cursor ≤ line .len
+  pub edge : boundary (lentText buffer line) (line .cursor) ≡ true
+
+or-none : (a b : Bool) → a || b ≡ false → (a ≡ false) × (b ≡ false)
+or-none true b e = never _ true refl e
+or-none false b e = (refl, e)
+
+module _ (R : Repertoire) (buffer : List ℕ) (line : Line) where
+  pub fit : (own : Tests) → refusal (both (lineTests R buffer line) own) ≡ 0 → Fit R buffer line × Passed own
+  fit own e =
+      let t = lineTests R buffer line in
+      let p = refusal-passed (both t own) e in
+      let s = or-none (t .sizes) (own .sizes) (p .sizes) in
+      let u = or-none (ltb 4096 (length buffer)) (ltb (length buffer) (line .len)) (s .0) in
+      let f = or-none (t .foreign) (own .foreign) (p .foreign) in
+      let q = or-none (t .place) (own .place) (p .place) in
+      let x = or-none (t .split) (own .split) (p .split) in (
+        record {
+          small = ltb-false 4096 (length buffer) (u .0);
+          used = ltb-false (length buffer) (line .len) (u .1);
+          text = not-false (isText R (lentText buffer line)) (f .0);
+          within = ltb-false (line .len) (line .cursor) (q .0);
+          edge = not-false (boundary (lentText buffer line) (line .cursor)) (x .0);
+        },
+        record {
+          sizes = s .1;
+          code = p .code;
+          foreign = f .1;
+          place = q .1;
+          split = x .1;
+          prompt = p .prompt;
+          damaged = p .damaged;
+        },
+      )
+
+  pub fit-valid : Fit R buffer line → valid (lentText buffer line) ≡ true
+  fit-valid f = text-valid R (lentText buffer line) (f .text)
+
+  -- a number that names nothing is always refused
+  pub code-refused : (foreign place : Bool) → refusal (both (lineTests R buffer line) (ownTests true foreign place)) ≡ 0 → ⊥
+  code-refused foreign place e = never _ true refl (fit (ownTests true foreign place) e .1 .code)

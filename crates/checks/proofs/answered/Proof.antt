@@ -1,0 +1,23 @@
+use mathlib.Core.Path.{sym, ap, _∙_}
+use Rattle.checks.specs.Answers.{answered}
+use borrow.Author.Needs.{needs}
+use Rattle.checks.proofs.answered.Statement.{statement}
+use Rattle.checks.proofs.answered.Tie as tie
+
+enum-known-f : tie.Need-enum-known-f
+enum-known-f c = search needs
+
+enum-told : tie.Need-enum-told
+enum-told c = search needs
+
+says-requires : tie.Need-says-requires
+says-requires c κs = search needs
+
+returns : tie.Need-returns
+returns c = sym (ap (answered (c .before .before .before .args .line)) (c .before .f .given .1))
+
+returns-2 : tie.Need-returns-2
+returns-2 c = c .says .ensures ∙ sym (ap (answered (c .before .before .before .args .line)) (c .before .enum-told .given .1))
+
+pub answered-spec : {M : Type 1} → statement M
+answered-spec = tie.close (tie.spec enum-known-f enum-told says-requires returns returns-2)

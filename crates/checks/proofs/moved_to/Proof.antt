@@ -1,0 +1,27 @@
+use mathlib.Core.Path.{sym, ap, _∙_}
+use Rattle.checks.specs.Answers.{movedTo}
+use borrow.Author.Needs.{needs}
+use Rattle.checks.proofs.moved_to.Statement.{statement}
+use Rattle.checks.proofs.moved_to.Tie as tie
+
+enum-known-f : tie.Need-enum-known-f
+enum-known-f c = search needs
+
+says-requires : tie.Need-says-requires
+says-requires c κs = search needs
+
+enum-told : tie.Need-enum-told
+enum-told c = search needs
+
+says-requires-2 : tie.Need-says-requires-2
+says-requires-2 c κs = search needs
+
+returns : tie.Need-returns
+returns c = c .says .ensures ∙ sym (ap (movedTo (c .before .before .before .before .args .line)) (c .before .before .f .given .1))
+
+returns-2 : tie.Need-returns-2
+returns-2 c = c .says2 .ensures ∙ sym (ap (movedTo (c .before .before .before .args .line)) (c .before .enum-told .given .1))
+
+pub moved-to-spec : {M : Type 1} → statement M
+moved-to-spec =
+    tie.close (tie.spec enum-known-f says-requires enum-told says-requires-2 returns returns-2)

@@ -1,0 +1,102 @@
+// Document 01, "What a call says": the checks of a lent text in number order, and the answers of calls that are lent one.
+ghost use mathlib.Core.Path.{_≡_};
+ghost use mathlib.Core.Bool.{true, false};
+ghost use Prim.Native.Nat.{_≤_};
+ghost use lib.ListN.{length, take};
+ghost use Rattle.utf8.specs.Chars.{boundary};
+ghost use Rattle.unicode.specs.Repertoire.{catalogue};
+ghost use Rattle.checks.specs.Checks.{refusal as Checks·refusal, both, lineTests, ownTests};
+ghost use Rattle.checks.specs.Answers.{says as Answers·says, movedTo, answered as Answers·answered};
+use motion::Found;
+use unicode::check_text;
+use utf8::is_boundary;
+
+// A text's used length, and the cursor.
+#[repr(C)]
+pub struct Line {
+    pub len: usize,
+    pub cursor: usize,
+}
+
+#[repr(C)]
+pub struct LineAnswer {
+    pub number: u32,
+    pub from: usize,
+    pub to: usize,
+    pub line: Line,
+}
+
+// The number of the first check that a lent text, its cursor and the call's own tests meet, 0 where they pass. `code` says
+// that a number names nothing, `foreign` that a character is outside the repertoire, `place` that a place is unfit.
+pub fn refusal(text: &[u8], line: Line, code: bool, foreign: bool, place: bool) -> u32
+    ensures { λ r. ⌜ r ≡ Checks·refusal (both (lineTests catalogue (now (text .entry)) line) (ownTests code foreign place)) ⌝ }
+{
+    let len = line.len;
+    if 4096 < text.len() {
+        return 2;
+    }
+    if text.len() < len {
+        return 2;
+    }
+    if code {
+        return 3;
+    }
+    let lent = &text[..len];
+    if !check_text(lent) {
+        return 4;
+    }
+    if foreign {
+        return 4;
+    }
+    let cursor = line.cursor;
+    if len < cursor {
+        return 5;
+    }
+    if place {
+        return 5;
+    }
+    if is_boundary(lent, cursor) { 0 } else { 6 }
+}
+
+// A number alone: the line is as it was.
+pub fn says(number: u32, line: Line) -> LineAnswer
+    ensures { λ r. ⌜ r ≡ Answers·says number line ⌝ }
+{
+    LineAnswer {
+        number,
+        from: 0,
+        to: 0,
+        line,
+    }
+}
+
+// The cursor goes to the place found; 1 where there is none.
+pub fn moved_to(line: Line, f: Found) -> LineAnswer
+    ensures { λ r. ⌜ r ≡ movedTo line f ⌝ }
+{
+    match f {
+        Found::At(p) => says(
+            0,
+            Line {
+                len: line.len,
+                cursor: p,
+            },
+        ),
+        Found::Nothing => says(1, line),
+    }
+}
+
+// The place found is answered; 1 where there is none.
+pub fn answered(line: Line, f: Found) -> LineAnswer
+    ensures { λ r. ⌜ r ≡ Answers·answered line f ⌝ }
+{
+    match f {
+        Found::At(p) => LineAnswer {
+            number: 0,
+            from: p,
+            to: 0,
+            line,
+        },
+        Found::Nothing => says(1, line),
+    }
+}

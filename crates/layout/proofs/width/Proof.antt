@@ -1,0 +1,77 @@
+use borrow.Author.Needs.{needs}
+use Prim.Native.Nat.{_-_}
+use mathlib.Core.Path.{sym, ap, _∙_}
+use native.Mathlib.Omega.{arith}
+use lib.ListN.{length}
+use Rattle.utf8.specs.Answer.{asFirst}
+use Rattle.utf8.proofs.Forms.{first-end}
+use Rattle.unicode.specs.Repertoire.{catalogue}
+use Rattle.unicode.proofs.Text.{within-at}
+use Rattle.layout.proofs.Columns.{Measured, measure-start, measure-on, measure-end, width-le}
+use Rattle.layout.proofs.width.Statement.{statement}
+use Rattle.layout.proofs.width.Tie as tie
+
+abbrev Inv-loop : tie.InvT-loop
+Inv-loop s col at₀ column₀ at column = Measured catalogue s col at column
+
+abbrev μ-loop : tie.MeasureT-loop
+μ-loop s col at₀ column₀ at column = length s - at
+
+loop-holds : tie.Need-loop-holds Inv-loop μ-loop
+loop-holds c = measure-start catalogue (c .before .args .s .now) (c .before .args .col)
+
+decode-at-requires : tie.Need-decode-at-requires Inv-loop μ-loop
+decode-at-requires c κs = search needs
+
+enum-known-d : tie.Need-enum-known-d Inv-loop μ-loop
+enum-known-d c = search needs
+
+enum-told : tie.Need-enum-told Inv-loop μ-loop
+enum-told c = search needs
+
+sub-result : tie.Need-sub-result Inv-loop μ-loop
+sub-result c = search needs
+
+returns : tie.Need-returns Inv-loop μ-loop
+returns c = measure-end catalogue (c .before .before .before .before .before .before .args .s .now) (c .before .before .before .before .before .before .args .col) _ _ (c .before .before .before .before .loop .inv) (sym (c .before .before .decode-at .ensures) ∙ ap asFirst (c .enum-told .given .1))
+
+char-width-requires : tie.Need-char-width-requires Inv-loop μ-loop
+char-width-requires c κs = search needs
+
+add-column : tie.Need-add-column Inv-loop μ-loop
+add-column c = omega (arith, c .before .before .before .before .before .before .loop .inv .high, c .before .before .before .before .before .before .loop .inv .within, c .before .before .before .before .before .before .before .before .pre, c .char-width .ensures, width-le (c .before .before .d .given .0 .0))
+
+add-at : tie.Need-add-at Inv-loop μ-loop
+add-at c = omega (arith, within-at (c .before .before .before .before .before .before .before .before .args .s .now) _ _ _ (c .before .before .before .before .before .before .loop .inv .within) (sym (c .before .before .before .before .decode-at .ensures) ∙ ap asFirst (c .before .before .d .given .1)))
+
+loop-less : tie.Need-loop-less Inv-loop μ-loop
+loop-less c = omega (arith, c .before .before .before .before .before .before .loop .inv .within, within-at (c .before .before .before .before .before .before .before .before .args .s .now) _ _ _ (c .before .before .before .before .before .before .loop .inv .within) (sym (c .before .before .before .before .decode-at .ensures) ∙ ap asFirst (c .before .before .d .given .1)))
+
+loop-again : tie.Need-loop-again Inv-loop μ-loop
+loop-again c = measure-on catalogue (c .before .before .before .before .before .before .before .before .args .s .now) (c .before .before .before .before .before .before .before .before .args .col) _ _ (c .before .before .before .before .before .before .loop .inv) _ _ _ (sym (c .before .before .before .before .decode-at .ensures) ∙ ap asFirst (c .before .before .d .given .1)) (c .char-width .ensures) (omega (arith, c .char-width .ensures, width-le (c .before .before .d .given .0 .0)))
+
+sub-result-2 : tie.Need-sub-result-2 Inv-loop μ-loop
+sub-result-2 c = search needs
+
+returns-2 : tie.Need-returns-2 Inv-loop μ-loop
+returns-2 c = measure-end catalogue (c .before .before .before .args .s .now) (c .before .before .before .args .col) _ _ (c .before .loop .inv) (first-end (c .before .before .before .args .s .now) (c .before .loop .at) (c .loop-test .left))
+
+pub width-spec : {M : Type 1} → statement M
+width-spec =
+    tie.close
+    (tie.spec
+    Inv-loop
+    μ-loop
+    loop-holds
+    decode-at-requires
+    enum-known-d
+    enum-told
+    sub-result
+    returns
+    char-width-requires
+    add-column
+    add-at
+    loop-less
+    loop-again
+    sub-result-2
+    returns-2)

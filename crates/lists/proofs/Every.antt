@@ -1,0 +1,27 @@
+-- What holds of every element of a list. Assumes nothing.
+use mathlib.Core.Path.{_≡_, refl, sym, subst}
+use mathlib.Core.List.{List, [], _∷_, _++_, reverse, reverse-cons}
+use Prim.Native.Nat.{ℕ, zero, suc}
+use lib.ListN.{take}
+
+module _ {A : Type 0} where
+  abbrev pub Every : (A → Type 0) → List A → Type 0
+  Every P [] = Unit {0}
+  Every P (x ∷ l) = P x × Every P l
+
+  pub every-weaken : (P Q : A → Type 0) → ((x : A) → P x → Q x) → (l : List A) → Every P l → Every Q l
+  every-weaken P Q f [] h = tt
+  every-weaken P Q f (x ∷ l) h = (f x (h .0), every-weaken P Q f l (h .1))
+
+  pub every-append : (P : A → Type 0) (a b : List A) → Every P a → Every P b → Every P (a ++ b)
+  every-append P [] b h k = k
+  every-append P (x ∷ a) b h k = (h .0, every-append P a b (h .1) k)
+
+  pub every-take : (P : A → Type 0) (n : ℕ) (l : List A) → Every P l → Every P (take n l)
+  every-take P zero l h = tt
+  every-take P (suc n) [] h = tt
+  every-take P (suc n) (x ∷ l) h = (h .0, every-take P n l (h .1))
+
+  pub every-reverse : (P : A → Type 0) (l : List A) → Every P l → Every P (reverse l)
+  every-reverse P [] h = tt
+  every-reverse P (x ∷ l) h = subst (Every P) (sym (reverse-cons x l)) (every-append P (reverse l) (x ∷ []) (every-reverse P l (h .1)) (h .0, tt))

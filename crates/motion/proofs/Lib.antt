@@ -1,0 +1,4 @@
+pub mod Steps
+pub mod Search
+pub mod Matches
+pub mod Trim

@@ -1,0 +1,40 @@
+use mathlib.Core.Path.{ap}
+use Prim.Native.Nat.{_+_}
+use Rattle.unicode.specs.Repertoire.{catalogue}
+use Rattle.cluster.specs.declared.Cluster.{Cluster}
+use Rattle.cluster.proofs.Steps.{next-told}
+use Rattle.motion.specs.Search.{afterCluster}
+use borrow.Author.Needs.{needs}
+use Rattle.motion.proofs.after_cluster.Statement.{statement}
+use Rattle.motion.proofs.after_cluster.Tie as tie
+
+sub-next-cluster : tie.Need-sub-next-cluster
+sub-next-cluster c = search needs
+
+part-next-cluster-start : tie.Need-part-next-cluster-start
+part-next-cluster-start c = search needs
+
+part-next-cluster-end : tie.Need-part-next-cluster-end
+part-next-cluster-end c = search needs
+
+next-cluster-requires : tie.Need-next-cluster-requires
+next-cluster-requires c κs = search needs
+
+add-result : tie.Need-add-result
+add-result c = search needs
+
+returns : tie.Need-returns
+unfolding afterCluster
+returns c = let t = next-told catalogue (c .before .before .before .before .args .s .now) (c .before .before .before .before .args .pos) _ (c .before .before .before .before .pre) (c .before .next-cluster .ensures .0, c .before .next-cluster .ensures .1) in
+    (ap (λ (k : Cluster). c .before .before .before .before .args .pos + k .len) (t .0), t .1)
+
+pub after-cluster-spec : {M : Type 1} → statement M
+after-cluster-spec =
+    tie.close
+    (tie.spec
+    sub-next-cluster
+    part-next-cluster-start
+    part-next-cluster-end
+    next-cluster-requires
+    add-result
+    returns)

@@ -1,0 +1,76 @@
+use Rattle.motion.proofs.Search.{ahead, ahead-in, ahead-out, ahead-end, found-zero, found-same}
+use borrow.Author.Needs.{needs}
+use Prim.Native.Nat.{_≤_, _-_, _+_}
+use mathlib.Core.Path.{_≡_, refl, sym, ap, _∙_}
+use mathlib.Core.Logic.{⊎-elim}
+use native.Mathlib.Omega.{arith}
+use lib.ListN.{length, take}
+use Rattle.utf8.specs.Answer.{asFirst}
+use Rattle.unicode.proofs.Text.{within-at}
+use Rattle.motion.specs.Search.{lastFound, nthMatch}
+use Rattle.motion.specs.declared.Found.the-variants.{Nothing}
+use Rattle.motion.proofs.Search.{ahead, ahead-in, ahead-out, ahead-end, found-zero}
+use Rattle.motion.proofs.match_from.Statement.{statement}
+use Rattle.motion.proofs.match_from.Tie as tie
+
+abbrev Inv-loop : tie.InvT-loop
+Inv-loop s from c n found₀ at₀ left₀ found at left = (at ≤ length s) × (lastFound Nothing (take n (ahead s c from)) ≡ lastFound found (take left (ahead s c at)))
+
+abbrev μ-loop : tie.MeasureT-loop
+μ-loop s from c n found₀ at₀ left₀ found at left = length s - at
+
+loop-holds : tie.Need-loop-holds Inv-loop μ-loop
+loop-holds c = (search needs, refl)
+
+decode-at-requires : tie.Need-decode-at-requires Inv-loop μ-loop
+decode-at-requires c κs = search needs
+
+enum-known-d : tie.Need-enum-known-d Inv-loop μ-loop
+enum-known-d c = search needs
+
+enum-told : tie.Need-enum-told Inv-loop μ-loop
+enum-told c = search needs
+
+returns : tie.Need-returns Inv-loop μ-loop
+unfolding nthMatch
+returns c = sym (c .before .before .before .before .loop .inv .1 ∙ ahead-end (c .before .before .before .before .before .before .args .s .now) (c .before .before .before .before .before .before .args .c) (c .before .before .before .before .loop .at) (c .before .before .before .before .loop .found) (c .before .before .before .before .loop .left) (sym (c .before .before .decode-at .ensures) ∙ ap asFirst (c .enum-told .given .1)))
+
+sub-left : tie.Need-sub-left Inv-loop μ-loop
+sub-left c = search needs
+
+add-at : tie.Need-add-at Inv-loop μ-loop
+add-at c = omega (arith, (within-at (c .before .before .before .before .before .before .before .before .args .s .now) (c .before .before .before .before .before .before .loop .at) _ _ (c .before .before .before .before .before .before .loop .inv .0) (sym (c .before .before .before .before .decode-at .ensures) ∙ ap asFirst (c .before .before .d .given .1))) .1)
+
+loop-less : tie.Need-loop-less Inv-loop μ-loop
+loop-less c = omega (arith, (within-at (c .before .before .before .before .before .before .before .before .args .s .now) (c .before .before .before .before .before .before .loop .at) _ _ (c .before .before .before .before .before .before .loop .inv .0) (sym (c .before .before .before .before .decode-at .ensures) ∙ ap asFirst (c .before .before .d .given .1))))
+
+loop-again : tie.Need-loop-again Inv-loop μ-loop
+loop-again c = (
+  (within-at (c .before .before .before .before .before .before .before .before .args .s .now) (c .before .before .before .before .before .before .loop .at) _ _ (c .before .before .before .before .before .before .loop .inv .0) (sym (c .before .before .before .before .decode-at .ensures) ∙ ap asFirst (c .before .before .d .given .1))) .1,
+  c .before .before .before .before .before .before .loop .inv .1 ∙
+      ⊎-elim
+      (λ w. ahead-in (c .before .before .before .before .before .before .before .before .args .s .now) (c .before .before .before .before .before .before .before .before .args .c) (c .before .before .before .before .before .before .loop .at) _ _ (sym (c .before .before .before .before .decode-at .ensures) ∙ ap asFirst (c .before .before .d .given .1)) (c .before .before .before .before .before .before .loop .found) (c .before .before .before .before .before .before .loop .left) (w .0 .taken) (c .before .before .before .before .before .loop-test .taken) ∙ found-same _ _ _ _ (ahead (c .before .before .before .before .before .before .before .before .args .s .now) (c .before .before .before .before .before .before .before .before .args .c) (c .before .before .before .before .before .before .loop .at + c .before .before .d .given .0 .1 .0)) (w .1) (w .2))
+      (λ w. ahead-out (c .before .before .before .before .before .before .before .before .args .s .now) (c .before .before .before .before .before .before .before .before .args .c) (c .before .before .before .before .before .before .loop .at) _ _ (sym (c .before .before .before .before .decode-at .ensures) ∙ ap asFirst (c .before .before .d .given .1)) (c .before .before .before .before .before .before .loop .found) (c .before .before .before .before .before .before .loop .left) (w .0 .left) ∙ found-same _ _ _ _ (ahead (c .before .before .before .before .before .before .before .before .args .s .now) (c .before .before .before .before .before .before .before .before .args .c) (c .before .before .before .before .before .before .loop .at + c .before .before .d .given .0 .1 .0)) (w .1) (w .2))
+      (c .if1 .came),
+)
+
+returns-2 : tie.Need-returns-2 Inv-loop μ-loop
+unfolding nthMatch
+returns-2 c = sym (c .before .loop .inv .1 ∙ found-zero (c .before .loop .found) (ahead (c .before .before .before .args .s .now) (c .before .before .before .args .c) (c .before .loop .at)) (c .before .loop .left) (omega arith))
+
+pub match-from-spec : {M : Type 1} → statement M
+match-from-spec =
+    tie.close
+    (tie.spec
+    Inv-loop
+    μ-loop
+    loop-holds
+    decode-at-requires
+    enum-known-d
+    enum-told
+    returns
+    sub-left
+    add-at
+    loop-less
+    loop-again
+    returns-2)

@@ -1,0 +1,79 @@
+use borrow.Author.Needs.{needs}
+use Prim.Native.Nat.{_≤_, _+_}
+use mathlib.Core.Path.{_≡_, refl, sym, ap, _∙_}
+use native.Mathlib.Omega.{arith}
+use lib.ListN.{length, take, drop}
+use Rattle.lists.specs.Lists.{sum}
+use Rattle.unicode.specs.Repertoire.{catalogue}
+use Rattle.cluster.specs.declared.Cluster.{Cluster}
+use Rattle.cluster.proofs.Steps.{next-told}
+use Rattle.motion.specs.Steps.{sizes}
+use Rattle.motion.proofs.Steps.{forward-more, forward-end, next-found, next-end, next-zero}
+use Rattle.motion.proofs.next_pos.Statement.{statement}
+use Rattle.motion.proofs.next_pos.Tie as tie
+
+abbrev Inv-loop : tie.InvT-loop
+Inv-loop s pos n at₀ left₀ at left = (at ≤ length s) × (at + sum (take left (sizes catalogue (drop at s))) ≡ pos + sum (take n (sizes catalogue (drop pos s))))
+
+abbrev μ-loop : tie.MeasureT-loop
+μ-loop s pos n at₀ left₀ at left = left
+
+returns : tie.Need-returns Inv-loop μ-loop
+returns c = next-end catalogue (c .before .before .args .s .now) _ _ (c .if1 .taken)
+
+returns-2 : tie.Need-returns-2 Inv-loop μ-loop
+returns-2 c = next-zero catalogue (c .before .before .before .args .s .now) _ _ (c .if2 .taken)
+
+loop-holds : tie.Need-loop-holds Inv-loop μ-loop
+loop-holds c = (search needs, refl)
+
+sub-next-cluster : tie.Need-sub-next-cluster Inv-loop μ-loop
+sub-next-cluster c = search needs
+
+part-next-cluster-start : tie.Need-part-next-cluster-start Inv-loop μ-loop
+part-next-cluster-start c = search needs
+
+part-next-cluster-end : tie.Need-part-next-cluster-end Inv-loop μ-loop
+part-next-cluster-end c = search needs
+
+next-cluster-requires : tie.Need-next-cluster-requires Inv-loop μ-loop
+next-cluster-requires c κs = search needs
+
+returns-3 : tie.Need-returns-3 Inv-loop μ-loop
+returns-3 c = next-found catalogue (c .before .before .before .before .before .before .before .before .args .s .now) _ _ _ (c .before .before .before .before .before .before .if1 .left) (c .before .before .before .before .before .if2 .left) (sym (forward-end catalogue (c .before .before .before .before .before .before .before .before .args .s .now) (c .before .before .before .before .loop .at) _ (c .before .before .before .before .loop .left) (ap (λ (x : Cluster). x .len) ((next-told catalogue (c .before .before .before .before .before .before .before .before .args .s .now) (c .before .before .before .before .loop .at) _ (c .before .before .before .before .loop .inv .0) (c .before .next-cluster .ensures .0, c .before .next-cluster .ensures .1)) .0)) (c .if3 .taken)) ∙ c .before .before .before .before .loop .inv .1)
+
+add-at : tie.Need-add-at Inv-loop μ-loop
+add-at c = omega (arith, (next-told catalogue (c .before .before .before .before .before .before .before .before .args .s .now) (c .before .before .before .before .loop .at) _ (c .before .before .before .before .loop .inv .0) (c .before .next-cluster .ensures .0, c .before .next-cluster .ensures .1)) .1)
+
+sub-left : tie.Need-sub-left Inv-loop μ-loop
+sub-left c = search needs
+
+loop-less : tie.Need-loop-less Inv-loop μ-loop
+loop-less c = search needs
+
+loop-again : tie.Need-loop-again Inv-loop μ-loop
+loop-again c = ((next-told catalogue (c .before .before .before .before .before .before .before .before .args .s .now) (c .before .before .before .before .loop .at) _ (c .before .before .before .before .loop .inv .0) (c .before .next-cluster .ensures .0, c .before .next-cluster .ensures .1)) .1, sym (forward-more catalogue (c .before .before .before .before .before .before .before .before .args .s .now) (c .before .before .before .before .loop .at) _ (c .before .before .before .before .loop .left) (ap (λ (x : Cluster). x .len) ((next-told catalogue (c .before .before .before .before .before .before .before .before .args .s .now) (c .before .before .before .before .loop .at) _ (c .before .before .before .before .loop .inv .0) (c .before .next-cluster .ensures .0, c .before .next-cluster .ensures .1)) .0)) (omega (arith, c .if3 .left)) (c .before .before .before .loop-test .taken)) ∙ c .before .before .before .before .loop .inv .1)
+
+returns-4 : tie.Need-returns-4 Inv-loop μ-loop
+returns-4 c = let z : c .before .loop .left ≡ 0 = omega arith in
+    next-found catalogue (c .before .before .before .before .before .args .s .now) _ _ _ (c .before .before .before .if1 .left) (c .before .before .if2 .left) (omega (arith, rw z at (c .before .loop .inv .1)))
+
+pub next-pos-spec : {M : Type 1} → statement M
+next-pos-spec =
+    tie.close
+    (tie.spec
+    Inv-loop
+    μ-loop
+    returns
+    returns-2
+    loop-holds
+    sub-next-cluster
+    part-next-cluster-start
+    part-next-cluster-end
+    next-cluster-requires
+    returns-3
+    add-at
+    sub-left
+    loop-less
+    loop-again
+    returns-4)

@@ -1,0 +1,73 @@
+use Prim.Native.Nat.{_+_}
+use mathlib.Core.Path.{sym, ap, _∙_}
+use native.Mathlib.Omega.{arith}
+use Rattle.utf8.specs.Chars.{startBefore}
+use Rattle.utf8.specs.Encode.{size}
+use Rattle.unicode.specs.Repertoire.{catalogue}
+use Rattle.keymap.specs.declared.CharSearch.{CharSearch}
+use Rattle.motion.specs.Search.{moved, searchCharPos}
+use Rattle.motion.proofs.Matches.{backward-fits}
+use borrow.Author.Needs.{needs}
+use Rattle.motion.proofs.search_char_pos.Statement.{statement}
+use Rattle.motion.proofs.search_char_pos.Tie as tie
+
+enum-known-cs : tie.Need-enum-known-cs
+enum-known-cs c = search needs
+
+match-forward-requires : tie.Need-match-forward-requires
+match-forward-requires c κs = search needs
+
+enum-known-cs-2 : tie.Need-enum-known-cs-2
+enum-known-cs-2 c = search needs
+
+match-forward-requires-2 : tie.Need-match-forward-requires-2
+match-forward-requires-2 c κs = search needs
+
+before-match-requires : tie.Need-before-match-requires
+before-match-requires c κs = search needs
+
+enum-known-cs-3 : tie.Need-enum-known-cs-3
+enum-known-cs-3 c = search needs
+
+match-backward-requires : tie.Need-match-backward-requires
+match-backward-requires c κs = c .before .before .before .before .pre
+
+enum-known-cs-4 : tie.Need-enum-known-cs-4
+enum-known-cs-4 c = search needs
+
+match-backward-requires-2 : tie.Need-match-backward-requires-2
+match-backward-requires-2 c κs = c .before .before .before .before .pre
+
+after-match-requires : tie.Need-after-match-requires
+after-match-requires c κs = backward-fits (c .before .before .before .before .before .args .s .now) (c .before .before .before .before .before .args .pos) _ _ _ (c .before .before .before .before .before .pre .1) (c .before .before .before .before .before .pre .2) (omega arith) (c .match-backward2 .ensures)
+
+returns : tie.Need-returns
+returns c = c .match-forward .ensures ∙ sym (ap (λ (x : CharSearch). searchCharPos catalogue (c .before .before .before .before .before .args .s .now) (c .before .before .before .before .before .args .pos) x (c .before .before .before .before .before .args .n)) (c .before .before .cs .given .1))
+
+returns-2 : tie.Need-returns-2
+returns-2 c = c .before-match .ensures ∙ ap (moved (startBefore (c .before .before .before .before .before .before .args .s .now))) (c .before .match-forward2 .ensures) ∙ sym (ap (λ (x : CharSearch). searchCharPos catalogue (c .before .before .before .before .before .before .args .s .now) (c .before .before .before .before .before .before .args .pos) x (c .before .before .before .before .before .before .args .n)) (c .before .before .before .cs2 .given .1))
+
+returns-3 : tie.Need-returns-3
+returns-3 c = c .match-backward .ensures ∙ sym (ap (λ (x : CharSearch). searchCharPos catalogue (c .before .before .before .before .before .args .s .now) (c .before .before .before .before .before .args .pos) x (c .before .before .before .before .before .args .n)) (c .before .before .cs3 .given .1))
+
+returns-4 : tie.Need-returns-4
+returns-4 c = c .after-match .ensures ∙ ap (moved (λ p. p + size (c .before .before .before .cs4 .given .0 .0))) (c .before .match-backward2 .ensures) ∙ sym (ap (λ (x : CharSearch). searchCharPos catalogue (c .before .before .before .before .before .before .args .s .now) (c .before .before .before .before .before .before .args .pos) x (c .before .before .before .before .before .before .args .n)) (c .before .before .before .cs4 .given .1))
+
+pub search-char-pos-spec : {M : Type 1} → statement M
+search-char-pos-spec =
+    tie.close
+    (tie.spec
+    enum-known-cs
+    match-forward-requires
+    enum-known-cs-2
+    match-forward-requires-2
+    before-match-requires
+    enum-known-cs-3
+    match-backward-requires
+    enum-known-cs-4
+    match-backward-requires-2
+    after-match-requires
+    returns
+    returns-2
+    returns-3
+    returns-4)

@@ -1,0 +1,71 @@
+use borrow.Author.Needs.{needs}
+use Prim.Native.Nat.{_≤_, _-_}
+use mathlib.Core.Path.{_≡_, refl, sym, _∙_}
+use native.Mathlib.Omega.{arith}
+use lib.ListN.{length}
+use Rattle.unicode.specs.Repertoire.{catalogue}
+use Rattle.cluster.proofs.Steps.{next-told}
+use Rattle.motion.specs.Trim.{skipWhitespace}
+use Rattle.motion.proofs.Trim.{alnumFrom, alnum-here, alnum-later, alnum-none, alnum-end}
+use Rattle.motion.proofs.skip_whitespace.Statement.{statement}
+use Rattle.motion.proofs.skip_whitespace.Tie as tie
+
+abbrev Inv-loop : tie.InvT-loop
+Inv-loop s pos at₀ at = (at ≤ length s) × (alnumFrom catalogue s pos ≡ alnumFrom catalogue s at)
+
+abbrev μ-loop : tie.MeasureT-loop
+μ-loop s pos at₀ at = length s - at
+
+loop-holds : tie.Need-loop-holds Inv-loop μ-loop
+loop-holds c = (search needs, refl)
+
+sub-next-cluster : tie.Need-sub-next-cluster Inv-loop μ-loop
+sub-next-cluster c = search needs
+
+part-next-cluster-start : tie.Need-part-next-cluster-start Inv-loop μ-loop
+part-next-cluster-start c = search needs
+
+part-next-cluster-end : tie.Need-part-next-cluster-end Inv-loop μ-loop
+part-next-cluster-end c = search needs
+
+next-cluster-requires : tie.Need-next-cluster-requires Inv-loop μ-loop
+next-cluster-requires c κs = search needs
+
+returns : tie.Need-returns Inv-loop μ-loop
+unfolding skipWhitespace
+returns c = sym (c .before .before .before .before .loop .inv .1 ∙ alnum-none catalogue (c .before .before .before .before .before .before .args .s .now) (c .before .before .before .before .loop .at) _ ((next-told catalogue (c .before .before .before .before .before .before .args .s .now) (c .before .before .before .before .loop .at) _ (c .before .before .before .before .loop .inv .0) (c .before .next-cluster .ensures .0, c .before .next-cluster .ensures .1)) .0) (c .if1 .taken))
+
+returns-2 : tie.Need-returns-2 Inv-loop μ-loop
+unfolding skipWhitespace
+returns-2 c = sym (c .before .before .before .before .before .loop .inv .1 ∙ alnum-here catalogue (c .before .before .before .before .before .before .before .args .s .now) (c .before .before .before .before .before .loop .at) _ ((next-told catalogue (c .before .before .before .before .before .before .before .args .s .now) (c .before .before .before .before .before .loop .at) _ (c .before .before .before .before .before .loop .inv .0) (c .before .before .next-cluster .ensures .0, c .before .before .next-cluster .ensures .1)) .0) (omega (arith, c .before .if1 .left)) (c .if2 .taken))
+
+add-at : tie.Need-add-at Inv-loop μ-loop
+add-at c = omega (arith, (next-told catalogue (c .before .before .before .before .before .before .before .args .s .now) (c .before .before .before .before .before .loop .at) _ (c .before .before .before .before .before .loop .inv .0) (c .before .before .next-cluster .ensures .0, c .before .before .next-cluster .ensures .1)) .1)
+
+loop-less : tie.Need-loop-less Inv-loop μ-loop
+loop-less c = omega (arith, (next-told catalogue (c .before .before .before .before .before .before .before .args .s .now) (c .before .before .before .before .before .loop .at) _ (c .before .before .before .before .before .loop .inv .0) (c .before .before .next-cluster .ensures .0, c .before .before .next-cluster .ensures .1)) .1, c .before .if1 .left)
+
+loop-again : tie.Need-loop-again Inv-loop μ-loop
+loop-again c = ((next-told catalogue (c .before .before .before .before .before .before .before .args .s .now) (c .before .before .before .before .before .loop .at) _ (c .before .before .before .before .before .loop .inv .0) (c .before .before .next-cluster .ensures .0, c .before .before .next-cluster .ensures .1)) .1, c .before .before .before .before .before .loop .inv .1 ∙ alnum-later catalogue (c .before .before .before .before .before .before .before .args .s .now) (c .before .before .before .before .before .loop .at) _ ((next-told catalogue (c .before .before .before .before .before .before .before .args .s .now) (c .before .before .before .before .before .loop .at) _ (c .before .before .before .before .before .loop .inv .0) (c .before .before .next-cluster .ensures .0, c .before .before .next-cluster .ensures .1)) .0) (omega (arith, c .before .if1 .left)) (c .if2 .left))
+
+returns-3 : tie.Need-returns-3 Inv-loop μ-loop
+unfolding skipWhitespace
+returns-3 c = sym (c .before .loop .inv .1 ∙ alnum-end catalogue (c .before .before .before .args .s .now) (c .before .loop .at) (c .loop-test .left))
+
+pub skip-whitespace-spec : {M : Type 1} → statement M
+skip-whitespace-spec =
+    tie.close
+    (tie.spec
+    Inv-loop
+    μ-loop
+    loop-holds
+    sub-next-cluster
+    part-next-cluster-start
+    part-next-cluster-end
+    next-cluster-requires
+    returns
+    returns-2
+    add-at
+    loop-less
+    loop-again
+    returns-3)

@@ -1,0 +1,73 @@
+use borrow.Author.Needs.{needs}
+use Prim.Native.Nat.{_≤_}
+use mathlib.Core.Path.{_≡_, sym, ap, _∙_}
+use mathlib.Core.Bool.{true}
+use native.Mathlib.Omega.{arith}
+use borrow.Author.Tests.{not-true, not-false}
+use lib.ListN.{length, take}
+use Rattle.utf8.specs.Answer.{asFirst}
+use Rattle.utf8.specs.Chars.{boundary}
+use Rattle.utf8.proofs.Boundary.{boundary-end}
+use Rattle.utf8.proofs.Ends.{ends-before, ends-never}
+use Rattle.unicode.specs.Repertoire.{catalogue}
+use Rattle.motion.specs.Trim.{trimEnd}
+use Rattle.motion.proofs.Trim.{trim-more, trim-stop, trim-start, trim-whole}
+use Rattle.motion.proofs.trim_end.Statement.{statement}
+use Rattle.motion.proofs.trim_end.Tie as tie
+
+abbrev Inv-loop : tie.InvT-loop
+Inv-loop s at₀ at = (at ≤ length s) × (boundary s at ≡ true) × (trimEnd catalogue s ≡ trimEnd catalogue (take at s))
+
+abbrev μ-loop : tie.MeasureT-loop
+μ-loop s at₀ at = at
+
+loop-holds : tie.Need-loop-holds Inv-loop μ-loop
+loop-holds c = (search needs, boundary-end _ (c .before .pre), trim-whole catalogue _)
+
+prev-char-requires : tie.Need-prev-char-requires Inv-loop μ-loop
+prev-char-requires c κs = search needs
+
+decode-at-requires : tie.Need-decode-at-requires Inv-loop μ-loop
+decode-at-requires c κs = search needs
+
+enum-known-d : tie.Need-enum-known-d Inv-loop μ-loop
+enum-known-d c = search needs
+
+enum-told : tie.Need-enum-told Inv-loop μ-loop
+enum-told c = search needs
+
+returns : tie.Need-returns Inv-loop μ-loop
+returns c = ends-never _ _ _ _ (ends-before (c .before .before .before .before .before .before .before .args .s .now) (c .before .before .before .before .before .loop .at) _ (c .before .before .before .before .before .before .before .pre) (c .before .before .before .before .before .loop .inv .1) (c .before .before .before .before .loop-test .taken) (c .before .before .before .before .before .loop .inv .0) (c .before .before .before .prev-char .ensures)) (sym (c .before .before .decode-at .ensures) ∙ ap asFirst (c .enum-told .given .1))
+
+is-white-requires : tie.Need-is-white-requires Inv-loop μ-loop
+is-white-requires c κs = search needs
+
+returns-2 : tie.Need-returns-2 Inv-loop μ-loop
+returns-2 c = sym (c .before .before .before .before .before .before .before .before .loop .inv .2 ∙ trim-stop catalogue (c .before .before .before .before .before .before .before .before .before .before .args .s .now) (c .before .before .before .before .before .before .before .before .loop .at) _ _ _ (c .before .before .before .before .before .before .before .before .loop .inv .1) (c .before .before .before .before .before .before .before .before .loop .inv .0) (ends-before (c .before .before .before .before .before .before .before .before .before .before .args .s .now) (c .before .before .before .before .before .before .before .before .loop .at) _ (c .before .before .before .before .before .before .before .before .before .before .pre) (c .before .before .before .before .before .before .before .before .loop .inv .1) (c .before .before .before .before .before .before .before .loop-test .taken) (c .before .before .before .before .before .before .before .before .loop .inv .0) (c .before .before .before .before .before .before .prev-char .ensures)) (sym (c .before .before .before .before .before .decode-at .ensures) ∙ ap asFirst (c .before .before .before .d .given .1)) (sym (c .before .is-white .ensures) ∙ not-true _ (c .if1 .taken)))
+
+loop-less : tie.Need-loop-less Inv-loop μ-loop
+loop-less c = (ends-before (c .before .before .before .before .before .before .before .before .before .before .args .s .now) (c .before .before .before .before .before .before .before .before .loop .at) _ (c .before .before .before .before .before .before .before .before .before .before .pre) (c .before .before .before .before .before .before .before .before .loop .inv .1) (c .before .before .before .before .before .before .before .loop-test .taken) (c .before .before .before .before .before .before .before .before .loop .inv .0) (c .before .before .before .before .before .before .prev-char .ensures)) .below
+
+loop-again : tie.Need-loop-again Inv-loop μ-loop
+loop-again c = let e = (ends-before (c .before .before .before .before .before .before .before .before .before .before .args .s .now) (c .before .before .before .before .before .before .before .before .loop .at) _ (c .before .before .before .before .before .before .before .before .before .before .pre) (c .before .before .before .before .before .before .before .before .loop .inv .1) (c .before .before .before .before .before .before .before .loop-test .taken) (c .before .before .before .before .before .before .before .before .loop .inv .0) (c .before .before .before .before .before .before .prev-char .ensures)) in (omega (arith, e .below, c .before .before .before .before .before .before .before .before .loop .inv .0), e .start, c .before .before .before .before .before .before .before .before .loop .inv .2 ∙ trim-more catalogue (c .before .before .before .before .before .before .before .before .before .before .args .s .now) (c .before .before .before .before .before .before .before .before .loop .at) _ _ _ e (sym (c .before .before .before .before .before .decode-at .ensures) ∙ ap asFirst (c .before .before .before .d .given .1)) (sym (c .before .is-white .ensures) ∙ not-false _ (c .if1 .left)))
+
+returns-3 : tie.Need-returns-3 Inv-loop μ-loop
+returns-3 c = let z : c .before .loop .at ≡ 0 = omega arith in sym (c .before .loop .inv .2 ∙ rw z (trim-start catalogue (c .before .before .before .args .s .now)))
+
+pub trim-end-spec : {M : Type 1} → statement M
+trim-end-spec =
+    tie.close
+    (tie.spec
+    Inv-loop
+    μ-loop
+    loop-holds
+    prev-char-requires
+    decode-at-requires
+    enum-known-d
+    enum-told
+    returns
+    is-white-requires
+    returns-2
+    loop-less
+    loop-again
+    returns-3)

@@ -1,0 +1,54 @@
+use mathlib.Core.Path.{sym, _∙_}
+use native.Mathlib.Omega.{arith}
+use lib.Seq.{length-take-le}
+use Rattle.unicode.specs.Repertoire.{catalogue}
+use Rattle.checks.specs.Checks.{ownTests}
+use Rattle.checks.proofs.Fit.{fit-valid}
+use Rattle.movement.proofs.Called.{refused, accepted, fit-of, place-before, place-split, place-fits}
+use borrow.Author.Tests.{not-true, not-false}
+use mathlib.Core.Bool.{false}
+use lib.Dec.{ltb}
+use borrow.Author.Needs.{needs}
+use Rattle.movement.proofs.set_pos.Statement.{statement}
+use Rattle.movement.proofs.set_pos.Tie as tie
+
+refusal-requires : tie.Need-refusal-requires
+refusal-requires c κs = search needs
+
+says-requires : tie.Need-says-requires
+says-requires c κs = search needs
+
+returns : tie.Need-returns
+returns c = refused catalogue (c .before .before .before .before .args .text .now) (c .before .before .before .before .args .line) _ _ (place-before catalogue (c .before .before .before .before .args .text .now) (c .before .before .before .before .args .line) (c .before .before .before .before .args .pos) _ (c .before .before .refusal .ensures) (c .before .if1 .taken)) _ _ (c .before .if1 .taken) (c .says .ensures)
+
+slice-aggregate-is-boundary : tie.Need-slice-aggregate-is-boundary
+slice-aggregate-is-boundary c = sym (length-take-le _ _ ((fit-of catalogue (c .before .before .before .before .args .text .now) (c .before .before .before .before .args .line) (ownTests false false (ltb (c .before .before .before .before .args .line .len) (c .before .before .before .before .args .pos))) _ (c .before .before .refusal .ensures) (c .before .if1 .left)) .used))
+
+is-boundary-requires : tie.Need-is-boundary-requires
+is-boundary-requires c κs = search needs
+
+says-requires-2 : tie.Need-says-requires-2
+says-requires-2 c κs = search needs
+
+returns-2 : tie.Need-returns-2
+returns-2 c = refused catalogue (c .before .before .before .before .before .before .before .args .text .now) (c .before .before .before .before .before .before .before .args .line) _ 6 (place-split catalogue (c .before .before .before .before .before .before .before .args .text .now) (c .before .before .before .before .before .before .before .args .line) (c .before .before .before .before .before .before .before .args .pos) _ (c .before .before .before .before .before .refusal .ensures) (c .before .before .before .before .if1 .left) (sym (c .before .before .is-boundary .ensures .1 (fit-valid catalogue (c .before .before .before .before .before .before .before .args .text .now) (c .before .before .before .before .before .before .before .args .line) (fit-of catalogue (c .before .before .before .before .before .before .before .args .text .now) (c .before .before .before .before .before .before .before .args .line) (ownTests false false (ltb (c .before .before .before .before .before .before .before .args .line .len) (c .before .before .before .before .before .before .before .args .pos))) _ (c .before .before .before .before .before .refusal .ensures) (c .before .before .before .before .if1 .left)))) ∙ not-true _ (c .before .if2 .taken))) _ _ (λ z. omega arith) (c .says2 .ensures)
+
+moved-to-requires : tie.Need-moved-to-requires
+moved-to-requires c κs = search needs
+
+returns-3 : tie.Need-returns-3
+returns-3 c = accepted catalogue (c .before .before .before .before .before .before .before .args .text .now) (c .before .before .before .before .before .before .before .args .line) _ _ (place-fits catalogue (c .before .before .before .before .before .before .before .args .text .now) (c .before .before .before .before .before .before .before .args .line) (c .before .before .before .before .before .before .before .args .pos) _ (c .before .before .before .before .before .refusal .ensures) (c .before .before .before .before .if1 .left) (sym (c .before .before .is-boundary .ensures .1 (fit-valid catalogue (c .before .before .before .before .before .before .before .args .text .now) (c .before .before .before .before .before .before .before .args .line) (fit-of catalogue (c .before .before .before .before .before .before .before .args .text .now) (c .before .before .before .before .before .before .before .args .line) (ownTests false false (ltb (c .before .before .before .before .before .before .before .args .line .len) (c .before .before .before .before .before .before .before .args .pos))) _ (c .before .before .before .before .before .refusal .ensures) (c .before .before .before .before .if1 .left)))) ∙ not-false _ (c .before .if2 .left))) _ _ (c .before .before .before .before .if1 .left) (c .moved-to .ensures)
+
+pub set-pos-spec : {M : Type 1} → statement M
+set-pos-spec =
+    tie.close
+    (tie.spec
+    refusal-requires
+    says-requires
+    returns
+    slice-aggregate-is-boundary
+    is-boundary-requires
+    says-requires-2
+    returns-2
+    moved-to-requires
+    returns-3)

@@ -1,0 +1,138 @@
+-- The movements of LineBuffer, each a call that is lent a text: checks 2 to 7 in number order, then the motion. A movement changes at most the cursor.
+use Prim.Native.Nat.{ℕ}
+use mathlib.Core.Bool.{Bool, true, false, cond, _||_, not}
+use mathlib.Core.List.{List}
+use lib.Dec.{eqb, ltb, leb}
+use Rattle.utf8.specs.Chars.{boundary}
+use Rattle.unicode.specs.Repertoire.{Repertoire}
+use Rattle.unicode.specs.Text.{isChar}
+use Rattle.keymap.specs.Codes.{wordOf, atOf, searchOf}
+use Rattle.keymap.specs.declared.Word.{Word}
+use Rattle.keymap.specs.declared.At as stops
+use Rattle.keymap.specs.declared.CharSearch.{CharSearch}
+use Rattle.keymap.specs.declared.WordCode.{WordCode}
+use Rattle.keymap.specs.declared.WordCode.the-variants as word
+use Rattle.keymap.specs.declared.AtCode.{AtCode}
+use Rattle.keymap.specs.declared.AtCode.the-variants as stop
+use Rattle.keymap.specs.declared.SearchCode.{SearchCode}
+use Rattle.keymap.specs.declared.SearchCode.the-variants as search
+use Rattle.motion.specs.Steps.{nextPos, prevPos}
+use Rattle.motion.specs.Search.{searchCharPos}
+use Rattle.motion.specs.Trim.{trimEnd}
+use Rattle.motion.specs.declared.Found.{Found}
+use Rattle.motion.specs.declared.Found.the-variants.{At, Nothing}
+use Rattle.words.specs.Words.{prevWordPos, nextWordPos}
+use Rattle.lines.specs.Lines.{startOfLine, endOfLine}
+use Rattle.lines.specs.Columns.{lineUp, lineDown}
+use Rattle.checks.specs.Checks.{Tests, noTests, both, refusal, lentText, lineTests, ownTests}
+use Rattle.checks.specs.Answers.{says, unlessRefused, movedTo, answered}
+use Rattle.checks.specs.declared.Line.{Line}
+use Rattle.checks.specs.declared.LineAnswer.{LineAnswer}
+
+-- a call: refused by the lowest number of the lent text's tests and its own, else it answers a
+unfoldable pub called : Repertoire → List ℕ → Line → Tests → LineAnswer → LineAnswer
+called R buffer line own a = unlessRefused (refusal (both (lineTests R buffer line) own)) line a
+
+-- to a place, unless the cursor is there
+abbrev pub elsewhere : Line → ℕ → Found
+elsewhere line p = cond (eqb (line .cursor) p) Nothing (At p)
+
+-- the number 0 where a test is met, else 1
+abbrev pub tells : Line → Bool → LineAnswer
+tells line b = cond b (says 0 line) (says 1 line)
+
+-- a code that names a word rule, a stop, a search
+abbrev pub wordIs : Word → WordCode
+wordIs w = word.Is w
+
+abbrev pub stopIs : stops.At → AtCode
+stopIs a = stop.Is a
+
+abbrev pub searchIs : CharSearch → SearchCode
+searchIs c = search.Is c
+
+-- a place of the call's own in a text of len bytes
+abbrev pub placeTests : List ℕ → ℕ → ℕ → Tests
+placeTests s len pos =
+    record {
+      sizes = false;
+      code = false;
+      foreign = false;
+      place = ltb len pos;
+      split = not (boundary s pos);
+      prompt = false;
+      damaged = false;
+    }
+
+-- a prompt column
+abbrev pub promptTests : ℕ → Tests
+promptTests prompt =
+    record { sizes = false; code = false; foreign = false; place = false; split = false; prompt = ltb 1024 prompt; damaged = false }
+
+module _ (R : Repertoire) (buffer : List ℕ) (line : Line) where
+  -- ---- without a code
+  abbrev pub nextPosCall : ℕ → LineAnswer
+  nextPosCall n = called R buffer line noTests (answered line (nextPos R (lentText buffer line) (line .cursor) n))
+
+  abbrev pub moveForward : ℕ → LineAnswer
+  moveForward n = called R buffer line noTests (movedTo line (nextPos R (lentText buffer line) (line .cursor) n))
+
+  abbrev pub moveBackward : ℕ → LineAnswer
+  moveBackward n = called R buffer line noTests (movedTo line (prevPos R (lentText buffer line) (line .cursor) n))
+
+  abbrev pub moveBufferStart : LineAnswer
+  moveBufferStart = called R buffer line noTests (movedTo line (elsewhere line 0))
+
+  abbrev pub moveBufferEnd : LineAnswer
+  moveBufferEnd = called R buffer line noTests (movedTo line (elsewhere line (line .len)))
+
+  abbrev pub moveHome : LineAnswer
+  moveHome = called R buffer line noTests (movedTo line (elsewhere line (startOfLine (lentText buffer line) (line .cursor))))
+
+  abbrev pub moveEnd : LineAnswer
+  moveEnd = called R buffer line noTests (movedTo line (elsewhere line (endOfLine (lentText buffer line) (line .cursor))))
+
+  abbrev pub isCursorAtEnd : LineAnswer
+  isCursorAtEnd = called R buffer line noTests (tells line (eqb (line .cursor) (line .len)))
+
+  abbrev pub isEndOfInput : LineAnswer
+  isEndOfInput = called R buffer line noTests (tells line (leb (trimEnd R (lentText buffer line)) (line .cursor)))
+
+  -- a place of its own is tried by 5 and 6
+  abbrev pub setPos : ℕ → LineAnswer
+  setPos pos = called R buffer line (placeTests (lentText buffer line) (line .len) pos) (movedTo line (At pos))
+
+  -- a prompt column is tried by 7
+  abbrev pub moveToLineUp : ℕ → ℕ → LineAnswer
+  moveToLineUp n prompt = called R buffer line (promptTests prompt) (movedTo line (lineUp R (lentText buffer line) (line .cursor) n prompt))
+
+  abbrev pub moveToLineDown : ℕ → ℕ → LineAnswer
+  moveToLineDown n prompt = called R buffer line (promptTests prompt) (movedTo line (lineDown R (lentText buffer line) (line .cursor) n prompt))
+
+  -- ---- with codes: a number that names nothing is 3
+  abbrev pub unnamed : LineAnswer
+  unnamed = called R buffer line (ownTests true false false) (says 0 line)
+
+  abbrev pub prevWordBy : ℕ → WordCode → LineAnswer
+  prevWordBy n (word.Is w) = called R buffer line noTests (movedTo line (prevWordPos R (lentText buffer line) (line .cursor) w n))
+  prevWordBy n word.Unknown = unnamed
+
+  abbrev pub moveToPrevWord : ℕ → ℕ → LineAnswer
+  moveToPrevWord w n = prevWordBy n (wordOf w)
+
+  abbrev pub nextWordBy : ℕ → AtCode → WordCode → LineAnswer
+  nextWordBy n (stop.Is a) (word.Is w) = called R buffer line noTests (movedTo line (nextWordPos R (lentText buffer line) (line .cursor) a w n))
+  nextWordBy n (stop.Is a) word.Unknown = unnamed
+  nextWordBy n stop.Unknown w = unnamed
+
+  abbrev pub moveToNextWord : ℕ → ℕ → ℕ → LineAnswer
+  moveToNextWord at w n = nextWordBy n (atOf at) (wordOf w)
+
+  -- a character outside the repertoire is 4
+  abbrev pub searchBy : ℕ → ℕ → SearchCode → LineAnswer
+  searchBy c n (search.Is cs) =
+      called R buffer line (ownTests false (not (isChar R c)) false) (movedTo line (searchCharPos R (lentText buffer line) (line .cursor) cs n))
+  searchBy c n search.Unknown = unnamed
+
+  abbrev pub moveTo : ℕ → ℕ → ℕ → LineAnswer
+  moveTo s c n = searchBy c n (searchOf s c)
