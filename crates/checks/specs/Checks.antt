@@ -1,7 +1,7 @@
 -- Document 01, "What a call says": checks run in number order. A call's tests are gathered by the number that they belong to, those of the text
 -- that is lent, of the log that is lent and the call's own, and the lowest number whose test is met is the answer.
 use Prim.Native.Nat.{ℕ}
-use mathlib.Core.Bool.{Bool, true, false, cond, _||_, not}
+use mathlib.Core.Bool.{Bool, false, cond, _||_, not}
 use mathlib.Core.List.{List}
 use lib.Dec.{ltb}
 use lib.ListN.{length, take}

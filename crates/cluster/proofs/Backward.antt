@@ -1,16 +1,15 @@
 -- The scan for the last cluster, from the end of a text backward: what is known of it so far. Assumes nothing.
 use mathlib.Core.Path.{_≡_, refl, sym, ap, _∙_}
 use mathlib.Core.Bool.{true, false}
-use mathlib.Core.List.{List, [], _∷_, _++_, append-assoc}
-use Prim.Native.Nat.{ℕ, _+_, _-_, _<_, _≤_}
+use mathlib.Core.List.{List, [], _∷_, _++_}
+use Prim.Native.Nat.{ℕ, _+_}
 use native.Mathlib.Omega.{arith}
-use lib.ListN.{length, take, drop, take-append-drop, length-drop, length-take, drop-of-length-le}
-use lib.Seq.{drop-drop, take-add, drop-length, getD-take}
+use lib.ListN.{length, take, drop}
+use lib.Seq.{drop-drop, drop-length}
 use Rattle.lists.specs.Lists.{lastOr}
 use Rattle.lists.proofs.Ends.{last-snoc}
-use Rattle.utf8.specs.Utf8.{char, bad, first}
-use Rattle.utf8.specs.Chars.{chars, valid, boundary, charsFrom, startBefore, EndsAt}
-use Rattle.utf8.specs.Encode.{size}
+use Rattle.utf8.specs.Utf8.{char, first}
+use Rattle.utf8.specs.Chars.{chars, boundary, charsFrom, EndsAt}
 use Rattle.utf8.proofs.Chars.{first-within, chars-step}
 use Rattle.utf8.proofs.Append.{chars-cut}
 use Rattle.utf8.proofs.Ends.{ends-char, chars-before}

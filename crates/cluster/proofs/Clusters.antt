@@ -1,14 +1,14 @@
 -- Laws of clusters, over any repertoire: the first cluster and the clusters of the rest, a break, the last cluster. Assumes nothing.
 use mathlib.Core.Path.{_≡_, refl, sym, ap, _∙_}
 use mathlib.Core.Bool.{Bool, true, false, cond}
-use mathlib.Core.List.{List, [], _∷_, _++_, append-nil}
-use Prim.Native.Nat.{ℕ, _+_, _<_}
+use mathlib.Core.List.{List, [], _∷_, _++_}
+use Prim.Native.Nat.{ℕ, _<_}
 use native.Mathlib.Omega.{arith}
 use lib.ListN.{length, drop}
 use lib.Seq.{drop-drop}
 use Rattle.lists.specs.Lists.{concat, headOr}
 use Rattle.lists.proofs.Bools.{by-test}
-use Rattle.utf8.specs.Utf8.{First, char, bad, first}
+use Rattle.utf8.specs.Utf8.{char, bad, first}
 use Rattle.utf8.specs.Chars.{chars}
 use Rattle.utf8.specs.Encode.{size}
 use Rattle.utf8.proofs.Chars.{chars-step, chars-bad, chars-cons}

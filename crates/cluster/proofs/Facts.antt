@@ -1,10 +1,9 @@
 -- The facts of a cluster, character by character. Assumes nothing.
 use mathlib.Core.Path.{_≡_, refl, sym, ap, _∙_}
-use mathlib.Core.Bool.{Bool, true, false, _&&_, _||_, and-true, or-false, and-comm, or-comm}
+use mathlib.Core.Bool.{Bool, false, _&&_, _||_, and-true, or-false, and-comm, or-comm}
 use mathlib.Core.List.{List, [], _∷_, _++_, append-assoc, append-nil}
-use Prim.Native.Nat.{ℕ, _+_, _<_}
+use Prim.Native.Nat.{ℕ, _+_}
 use native.Mathlib.Omega.{arith}
-use lib.ListN.{length}
 use Rattle.lists.specs.Lists.{all, any}
 use Rattle.lists.proofs.Alls.{all-append, any-append}
 use Rattle.utf8.specs.Encode.{size}

@@ -1,14 +1,13 @@
 -- The scan for the first cluster: what is known of it so far, and the characters that still join. Assumes nothing.
-use mathlib.Core.Path.{_≡_, refl, sym, ap, _∙_}
+use mathlib.Core.Path.{_≡_, sym, ap, _∙_}
 use mathlib.Core.Bool.{true, false}
 use mathlib.Core.List.{List, [], _∷_}
-use Prim.Native.Nat.{ℕ, _+_, _≤_}
-use lib.ListN.{length, drop}
+use Prim.Native.Nat.{ℕ, _+_}
+use lib.ListN.{drop}
 use lib.Seq.{drop-drop}
 use Rattle.lists.specs.Lists.{headOr}
 use Rattle.utf8.specs.Utf8.{char, bad, first}
 use Rattle.utf8.specs.Chars.{chars}
-use Rattle.utf8.specs.Encode.{size}
 use Rattle.utf8.proofs.Chars.{first-within, chars-step, chars-bad}
 use Rattle.unicode.specs.Repertoire.{Repertoire}
 use Rattle.cluster.specs.Clusters.{joined, clusters, clustersOf}

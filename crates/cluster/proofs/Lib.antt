@@ -4,4 +4,3 @@ pub mod Forward
 pub mod Backward
 pub mod Parts
 pub mod Steps
-pub mod Cases

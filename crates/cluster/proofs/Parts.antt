@@ -1,6 +1,6 @@
 -- A text cut between two of its clusters: both parts are texts with the clusters that lie in them. Assumes nothing.
 use mathlib.Core.Path.{_≡_, refl, sym, ap, subst, _∙_}
-use mathlib.Core.Bool.{true, false}
+use mathlib.Core.Bool.{true}
 use mathlib.Core.List.{List, [], _∷_, _++_}
 use Prim.Native.Nat.{ℕ, _+_, _-_, _<_, _≤_}
 use native.Mathlib.Omega.{arith}
@@ -11,13 +11,13 @@ use Rattle.lists.proofs.Alls.{all-append}
 use Rattle.lists.proofs.Bools.{and-both, never}
 use Rattle.lists.proofs.Ends.{last-snoc}
 use Rattle.utf8.specs.Chars.{chars, valid, boundary}
-use Rattle.utf8.specs.Encode.{scalar, encode, encodeAll, size}
+use Rattle.utf8.specs.Encode.{scalar, encode, encodeAll}
 use Rattle.utf8.proofs.Chars.{chars-step, valid-bad, size-pos}
 use Rattle.utf8.proofs.Append.{by-first}
 use Rattle.utf8.proofs.Encode.{size-encode, encodeAll-append, chars-encode, valid-encode, encode-chars, chars-scalar}
 use Rattle.unicode.specs.Repertoire.{Repertoire}
 use Rattle.cluster.specs.Clusters.{clusters, clustersOf, bytes}
-use Rattle.cluster.proofs.Clusters.{runOf, Last, chars-drop, clusters-some, clusters-head, clusters-concat, clusters-last}
+use Rattle.cluster.proofs.Clusters.{runOf, chars-drop, clusters-some, clusters-head, clusters-concat, clusters-last}
 use Rattle.cluster.proofs.Facts.{bytes-append}
 
 pub bytes-length : (cs : List ℕ) → length (encodeAll cs) ≡ bytes cs

@@ -1,5 +1,5 @@
 -- One cluster after the other, by their lengths in bytes: what next_cluster and prev_cluster tell of a part. Assumes nothing.
-use mathlib.Core.Path.{_≡_, refl, sym, ap, subst, _∙_}
+use mathlib.Core.Path.{_≡_, sym, ap, subst, _∙_}
 use mathlib.Core.Bool.{true}
 use mathlib.Core.List.{List, [], _∷_, _++_}
 use Prim.Native.Nat.{ℕ, _+_, _-_, _<_, _≤_}
@@ -9,8 +9,8 @@ use lib.Seq.{take-take, length-take-le}
 use Rattle.lists.specs.Lists.{headOr, lastOr}
 use Rattle.lists.proofs.Bools.{by-less}
 use Rattle.lists.proofs.Parts.{part-tail}
-use Rattle.utf8.specs.Utf8.{char, bad, first}
-use Rattle.utf8.specs.Chars.{chars, valid, boundary}
+use Rattle.utf8.specs.Utf8.{char, first}
+use Rattle.utf8.specs.Chars.{chars, boundary}
 use Rattle.utf8.proofs.Chars.{chars-step, size-pos}
 use Rattle.utf8.proofs.Append.{by-first}
 use Rattle.utf8.proofs.Boundary.{boundary-take}
@@ -19,7 +19,7 @@ use Rattle.cluster.specs.Clusters.{clusters, clustersOf, bytes}
 use Rattle.cluster.specs.Facts.{facts}
 use Rattle.cluster.specs.declared.Cluster.{Cluster}
 use Rattle.cluster.proofs.Clusters.{runOf, clusters-head, clusters-step, clusters-none}
-use Rattle.cluster.proofs.Parts.{LastCut, last-cut}
+use Rattle.cluster.proofs.Parts.{last-cut}
 
 module _ (R : Repertoire) where
   abbrev pub firstCluster : List ℕ → List ℕ

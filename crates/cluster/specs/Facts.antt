@@ -1,6 +1,6 @@
 -- What the word rules ask of a cluster: line_buffer.rs, is_word_char, is_vi_word_char and is_other_char.
 use Prim.Native.Nat.{ℕ, _+_}
-use mathlib.Core.Bool.{Bool, true, false, _&&_, _||_}
+use mathlib.Core.Bool.{Bool, false, _&&_, _||_}
 use mathlib.Core.List.{List, [], _∷_}
 use lib.Dec.{eqb}
 use Rattle.lists.specs.Lists.{all, any}

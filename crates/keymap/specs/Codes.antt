@@ -2,13 +2,9 @@
 use Prim.Native.Nat.{ℕ}
 use mathlib.Core.List.{List, [], _∷_}
 use lib.ListN.{getD}
-use Rattle.keymap.specs.declared.Word.{Word}
 use Rattle.keymap.specs.declared.Word.the-variants.{Big, Emacs, Vi}
-use Rattle.keymap.specs.declared.At.{At}
 use Rattle.keymap.specs.declared.At.the-variants.{Start, BeforeEnd, AfterEnd}
-use Rattle.keymap.specs.declared.CharSearch.{CharSearch}
 use Rattle.keymap.specs.declared.CharSearch.the-variants.{Forward, ForwardBefore, Backward, BackwardAfter}
-use Rattle.keymap.specs.declared.Movement.{Movement}
 use Rattle.keymap.specs.declared.Movement.the-variants as m
 use Rattle.keymap.specs.declared.WordCode.{WordCode}
 use Rattle.keymap.specs.declared.WordCode.the-variants as wa

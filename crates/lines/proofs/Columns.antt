@@ -11,16 +11,13 @@ use borrow.Author.Tests.{eq-eqb, ne-eqb, lt-ltb, le-ltb}
 use Rattle.lists.specs.Lists.{sum, headOr}
 use Rattle.lists.proofs.Bools.{by-test}
 use Rattle.lists.proofs.Parts.{part-tail}
-use Rattle.utf8.specs.Utf8.{char, bad, first}
-use Rattle.utf8.specs.Chars.{chars}
-use Rattle.utf8.proofs.Chars.{chars-step, size-pos}
-use Rattle.utf8.proofs.Append.{by-first}
 use Rattle.utf8.proofs.Forms.{first-end}
 use Rattle.unicode.specs.Repertoire.{Repertoire}
-use Rattle.cluster.specs.Clusters.{clusters, clustersOf, bytes}
+use Rattle.cluster.specs.Clusters.{clustersOf, bytes}
 use Rattle.cluster.specs.Facts.{facts}
 use Rattle.cluster.specs.declared.Cluster.{Cluster}
-use Rattle.cluster.proofs.Clusters.{runOf, clusters-head, clusters-step, clusters-none}
+use Rattle.cluster.proofs.Clusters.{clusters-none}
+use Rattle.cluster.proofs.Steps.{firstCluster, step-some, step-none}
 use Rattle.layout.specs.Width.{width}
 use Rattle.motion.specs.Steps.{sizes}
 use Rattle.motion.specs.declared.Found.the-variants.{At, Nothing}
@@ -52,31 +49,15 @@ nth-on x l a (suc n) other e =
 module _ (R : Repertoire) where
   -- the first cluster's size
   abbrev firstSize : List ℕ → ℕ
-  firstSize u = bytes (headOr [] (clustersOf R u))
+  firstSize u = bytes (firstCluster R u)
 
-  first-some : (u : List ℕ) (c n : ℕ) → first u ≡ char c n → 0 < firstSize u
-  first-some u c n e =
-      let h : headOr [] (clustersOf R u) ≡ c ∷ runOf R c (chars (drop n u)) =
-      ap (λ (l : List ℕ). headOr [] (clusters R l)) (chars-step u c n e) ∙ clusters-head R c (chars (drop n u))
-      in
-      rw h (let p = size-pos c in omega arith)
-
-  sizes-none : (u : List ℕ) → first u ≡ bad → sizes R u ≡ []
+  sizes-none : (u : List ℕ) → firstSize u ≡ 0 → sizes R u ≡ []
   unfolding sizes
-  sizes-none u e = ap (map bytes) (clusters-none R u e)
-
-  sizes-step : (u : List ℕ) (c n : ℕ) → first u ≡ char c n → sizes R u ≡ firstSize u ∷ sizes R (drop (firstSize u) u)
-  unfolding sizes
-  sizes-step u c n e = ap (map bytes) (clusters-step R u c n e)
-
-  -- by the length of what next_cluster finds
-  sizes-stuck : (u : List ℕ) → firstSize u ≡ 0 → sizes R u ≡ []
-  sizes-stuck u z = by-first _ u (λ c n e. absurd (let p = first-some u c n e in omega arith)) (λ e. sizes-none u e)
+  sizes-none u z = ap (map bytes) (step-none R u z)
 
   sizes-on : (u : List ℕ) → (firstSize u ≡ 0 → ⊥) → sizes R u ≡ firstSize u ∷ sizes R (drop (firstSize u) u)
-  sizes-on u z =
-      by-first _ u (λ c n e. sizes-step u c n e)
-      (λ e. absurd (z (ap (λ (l : List (List ℕ)). bytes (headOr [] l)) (clusters-none R u e))))
+  unfolding sizes
+  sizes-on u z = let p : 0 < firstSize u = omega (arith, z) in ap (map bytes) (step-some R u p)
 
   -- ---- a scan over the clusters of t, which starts at a, stands at a place and has some clusters left to pass
   pub nthFrom : List ℕ → ℕ → ℕ → ℕ → ℕ → ℕ
@@ -87,9 +68,13 @@ module _ (R : Repertoire) where
   nth-start s a b n other = let z : a + 0 ≡ a = omega arith in rw z
 
   module _ (t : List ℕ) (a other at left : ℕ) where
+    sizes-past : length t ≤ at → sizes R (drop at t) ≡ []
+    unfolding sizes
+    sizes-past h = ap (map bytes) (clusters-none R (drop at t) (first-end t at h))
+
     pub nth-end : length t ≤ at → nthFrom t a other at left ≡ other
     unfolding nthFrom
-    nth-end h = rw (sizes-none (drop at t) (first-end t at h)) (nth-none (a + at) left other)
+    nth-end h = rw (sizes-past h) (nth-none (a + at) left other)
 
     -- k is the first cluster at the place
     module _ (k : Cluster) (q : k ≡ facts R (headOr [] (clustersOf R (take (length t - at) (drop at t))))) where
@@ -98,7 +83,7 @@ module _ (R : Repertoire) where
 
       pub nth-stuck : k .len ≡ 0 → nthFrom t a other at left ≡ other
       unfolding nthFrom
-      nth-stuck z = rw (sizes-stuck (drop at t) (sym sized ∙ z)) (nth-none (a + at) left other)
+      nth-stuck z = rw (sizes-none (drop at t) (sym sized ∙ z)) (nth-none (a + at) left other)
 
       some : (k .len ≡ 0 → ⊥) → sizes R (drop at t) ≡ k .len ∷ sizes R (drop (at + k .len) t)
       some z =

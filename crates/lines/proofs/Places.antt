@@ -1,24 +1,21 @@
 -- Places that lines reach: of a text and a boundary in it, they lie in the text and are boundaries. Assumes nothing.
 use mathlib.Core.Path.{_≡_, refl, sym, ap, subst, _∙_}
 use mathlib.Core.Bool.{Bool, true, false, cond, not}
-use mathlib.Core.List.{List, [], _∷_, _++_, map, append-assoc}
+use mathlib.Core.List.{List}
 use Prim.Native.Nat.{ℕ, zero, suc, _+_, _-_, _<_, _≤_}
 use native.Mathlib.Omega.{arith}
 use lib.Dec.{eqb, ltb}
 use lib.ListN.{length, getD, take, drop, length-take}
 use borrow.Author.Tests.{eqb-false, ltb-true}
-use Rattle.lists.specs.Lists.{sum, concat}
+use Rattle.lists.specs.Lists.{sum}
 use Rattle.lists.proofs.Bools.{by-less, by-test}
 use Rattle.utf8.specs.Utf8.{tail}
-use Rattle.utf8.specs.Chars.{chars, valid, boundary}
+use Rattle.utf8.specs.Chars.{valid, boundary}
 use Rattle.utf8.proofs.Forms.{within-below, first-one, first-drop}
 use Rattle.utf8.proofs.Boundary.{boundary-test, boundary-zero, boundary-end, boundary-drop, boundary-take, boundary-next}
 use Rattle.unicode.specs.Repertoire.{Repertoire}
-use Rattle.cluster.specs.Clusters.{clustersOf, bytes}
-use Rattle.cluster.proofs.Clusters.{clusters-concat}
-use Rattle.cluster.proofs.Facts.{bytes-append}
-use Rattle.cluster.proofs.Parts.{cut-chars}
 use Rattle.motion.specs.Steps.{sizes}
+use Rattle.motion.proofs.Places.{sizes-place}
 use Rattle.motion.specs.declared.Found.the-variants.{At, Nothing}
 use Rattle.lines.specs.Lines.{startOfLine, endOfLine, behindLine, linesUp, linesDown, nLinesUp, nLinesDown}
 use Rattle.lines.specs.Columns.{part, nthCluster, lineAbove, lineBelow, widthBefore, landUp, lineUp, landDown, columnOf, lineDown}
@@ -135,25 +132,7 @@ lines-down-place s pos n a b v k h e =
     (omega arith, omega arith, rw x at (u .1), rw y at (d .2))
 
 -- ---- a part cut between two of its clusters
-concat-cut : (n : ℕ) (ks : List (List ℕ)) → concat ks ≡ concat (take n ks) ++ concat (drop n ks)
-concat-cut zero ks = refl
-concat-cut (suc n) [] = refl
-concat-cut (suc n) (k ∷ ks) =
-    ap (λ (l : List ℕ). k ++ l) (concat-cut n ks) ∙ sym (append-assoc k (concat (take n ks)) (concat (drop n ks)))
-
-sum-bytes : (n : ℕ) (ks : List (List ℕ)) → sum (take n (map bytes ks)) ≡ bytes (concat (take n ks))
-sum-bytes zero ks = refl
-sum-bytes (suc n) [] = refl
-sum-bytes (suc n) (k ∷ ks) = let r = sum-bytes n ks in let b = bytes-append k (concat (take n ks)) in omega arith
-
 module _ (R : Repertoire) where
-  sizes-place : (t : List ℕ) (n : ℕ) → valid t ≡ true → (sum (take n (sizes R t)) ≤ length t) × (boundary t (sum (take n (sizes R t))) ≡ true)
-  unfolding sizes
-  sizes-place t n v =
-      let ks = clustersOf R t in
-      let c = cut-chars t (concat (take n ks)) (concat (drop n ks)) v (sym (clusters-concat R (chars t)) ∙ concat-cut n ks) in
-      rw (sum-bytes n ks) (c .fits, c .edge)
-
   -- where a cluster of the part from a to b starts, or another place
   nth-place : (s : List ℕ) (a b n other : ℕ) → valid s ≡ true → a ≤ b → b ≤ length s → boundary s a ≡ true → boundary s b ≡ true →
       other ≤ length s → boundary s other ≡ true → (nthCluster R s a b n other ≤ length s) × (boundary s (nthCluster R s a b n other) ≡ true)
@@ -161,7 +140,7 @@ module _ (R : Repertoire) where
   nth-place s a b n other v h l x y o z =
       let q : a + (b - a) ≡ b = omega arith in
       let w : valid (part s a b) ≡ true = sym (boundary-drop s a (b - a) x) ∙ rw q y in
-      let c = sizes-place (part s a b) n w in
+      let c = sizes-place R (part s a b) n w in
       let j = sum (take n (sizes R (part s a b))) in
       let m : j ≤ b - a = let u = c .0 in omega (arith, length-take (b - a) (drop a s)) in
       let k : boundary s (a + j) ≡ true = boundary-drop s a j x ∙ boundary-take (drop a s) (b - a) j m ∙ c .1 in

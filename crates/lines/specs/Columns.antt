@@ -1,8 +1,8 @@
 -- The same column in another line: line_buffer.rs, move_to_line_up and move_to_line_down. The column is measured in widths, the landing counts
 -- clusters; the prompt stands before the first line.
 use Prim.Native.Nat.{ℕ, zero, suc, _+_, _-_}
-use mathlib.Core.Bool.{Bool, cond}
-use mathlib.Core.List.{List, [], _∷_, map}
+use mathlib.Core.Bool.{cond}
+use mathlib.Core.List.{List}
 use lib.Dec.{eqb, ltb}
 use lib.ListN.{length, take, drop}
 use Rattle.lists.specs.Lists.{sum}

@@ -1,7 +1,7 @@
 -- The last element of a list, and what stands before it. Assumes nothing.
 use mathlib.Core.Path.{_≡_, refl, ap}
 use mathlib.Core.List.{List, [], _∷_, _++_}
-use Rattle.lists.specs.Lists.{concat, lastOr, init}
+use Rattle.lists.specs.Lists.{lastOr, init}
 
 module _ {A : Type 0} where
   pub last-snoc : (z : A) (l : List A) (x : A) → lastOr z (l ++ (x ∷ [])) ≡ x

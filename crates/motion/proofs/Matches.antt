@@ -1,7 +1,7 @@
 -- A place that a search finds is one at which the character stands, between two boundaries. Assumes nothing.
-use mathlib.Core.Path.{_≡_, refl, sym, ap, subst, _∙_}
-use mathlib.Core.Bool.{Bool, true, false, cond}
-use mathlib.Core.List.{List, [], _∷_, _++_, reverse, append-assoc}
+use mathlib.Core.Path.{_≡_, sym, ap, subst, _∙_}
+use mathlib.Core.Bool.{true}
+use mathlib.Core.List.{List, [], _∷_, _++_, append-assoc}
 use Prim.Native.Nat.{ℕ, _+_, _-_, _^_, _<_, _≤_}
 use native.Mathlib.Omega.{arith}
 use borrow.Author.Tests.{eqb-true}
@@ -18,7 +18,7 @@ use Rattle.utf8.proofs.Boundary.{boundary-take, boundary-drop}
 use Rattle.unicode.specs.Repertoire.{Repertoire}
 use Rattle.cluster.specs.Clusters.{clusters, clustersOf, bytes}
 use Rattle.cluster.proofs.Facts.{bytes-append}
-use Rattle.cluster.proofs.Parts.{Cut, cut-chars, first-cut}
+use Rattle.cluster.proofs.Parts.{cut-chars, first-cut}
 use Rattle.motion.specs.Search.{matches, lastFound, nthMatch, afterCluster, matchForward, matchBackward, FitsBehind}
 use Rattle.motion.specs.declared.Found.{Found}
 use Rattle.motion.specs.declared.Found.the-variants.{At, Nothing}

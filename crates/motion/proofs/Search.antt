@@ -1,7 +1,7 @@
 -- Searches, one character at a time. Assumes nothing.
 use mathlib.Core.Path.{_≡_, refl, sym, ap, _∙_}
 use mathlib.Core.Bool.{Bool, true, false, cond}
-use mathlib.Core.List.{List, [], _∷_, _++_, reverse, reverse-append, append-nil}
+use mathlib.Core.List.{List, [], _∷_, _++_, reverse, reverse-append}
 use Prim.Native.Nat.{ℕ, zero, suc, _+_, _-_, _<_, _≤_}
 use native.Mathlib.Omega.{arith}
 use borrow.Author.Tests.{eq-eqb, ne-eqb}
@@ -9,15 +9,15 @@ use lib.Dec.{eqb}
 use lib.ListN.{length, take, drop}
 use lib.Seq.{drop-drop, length-take-le}
 use Rattle.utf8.specs.Utf8.{char, bad, first}
-use Rattle.utf8.specs.Chars.{charsFrom, chars, valid, boundary, EndsAt}
+use Rattle.utf8.specs.Chars.{charsFrom, chars, EndsAt}
 use Rattle.utf8.specs.Encode.{size}
 use Rattle.utf8.proofs.Chars.{first-within, chars-step, chars-bad}
 use Rattle.utf8.proofs.Ends.{chars-before}
 use Rattle.cluster.specs.Clusters.{bytes}
 use Rattle.cluster.proofs.Parts.{bytes-all}
-use Rattle.motion.specs.Search.{matches, lastFound, nthMatch, matchBackward}
+use Rattle.motion.specs.Search.{matches, lastFound}
 use Rattle.motion.specs.declared.Found.{Found}
-use Rattle.motion.specs.declared.Found.the-variants.{At, Nothing}
+use Rattle.motion.specs.declared.Found.the-variants.{At}
 
 -- nothing is left to find
 pub found-zero : (f : Found) (ps : List ℕ) (left : ℕ) → left ≡ 0 → lastFound f (take left ps) ≡ f

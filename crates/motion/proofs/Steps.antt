@@ -1,24 +1,21 @@
 -- Steps over clusters, forward and backward, one at a time. Assumes nothing.
 use mathlib.Core.Path.{_≡_, refl, sym, ap, subst, _∙_}
-use mathlib.Core.Bool.{true, false, or-true}
+use mathlib.Core.Bool.{true, or-true}
 use mathlib.Core.List.{List, [], _∷_, _++_, map}
 use Prim.Native.Nat.{ℕ, zero, suc, _+_, _-_, _<_, _≤_}
 use native.Mathlib.Omega.{arith}
 use borrow.Author.Tests.{le-leb, lt-leb, eq-eqb, ne-eqb}
 use lib.ListN.{length, take, drop, length-append}
 use lib.Seq.{drop-drop, take-append-le, take-all, length-take-le}
-use Rattle.lists.specs.Lists.{sum, concat, headOr}
-use Rattle.utf8.specs.Chars.{chars, charsFrom, valid, boundary}
+use Rattle.lists.specs.Lists.{sum, concat}
+use Rattle.utf8.specs.Chars.{chars, charsFrom, boundary}
 use Rattle.unicode.specs.Repertoire.{Repertoire}
 use Rattle.cluster.specs.Clusters.{clustersOf, clusters, bytes}
-use Rattle.cluster.specs.Facts.{facts}
-use Rattle.cluster.specs.declared.Cluster.{Cluster}
 use Rattle.cluster.proofs.Clusters.{clusters-concat}
 use Rattle.cluster.proofs.Facts.{bytes-append}
 use Rattle.cluster.proofs.Parts.{bytes-all}
-use Rattle.cluster.proofs.Steps.{firstCluster, lastCluster, step-some, step-none, Before}
+use Rattle.cluster.proofs.Steps.{firstCluster, step-some, step-none, Before}
 use Rattle.motion.specs.Steps.{sizes, nextPos, prevPos}
-use Rattle.motion.specs.declared.Found.{Found}
 use Rattle.motion.specs.declared.Found.the-variants.{At, Nothing}
 
 module _ (R : Repertoire) (s : List ℕ) where

@@ -1,15 +1,15 @@
 -- White space at the end of a text, from its end backward, and the first alphanumeric cluster. Assumes nothing.
 use mathlib.Core.Path.{_≡_, refl, sym, ap, subst, _∙_}
-use mathlib.Core.Bool.{Bool, true, false, cond, _&&_}
+use mathlib.Core.Bool.{true, false, cond, _&&_}
 use mathlib.Core.List.{List, [], _∷_, _++_}
-use Prim.Native.Nat.{ℕ, _+_, _-_, _<_, _≤_}
+use Prim.Native.Nat.{ℕ, _+_, _<_, _≤_}
 use native.Mathlib.Omega.{arith}
 use borrow.Author.Tests.{ne-eqb}
 use lib.Dec.{eqb}
 use lib.ListN.{length, take, drop}
 use lib.Seq.{drop-drop, length-take-le, take-length}
 use Rattle.utf8.specs.Utf8.{char, first}
-use Rattle.utf8.specs.Chars.{charsFrom, chars, valid, boundary, EndsAt}
+use Rattle.utf8.specs.Chars.{charsFrom, chars, boundary, EndsAt}
 use Rattle.utf8.specs.Encode.{size}
 use Rattle.utf8.proofs.Chars.{size-pos}
 use Rattle.utf8.proofs.Forms.{first-end}
@@ -22,7 +22,7 @@ use Rattle.cluster.proofs.Parts.{bytes-all}
 use Rattle.cluster.proofs.Facts.{bytes-append}
 use Rattle.cluster.proofs.Clusters.{clusters-none}
 use Rattle.cluster.proofs.Steps.{firstCluster, step-some, step-none}
-use Rattle.motion.specs.Trim.{trimmed, trimEnd, firstAlnum, skipWhitespace}
+use Rattle.motion.specs.Trim.{trimmed, trimEnd, firstAlnum}
 use Rattle.motion.specs.declared.Found.{Found}
 use Rattle.motion.specs.declared.Found.the-variants.{At, Nothing}
 

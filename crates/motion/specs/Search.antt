@@ -1,9 +1,9 @@
 -- Searches for a character: line_buffer.rs, search_char_pos. Characters are counted, marks too.
 use Prim.Native.Nat.{ℕ, _+_, _^_, _<_}
-use mathlib.Core.Bool.{Bool, cond}
+use mathlib.Core.Bool.{cond}
 use mathlib.Core.List.{List, [], _∷_, reverse}
 use lib.Dec.{eqb}
-use lib.ListN.{length, take, drop}
+use lib.ListN.{take, drop}
 use Rattle.lists.specs.Lists.{headOr}
 use Rattle.utf8.specs.Chars.{chars, startBefore}
 use Rattle.utf8.specs.Encode.{size}

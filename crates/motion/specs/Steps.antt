@@ -1,7 +1,7 @@
 -- Places that steps over clusters reach: line_buffer.rs, next_pos and prev_pos. Forward steps look only at the text from the place on,
 -- backward ones at the text before it.
 use Prim.Native.Nat.{ℕ, _+_, _-_}
-use mathlib.Core.Bool.{Bool, cond, _||_}
+use mathlib.Core.Bool.{cond, _||_}
 use mathlib.Core.List.{List, map}
 use lib.Dec.{eqb, leb}
 use lib.ListN.{length, take, drop}

@@ -1,6 +1,6 @@
 -- The end of the input and the next alphanumeric cluster: line_buffer.rs, is_end_of_input and skip_whitespace.
 use Prim.Native.Nat.{ℕ, _+_}
-use mathlib.Core.Bool.{Bool, cond, _&&_}
+use mathlib.Core.Bool.{cond, _&&_}
 use mathlib.Core.List.{List, [], _∷_}
 use lib.Dec.{eqb}
 use lib.ListN.{drop}

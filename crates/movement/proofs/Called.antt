@@ -1,6 +1,6 @@
 -- A call that is refused, and one that passes its checks. Assumes nothing.
-use mathlib.Core.Path.{_≡_, refl, sym, ap, subst, _∙_}
-use mathlib.Core.Bool.{Bool, true, false, cond, _||_, not, or-false}
+use mathlib.Core.Path.{_≡_, refl, sym, ap, _∙_}
+use mathlib.Core.Bool.{Bool, true, false, cond, _||_, not}
 use mathlib.Core.List.{List}
 use Prim.Native.Nat.{ℕ, zero, suc, _<_, _≤_}
 use native.Mathlib.Omega.{arith}
@@ -14,7 +14,7 @@ use Rattle.checks.specs.Checks.{Tests, noTests, both, refusal, lentText, lineTe
 use Rattle.checks.specs.Answers.{says, unlessRefused}
 use Rattle.checks.specs.declared.Line.{Line}
 use Rattle.checks.specs.declared.LineAnswer.{LineAnswer}
-use Rattle.checks.proofs.Fit.{Fit, Passed, fit, refusal-passed, code-refused}
+use Rattle.checks.proofs.Fit.{Fit, fit, refusal-passed, code-refused}
 use Rattle.movement.specs.Moves.{called, placeTests, promptTests}
 
 module _ (R : Repertoire) (buffer : List ℕ) (line : Line) where

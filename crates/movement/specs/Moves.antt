@@ -1,6 +1,6 @@
 -- The movements of LineBuffer, each a call that is lent a text: checks 2 to 7 in number order, then the motion. A movement changes at most the cursor.
 use Prim.Native.Nat.{ℕ}
-use mathlib.Core.Bool.{Bool, true, false, cond, _||_, not}
+use mathlib.Core.Bool.{Bool, true, false, cond, not}
 use mathlib.Core.List.{List}
 use lib.Dec.{eqb, ltb, leb}
 use Rattle.utf8.specs.Chars.{boundary}

@@ -1,20 +1,19 @@
 -- Bytes that are characters by themselves, and blocks of them. Assumes nothing.
 use mathlib.Core.Path.{_≡_, refl, sym, ap, subst, _∙_}
 use mathlib.Core.Bool.{Bool, true, false, _&&_, not, _||_, and-true}
-use mathlib.Core.List.{List, [], _∷_, _++_}
-use Prim.Native.Nat.{ℕ, zero, suc, _+_, _-_, _<_, _≤_}
+use mathlib.Core.List.{List, [], _∷_}
+use Prim.Native.Nat.{ℕ, _+_, _-_, _<_, _≤_}
 use native.Mathlib.Omega.{arith}
 use native.Mathlib.Numerals.{add-one}
 use borrow.Author.Tests.{ne-eqb}
 use lib.Dec.{T}
-use lib.ListN.{length, getD, take, drop, take-append-drop, length-drop, length-take}
-use lib.Seq.{drop-drop, take-suc, take-length}
+use lib.ListN.{length, getD, take, drop, take-append-drop}
+use lib.Seq.{drop-drop, take-suc}
 use Rattle.lists.specs.Lists.{all}
 use Rattle.lists.proofs.Bools.{and-both, by-less, never}
 use Rattle.lists.proofs.Alls.{all-append}
 use Rattle.lists.proofs.Tables.{at-each}
-use Rattle.lists.proofs.Parts.{getD-any}
-use Rattle.utf8.specs.Utf8.{First, char, bad, within, first}
+use Rattle.utf8.specs.Utf8.{within, first}
 use Rattle.utf8.proofs.Forms.{within-above, first-one, first-drop}
 use Rattle.unicode.specs.Repertoire.{Repertoire, catalogue, isMember}
 use Rattle.unicode.specs.Text.{isText, memberLen, plain}

@@ -1,18 +1,18 @@
 -- Laws of texts, over any repertoire. Assumes nothing.
 use mathlib.Core.Path.{_≡_, refl, sym, ap, _∙_}
 use mathlib.Core.Bool.{Bool, true, false, cond, _&&_}
-use mathlib.Core.List.{List, [], _∷_, _++_}
-use Prim.Native.Nat.{ℕ, _+_, _-_, _<_, _≤_}
+use mathlib.Core.List.{List, [], _++_}
+use Prim.Native.Nat.{ℕ, _+_, _<_, _≤_}
 use native.Mathlib.Omega.{arith}
-use lib.ListN.{length, take, drop, length-drop, take-append-drop, drop-of-length-le}
+use lib.ListN.{length, take, drop, length-drop, drop-of-length-le}
 use lib.Seq.{drop-drop}
 use Rattle.lists.specs.Lists.{all}
-use Rattle.lists.proofs.Bools.{and-both, and-swap, by-test}
+use Rattle.lists.proofs.Bools.{and-both, and-swap}
 use Rattle.lists.proofs.Alls.{all-append}
-use Rattle.utf8.specs.Utf8.{First, char, bad, first}
+use Rattle.utf8.specs.Utf8.{char, bad, first}
 use Rattle.utf8.specs.Chars.{charsFrom, validFrom, chars, valid, boundary}
 use Rattle.utf8.specs.Encode.{size}
-use Rattle.utf8.proofs.Chars.{Within, first-within, chars-step, valid-step, valid-bad}
+use Rattle.utf8.proofs.Chars.{first-within, chars-step, valid-step, valid-bad}
 use Rattle.utf8.proofs.Append.{by-first, chars-append, valid-append, chars-cut, valid-cut}
 use Rattle.unicode.specs.Repertoire.{Repertoire}
 use Rattle.unicode.specs.Text.{isText, memberLen}

@@ -1,12 +1,12 @@
 -- A text: bytes that are UTF-8 and whose code points are all of a repertoire. Document 01, check 4.
 use Prim.Native.Nat.{ℕ, _≤_}
 use mathlib.Core.Path.{_≡_}
-use mathlib.Core.Bool.{Bool, true, false, cond, _&&_, _||_}
+use mathlib.Core.Bool.{Bool, false, cond, _&&_, _||_}
 use mathlib.Core.List.{List}
 use lib.Dec.{eqb}
 use lib.ListN.{length, drop}
 use Rattle.lists.specs.Lists.{all}
-use Rattle.utf8.specs.Utf8.{First, char, bad, within, first}
+use Rattle.utf8.specs.Utf8.{First, char, bad, within}
 use Rattle.utf8.specs.Chars.{chars, valid}
 use Rattle.utf8.specs.Encode.{scalar}
 use Rattle.unicode.specs.Repertoire.{Repertoire, catalogue}

@@ -10,7 +10,7 @@ use Rattle.lists.proofs.Parts.{drop-take}
 use lib.Dec.{T, leb}
 use lib.ListN.{length, getD, take, drop, take-append-drop, length-take, length-drop}
 use lib.Seq.{getD-take, getD-drop, take-nil, take-length, take-take, take-add}
-use borrow.Author.Tests.{le-leb, leb-true}
+use borrow.Author.Tests.{leb-true}
 use Rattle.utf8.specs.Utf8.{char, bad, within, tail, one, two, lead3, three, lead4, four, orElse, firstOf, first}
 use Rattle.utf8.specs.Chars.{validFrom, valid, boundary, startBefore, EndsAt}
 use Rattle.utf8.proofs.Forms.{within-in, within-below, within-above}

@@ -1,0 +1,3 @@
+pub mod Ranges
+pub mod Called
+pub mod Places

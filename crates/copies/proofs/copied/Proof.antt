@@ -1,0 +1,16 @@
+use Rattle.unicode.specs.Repertoire.{catalogue}
+use Rattle.copies.proofs.Ranges.{copied-empty, copied-full}
+use Rattle.copies.proofs.copied.Statement.{statement}
+use Rattle.copies.proofs.copied.Tie as tie
+
+returns : tie.Need-returns
+returns c = copied-empty catalogue (c .before .before .args .s .now) (c .before .before .args .pos) _ (c .if1 .taken)
+
+range-of-requires : tie.Need-range-of-requires
+range-of-requires c κs = c .before .before .pre
+
+returns-2 : tie.Need-returns-2
+returns-2 c = copied-full catalogue (c .before .before .before .args .s .now) (c .before .before .before .args .pos) _ (c .before .if1 .left) _ (c .range-of .ensures)
+
+pub copied-spec : {M : Type 1} → statement M
+copied-spec = tie.close (tie.spec returns range-of-requires returns-2)

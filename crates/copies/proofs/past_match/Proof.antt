@@ -1,0 +1,44 @@
+use mathlib.Core.Path.{sym, ap, _∙_}
+use native.Mathlib.Omega.{arith}
+use Prim.Native.Nat.{ℕ, _+_}
+use Rattle.utf8.specs.Encode.{size}
+use Rattle.unicode.specs.Repertoire.{catalogue}
+use Rattle.lines.specs.declared.Range.the-variants.{Places}
+use Rattle.motion.proofs.Matches.{forward-stands}
+use Rattle.copies.specs.Copy.{upTo}
+use borrow.Author.Needs.{needs}
+use Rattle.copies.proofs.past_match.Statement.{statement}
+use Rattle.copies.proofs.past_match.Tie as tie
+
+match-forward-requires : tie.Need-match-forward-requires
+match-forward-requires c κs = search needs
+
+enum-known-f : tie.Need-enum-known-f
+enum-known-f c = search needs
+
+char-size-requires : tie.Need-char-size-requires
+char-size-requires c κs = search needs
+
+add-t9 : tie.Need-add-t9
+add-t9 c = omega (arith, forward-stands catalogue (c .before .before .before .before .before .before .args .s .now) (c .before .before .before .before .before .before .args .pos) (c .before .before .before .before .before .before .args .c) (c .before .before .before .before .before .before .args .n) (c .before .before .f .given .0 .0) (c .before .before .before .before .before .before .pre .0) (c .before .before .before .before .before .before .pre .1) (c .before .before .before .before .before .before .pre .2) (sym (c .before .before .before .before .match-forward .ensures) ∙ c .before .before .f .given .1) .1 .fits, c .char-size .ensures)
+
+enum-told : tie.Need-enum-told
+enum-told c = search needs
+
+returns : tie.Need-returns
+returns c = ap (λ (x : ℕ). Places (c .before .before .before .before .before .before .args .pos) (c .before .before .f .given .0 .0 + x)) (c .char-size .ensures) ∙ sym (ap (upTo (c .before .before .before .before .before .before .args .pos) (size (c .before .before .before .before .before .before .args .c))) (sym (c .before .before .before .before .match-forward .ensures) ∙ c .before .before .f .given .1))
+
+returns-2 : tie.Need-returns-2
+returns-2 c = sym (ap (upTo (c .before .before .before .before .args .pos) (size (c .before .before .before .before .args .c))) (sym (c .before .before .match-forward .ensures) ∙ c .enum-told .given .1))
+
+pub past-match-spec : {M : Type 1} → statement M
+past-match-spec =
+    tie.close
+    (tie.spec
+    match-forward-requires
+    enum-known-f
+    char-size-requires
+    add-t9
+    enum-told
+    returns
+    returns-2)

@@ -1,0 +1,44 @@
+use Rattle.unicode.specs.Repertoire.{catalogue}
+use Rattle.copies.specs.Copy.{isAfter}
+use Rattle.copies.proofs.Ranges.{no-first, starts-other, starts-empty, starts-first}
+use mathlib.Core.Path.{sym, ap, _∙_}
+use borrow.Author.Needs.{needs}
+use Rattle.copies.proofs.starts_after.Statement.{statement}
+use Rattle.copies.proofs.starts_after.Tie as tie
+
+enum-told : tie.Need-enum-told
+enum-told c = search needs
+
+returns : tie.Need-returns
+returns c = starts-other catalogue (c .before .before .args .s .now) (c .before .before .args .pos) _ (no-first (c .before .before .args .m) (c .match .keys2))
+
+returns-2 : tie.Need-returns-2
+returns-2 c = starts-empty catalogue (c .before .before .before .before .args .s .now) (c .before .before .before .before .args .pos) _ (c .if1 .taken)
+
+first-print-requires : tie.Need-first-print-requires
+first-print-requires c κs = search needs
+
+enum-known-f : tie.Need-enum-known-f
+enum-known-f c = search needs
+
+enum-told-2 : tie.Need-enum-told-2
+enum-told-2 c = search needs
+
+returns-3 : tie.Need-returns-3
+returns-3 c = sym (ap (isAfter (c .before .before .before .before .before .before .before .before .args .pos)) (c .before .f .given .1)) ∙ starts-first catalogue (c .before .before .before .before .before .before .before .before .args .s .now) (c .before .before .before .before .before .before .before .before .args .pos) _ (c .before .before .before .before .before .enum-told .given .1) (c .before .before .before .before .if1 .left) _ (c .before .before .before .first-print .ensures)
+
+returns-4 : tie.Need-returns-4
+returns-4 c = sym (ap (isAfter (c .before .before .before .before .before .before .before .args .pos)) (c .enum-told2 .given .1)) ∙ starts-first catalogue (c .before .before .before .before .before .before .before .args .s .now) (c .before .before .before .before .before .before .before .args .pos) _ (c .before .before .before .before .enum-told .given .1) (c .before .before .before .if1 .left) _ (c .before .before .first-print .ensures)
+
+pub starts-after-spec : {M : Type 1} → statement M
+starts-after-spec =
+    tie.close
+    (tie.spec
+    enum-told
+    returns
+    returns-2
+    first-print-requires
+    enum-known-f
+    enum-told-2
+    returns-3
+    returns-4)

@@ -1,0 +1,93 @@
+-- Document 01's cases marked P, in one table, computed from the definitions that the contracts cite. Assumes nothing.
+use mathlib.Core.Path.{_≡_, refl}
+use mathlib.Core.List.{List, [], _∷_}
+use Prim.Native.Nat.{ℕ}
+use Rattle.utf8.specs.Utf8.{within, one, two, lead3, three, lead4, four, firstOf, first}
+use Rattle.utf8.specs.Chars.{charsFrom, validFrom, startBefore}
+use Rattle.utf8.specs.Encode.{scalar, size}
+use Rattle.unicode.specs.Repertoire.{catalogue, isMember, isControl, isMark, isAlnum, isWhite, widthOf}
+use Rattle.unicode.specs.Text.{isText, isChar}
+use Rattle.cluster.specs.Clusters.{joined, clusters}
+use Rattle.keymap.specs.Codes.{wordList, atList, searchList, movements}
+use Rattle.layout.specs.Width.{columnAfter, columnsAfter, width}
+use Rattle.motion.specs.Steps.{sizes, nextPos, prevPos}
+use Rattle.motion.specs.Search.{matches, nthMatch, afterCluster, matchForward, matchBackward}
+use Rattle.words.specs.Rules.{isStartOfWord, landsBehind}
+use Rattle.words.specs.Walk.{marks, graphemeIndices, scan, walk}
+use Rattle.words.specs.Words.{landsOn, nextWord, noWord, landed, nextWordPos, prevWord, prevWordPos}
+use Rattle.lines.specs.Lines.{startOfLine, beforeNewline, endOfLine, linesDown, nLinesDown}
+use Rattle.lines.specs.Columns.{nthCluster, lineAbove, lineBelow, lineUp, lineDown}
+use Rattle.checks.specs.Checks.{refusal}
+use Rattle.checks.specs.Answers.{says, places}
+use Rattle.checks.specs.declared.Line.{Line}
+use Rattle.copies.specs.Copy.{copied, startsAfter, copyCall}
+use Rattle.movement.specs.Moves.{called, moveForward, moveToPrevWord, moveToNextWord, moveTo, moveToLineUp}
+
+-- a text of len bytes with the cursor at a place
+abbrev at : ℕ → ℕ → Line
+at len cursor = record { len = len; cursor = cursor }
+
+-- "e", U+0301, "x"
+abbrev marked : List ℕ
+marked = 0x65 ∷ 0xCC ∷ 0x81 ∷ 0x78 ∷ []
+
+-- "a\r\nb"
+abbrev crlf : List ℕ
+crlf = 0x61 ∷ 0x0D ∷ 0x0A ∷ 0x62 ∷ []
+
+-- "parish box"
+abbrev parish : List ℕ
+parish = 0x70 ∷ 0x61 ∷ 0x72 ∷ 0x69 ∷ 0x73 ∷ 0x68 ∷ 0x20 ∷ 0x62 ∷ 0x6F ∷ 0x78 ∷ []
+
+-- "banana"
+abbrev banana : List ℕ
+banana = 0x62 ∷ 0x61 ∷ 0x6E ∷ 0x61 ∷ 0x6E ∷ 0x61 ∷ []
+
+-- "ab\nc\nlong"
+abbrev lines : List ℕ
+lines = 0x61 ∷ 0x62 ∷ 0x0A ∷ 0x63 ∷ 0x0A ∷ 0x6C ∷ 0x6F ∷ 0x6E ∷ 0x67 ∷ []
+
+-- "a\nb\nc"
+abbrev abc : List ℕ
+abc = 0x61 ∷ 0x0A ∷ 0x62 ∷ 0x0A ∷ 0x63 ∷ []
+
+-- codes: words Big 0, Emacs 1, Vi 2; stops Start 0, BeforeEnd 1, AfterEnd 2; search Forward 0; movement LineDown 10
+pub record Cases : Type 0 where
+  -- forward 1 from 0: 3; forward 5: 4
+  pub p1 : (moveForward catalogue marked (at 4 0) 1 ≡ says 0 (at 4 3)) × (moveForward catalogue marked (at 4 0) 5 ≡ says 0 (at 4 4))
+  -- forward 1 from 1: 3, from 2: 3; forward 0: nothing
+  pub p2 :
+      (moveForward catalogue crlf (at 4 1) 1 ≡ says 0 (at 4 3)) × (moveForward catalogue crlf (at 4 2) 1 ≡ says 0 (at 4 3)) ×
+      (moveForward catalogue crlf (at 4 1) 0 ≡ says 1 (at 4 1))
+  -- word back 1, Emacs, from 10: 7, from 7: 0
+  pub p3 :
+      (moveToPrevWord catalogue parish (at 10 10) 1 1 ≡ says 0 (at 10 7)) × (moveToPrevWord catalogue parish (at 10 7) 1 1 ≡ says 0 (at 10 0))
+  -- word forward 1 from 0, Emacs: Start 7, AfterEnd 6; Vi BeforeEnd 5
+  pub p4 :
+      (moveToNextWord catalogue parish (at 10 0) 0 1 1 ≡ says 0 (at 10 7)) × (moveToNextWord catalogue parish (at 10 0) 2 1 1 ≡ says 0 (at 10 6)) ×
+      (moveToNextWord catalogue parish (at 10 0) 1 2 1 ≡ says 0 (at 10 5))
+  -- forward 0: Emacs AfterEnd 10, Vi Start nothing
+  pub p5 :
+      (moveToNextWord catalogue parish (at 10 0) 2 1 0 ≡ says 0 (at 10 10)) × (moveToNextWord catalogue parish (at 10 0) 0 2 0 ≡ says 1 (at 10 0))
+  -- at 1, Forward a, n 2 or 9: 5; n 0: nothing
+  pub p6 :
+      (moveTo catalogue banana (at 6 1) 0 0x61 2 ≡ says 0 (at 6 5)) × (moveTo catalogue banana (at 6 1) 0 0x61 9 ≡ says 0 (at 6 5)) ×
+      (moveTo catalogue banana (at 6 1) 0 0x61 0 ≡ says 1 (at 6 1))
+  -- at 2, copy LineDown 1: places 1 to 5
+  pub p7 : copyCall catalogue abc (at 5 2) 10 1 0 0 0 0 ≡ places 1 5 (at 5 2)
+  -- at 9, prompt 0, line up 2: 4
+  pub p8 : moveToLineUp catalogue lines (at 9 9) 2 0 ≡ says 0 (at 9 4)
+
+pub cases : Cases
+unfolding within one two lead3 three lead4 four firstOf first charsFrom validFrom startBefore scalar size isMember isControl isMark isAlnum isWhite widthOf isText isChar joined clusters wordList atList searchList columnAfter columnsAfter width sizes nextPos prevPos matches nthMatch afterCluster matchForward matchBackward isStartOfWord landsBehind marks graphemeIndices scan walk landsOn nextWord noWord landed nextWordPos prevWord prevWordPos startOfLine beforeNewline endOfLine nthCluster lineAbove lineBelow lineUp lineDown linesDown nLinesDown movements copied startsAfter refusal called
+cases =
+    record {
+      p1 = (refl, refl);
+      p2 = (refl, refl, refl);
+      p3 = (refl, refl);
+      p4 = (refl, refl, refl);
+      p5 = (refl, refl);
+      p6 = (refl, refl, refl);
+      p7 = refl;
+      p8 = refl;
+    }

@@ -1,0 +1,1 @@
+// What is proved of whole sessions, and the cases P1 to P13 of document 01. No function: proofs/ is all of it.

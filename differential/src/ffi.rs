@@ -1,0 +1,51 @@
+//! The C interface of the library, as `include/tulofewa.h` has it. A buffer is a pointer and its length; the state goes
+//! in by value and comes back in the answer.
+
+#[repr(C)]
+#[derive(Clone, Copy, Debug, PartialEq, Eq)]
+pub struct Line {
+    pub len: usize,
+    pub cursor: usize,
+}
+
+#[repr(C)]
+#[derive(Clone, Copy, Debug, PartialEq, Eq)]
+pub struct LineAnswer {
+    pub number: u32,
+    pub from: usize,
+    pub to: usize,
+    pub line: Line,
+}
+
+// T: a text is lent and not written.
+#[rustfmt::skip]
+unsafe extern "C" {
+    pub fn tlf_line_next_pos(text: *const u8, text_len: usize, line: Line, n: u16) -> LineAnswer;
+    pub fn tlf_line_copy(
+        text: *const u8, text_len: usize, line: Line, mvt: u32, n: u16, at: u32, word: u32, search: u32, ch: u32,
+    ) -> LineAnswer;
+    pub fn tlf_line_is_cursor_at_end(text: *const u8, text_len: usize, line: Line) -> LineAnswer;
+    pub fn tlf_line_is_end_of_input(text: *const u8, text_len: usize, line: Line) -> LineAnswer;
+    pub fn tlf_line_set_pos(text: *const u8, text_len: usize, line: Line, pos: usize) -> LineAnswer;
+    pub fn tlf_line_move_forward(text: *const u8, text_len: usize, line: Line, n: u16) -> LineAnswer;
+    pub fn tlf_line_move_backward(text: *const u8, text_len: usize, line: Line, n: u16) -> LineAnswer;
+    pub fn tlf_line_move_buffer_start(text: *const u8, text_len: usize, line: Line) -> LineAnswer;
+    pub fn tlf_line_move_buffer_end(text: *const u8, text_len: usize, line: Line) -> LineAnswer;
+    pub fn tlf_line_move_home(text: *const u8, text_len: usize, line: Line) -> LineAnswer;
+    pub fn tlf_line_move_end(text: *const u8, text_len: usize, line: Line) -> LineAnswer;
+    pub fn tlf_line_move_to_prev_word(
+        text: *const u8, text_len: usize, line: Line, word: u32, n: u16,
+    ) -> LineAnswer;
+    pub fn tlf_line_move_to_next_word(
+        text: *const u8, text_len: usize, line: Line, at: u32, word: u32, n: u16,
+    ) -> LineAnswer;
+    pub fn tlf_line_move_to_line_up(
+        text: *const u8, text_len: usize, line: Line, n: u16, prompt: usize,
+    ) -> LineAnswer;
+    pub fn tlf_line_move_to_line_down(
+        text: *const u8, text_len: usize, line: Line, n: u16, prompt: usize,
+    ) -> LineAnswer;
+    pub fn tlf_line_move_to(
+        text: *const u8, text_len: usize, line: Line, search: u32, ch: u32, n: u16,
+    ) -> LineAnswer;
+}

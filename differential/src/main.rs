@@ -1,0 +1,43 @@
+//! Compares the library with the unchanged text of rustyline 19.0.0: `differential [N] [SEED]`.
+mod account;
+mod checks;
+mod ffi;
+mod r#gen;
+mod lent;
+mod line_calls;
+mod line_parts;
+mod oracle;
+mod shrink;
+mod tally;
+
+// rustyline's own modules: line_buffer, undo, kill_ring, layout, and of keymap what build.rs cuts out.
+include!(concat!(env!("OUT_DIR"), "/rustyline.rs"));
+
+use std::process::ExitCode;
+use std::time::Instant;
+
+/// From here on a call must have been seen with every number that it can give.
+const ENOUGH: u64 = 200_000;
+
+fn main() -> ExitCode {
+    let mut words = std::env::args().skip(1).map(|word| word.parse::<u64>());
+    let (Ok(n), Ok(seed)) = (words.next().unwrap_or(Ok(ENOUGH)), words.next().unwrap_or(Ok(1))) else {
+        eprintln!("usage: differential/run [N] [SEED]");
+        return ExitCode::from(2);
+    };
+    // Each input is told before its call: for a library that ends the program.
+    let trace = std::env::var_os("DIFFERENTIAL_TRACE").is_some();
+    let began = Instant::now();
+    let mut tally = tally::Tally::new(line_calls::ENTRIES.iter().map(|entry| (entry.name, entry.gives)));
+    if let Err(account) = line_parts::run(n, seed, trace, &mut tally) {
+        print!("N {n}, seed {seed}: {account}");
+        return ExitCode::FAILURE;
+    }
+    tally.print();
+    let [tab, cr, newline] = oracle::control_widths();
+    println!("the Rust's width of U+0009, \\r, \\n: {tab}, {cr}, {newline}");
+    println!("{n} comparisons, seed {seed}, no difference, {:.1} s", began.elapsed().as_secs_f64());
+    let gaps = if n >= ENOUGH { tally.gaps() } else { Vec::new() };
+    gaps.iter().for_each(|gap| println!("{gap}"));
+    if gaps.is_empty() { ExitCode::SUCCESS } else { ExitCode::FAILURE }
+}

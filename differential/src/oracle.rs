@@ -1,0 +1,130 @@
+//! The Rust's side: rustyline's own `LineBuffer`, with `can_growth(true)`.
+use crate::keymap::{At, CharSearch, Movement, Word};
+use crate::layout::{GraphemeClusterMode, Layout};
+use crate::line_buffer::{DeleteListener, Direction, LineBuffer, NoListener};
+use crate::line_calls::Args;
+
+/// What the Rust decides: the places of answer 0, or `None` for answer 1. The cursor stays in the line buffer.
+pub type Outcome = Option<(usize, usize)>;
+
+pub fn line_buffer(text: &str, cursor: usize) -> LineBuffer {
+    let mut line = LineBuffer::with_capacity(crate::checks::MAX_TEXT).can_growth(true);
+    line.update(text, cursor, &mut NoListener);
+    line
+}
+
+/// The outcome of a call that answers no place.
+pub fn done(yes: bool) -> Outcome {
+    yes.then_some((0, 0))
+}
+
+pub fn word(code: u32) -> Word {
+    [Word::Big, Word::Emacs, Word::Vi][code as usize]
+}
+
+pub fn at(code: u32) -> At {
+    [At::Start, At::BeforeEnd, At::AfterEnd][code as usize]
+}
+
+pub fn search(code: u32, ch: u32) -> CharSearch {
+    let ch = char::from_u32(ch).expect("a character of the repertoire");
+    match code {
+        0 => CharSearch::Forward(ch),
+        1 => CharSearch::ForwardBefore(ch),
+        2 => CharSearch::Backward(ch),
+        3 => CharSearch::BackwardAfter(ch),
+        _ => unreachable!("check 3"),
+    }
+}
+
+pub fn movement(a: &Args) -> Movement {
+    match a.mvt {
+        0 => Movement::WholeLine,
+        1 => Movement::BeginningOfLine,
+        2 => Movement::EndOfLine,
+        3 => Movement::BackwardWord(a.n, word(a.word)),
+        4 => Movement::ForwardWord(a.n, at(a.at), word(a.word)),
+        5 => Movement::ViCharSearch(a.n, search(a.search, a.ch)),
+        6 => Movement::ViFirstPrint,
+        7 => Movement::BackwardChar(a.n),
+        8 => Movement::ForwardChar(a.n),
+        9 => Movement::LineUp(a.n),
+        10 => Movement::LineDown(a.n),
+        11 => Movement::WholeBuffer,
+        12 => Movement::BeginningOfBuffer,
+        13 => Movement::EndOfBuffer,
+        _ => unreachable!("check 3"),
+    }
+}
+
+/// Where ViFirstPrint starts: the Rust's `next_word_pos(0, At::Start, Word::Big, 1)`.
+pub fn first_print(line: &mut LineBuffer) -> Option<usize> {
+    line.set_pos(0);
+    line.move_to_next_word(At::Start, Word::Big, 1).then(|| line.pos())
+}
+
+/// The Rust's copy answers the text. Its places: one end is the cursor, save for the whole buffer and for lines.
+pub fn copy(line: &LineBuffer, mvt: &Movement) -> Outcome {
+    let text = line.copy(mvt)?;
+    let cursor = line.pos();
+    let (from, to) = match mvt {
+        Movement::EndOfLine
+        | Movement::ForwardWord(..)
+        | Movement::ViCharSearch(_, CharSearch::Forward(_) | CharSearch::ForwardBefore(_))
+        | Movement::ForwardChar(_)
+        | Movement::EndOfBuffer => (cursor, cursor + text.len()),
+        Movement::WholeLine
+        | Movement::BeginningOfLine
+        | Movement::BackwardWord(..)
+        | Movement::ViCharSearch(_, CharSearch::Backward(_) | CharSearch::BackwardAfter(_))
+        | Movement::ViFirstPrint
+        | Movement::BackwardChar(_)
+        | Movement::BeginningOfBuffer => (cursor - text.len(), cursor),
+        Movement::WholeBuffer => (0, text.len()),
+        Movement::LineUp(_) | Movement::LineDown(_) => killed(line, mvt)?,
+    };
+    assert_eq!(&line.as_str()[from..to], text, "the places are those of the text copied");
+    Some((from, to))
+}
+
+/// The places between which the Rust's kill cuts: for lines the range that copy takes.
+fn killed(line: &LineBuffer, mvt: &Movement) -> Outcome {
+    let mut cut = Cut(None);
+    line_buffer(line.as_str(), line.pos()).kill(mvt, &mut cut);
+    cut.0
+}
+
+struct Cut(Outcome);
+
+impl DeleteListener for Cut {
+    fn delete(&mut self, from: usize, text: &str, _: Direction) {
+        self.0 = Some((from, from + text.len()));
+    }
+}
+
+/// A line move: `go` is the Rust's, its layout in Unicode mode with this prompt column.
+///
+/// It measures the cursor's line up to the cursor. The width of U+0009 and \r differs between versions of the Unicode
+/// crate, so document 01 has each count 1 and leaves such a move out of the comparison. Here the Rust then moves in a
+/// stand-in, where each of them in the measured part is a letter: every place, every newline and every cluster of the
+/// other lines are the same.
+pub fn line_move(line: &mut LineBuffer, prompt: usize, go: impl Fn(&mut LineBuffer, &Layout) -> bool) -> Outcome {
+    let mut layout = Layout::new(GraphemeClusterMode::Unicode);
+    layout.prompt_size.col = u16::try_from(prompt).expect("check 7");
+    let before = &line.as_str()[..line.pos()];
+    let measured = before.rfind('\n').map_or(0, |newline| newline + 1);
+    if !before[measured..].contains(['\t', '\r']) {
+        return done(go(line, &layout));
+    }
+    let letters = before[measured..].replace(['\t', '\r'], "x");
+    let text = [&before[..measured], &letters, &line.as_str()[line.pos()..]].concat();
+    let mut stand_in = line_buffer(&text, line.pos());
+    let yes = go(&mut stand_in, &layout);
+    line.set_pos(stand_in.pos());
+    done(yes)
+}
+
+/// The widths that the Rust's crate gives U+0009, \r and \n.
+pub fn control_widths() -> [u16; 3] {
+    ["\t", "\r", "\n"].map(|c| Layout::new(GraphemeClusterMode::Unicode).width(c))
+}
