@@ -1,7 +1,7 @@
 -- The last element of a list, and what stands before it. Assumes nothing.
-use mathlib.Core.Path.{_≡_, refl, ap}
+use mathlib.Core.Path.{_≡_, refl}
 use mathlib.Core.List.{List, [], _∷_, _++_}
-use Rattle.lists.specs.Lists.{lastOr, init}
+use Rattle.lists.specs.Lists.{lastOr}
 
 module _ {A : Type 0} where
   pub last-snoc : (z : A) (l : List A) (x : A) → lastOr z (l ++ (x ∷ [])) ≡ x
@@ -9,8 +9,15 @@ module _ {A : Type 0} where
   last-snoc z [] x = refl
   last-snoc z (y ∷ l) x = last-snoc y l x
 
-  pub init-snoc : (l : List A) (x : A) → init (l ++ (x ∷ [])) ≡ l
-  unfolding init
-  init-snoc [] x = refl
-  init-snoc (y ∷ []) x = refl
-  init-snoc (y ∷ (w ∷ l)) x = ap (λ (m : List A). y ∷ m) (init-snoc (w ∷ l) x)
+  -- a list read from its end
+  pub data Snoc : List A → Type 0 where
+    empty : Snoc []
+    ended : (l : List A) (x : A) → Snoc (l ++ (x ∷ []))
+
+  snoc-cons : (y : A) {l : List A} → Snoc l → Snoc (y ∷ l)
+  snoc-cons y empty = ended [] y
+  snoc-cons y (ended l x) = ended (y ∷ l) x
+
+  pub snoc : (l : List A) → Snoc l
+  snoc [] = empty
+  snoc (y ∷ l) = snoc-cons y (snoc l)

@@ -30,9 +30,3 @@ module _ {A : Type 0} where
   unfoldable pub lastOr : A → List A → A
   lastOr z [] = z
   lastOr z (x ∷ l) = lastOr x l
-
-  -- all but the last element
-  unfoldable pub init : List A → List A
-  init [] = []
-  init (x ∷ []) = []
-  init (x ∷ (y ∷ l)) = x ∷ init (y ∷ l)

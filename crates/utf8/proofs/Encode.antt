@@ -1,6 +1,6 @@
 -- Laws of the bytes of a code point: they are read back as it, and every character has the bytes of its code point. Assumes nothing.
 use mathlib.Core.Path.{_≡_, refl, sym, ap, _∙_}
-use mathlib.Core.Bool.{Bool, true, false, cond, _&&_, not, and-false}
+use mathlib.Core.Bool.{true, false, _&&_, not, and-false}
 use mathlib.Core.List.{List, [], _∷_, _++_, append-assoc}
 use mathlib.Core.Logic.{⊎-elim, _⊎_, inl, inr}
 use Prim.Native.Nat.{ℕ, suc, _+_, _*_, _/_, _%_, _<_, _≤_}
@@ -51,16 +51,6 @@ row-four c l =
 by-row : (P : Type 0) (c : ℕ) → (c ≤ 0x7F → P) → (0x7F < c → c ≤ 0x7FF → P) → (0x7FF < c → c ≤ 0xFFFF → P) → (0xFFFF < c → P) → P
 by-row P c f1 f2 f3 f4 =
     by-less _ 0x7F c (λ l. by-less _ 0x7FF c (λ m. by-less _ 0xFFFF c f4 (f3 m)) (f2 l)) f1
-
-pub size-le : (c : ℕ) → size c ≤ 4
-unfolding size
-size-le c = go (leb c 0x7F) (leb c 0x7FF) (leb c 0xFFFF)
-  where
-    go : (x y z : Bool) → cond x 1 (cond y 2 (cond z 3 4)) ≤ 4
-    go true y z = omega arith
-    go false true z = omega arith
-    go false false true = omega arith
-    go false false false = omega arith
 
 pub size-encode : (c : ℕ) → length (encode c) ≡ size c
 size-encode c =

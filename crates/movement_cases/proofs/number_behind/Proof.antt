@@ -3,32 +3,22 @@ use borrow.Author.Tests.{not-false}
 use borrow.Author.Needs.{needs}
 use Rattle.movement_cases.proofs.number_behind.Statement.{statement}
 use Rattle.movement_cases.proofs.number_behind.Tie as tie
-use Rattle.movement_cases.proofs.number_behind.Reads as reads
-use Rattle.movement_cases.proofs.number_behind.Lts as lts
-use Rattle.movement_cases.proofs.is_at.Reads as is-at-reads
-use Rattle.movement_cases.proofs.number_at.Reads as number-at-reads
 
--- src/main.rt:92:9
 is-at-requires : tie.Need-is-at-requires
 is-at-requires c κs = search needs
 
--- src/main.rt:93:9
 returns : tie.Need-returns
 returns c = search needs
 
--- src/main.rt:95:17
 add-start : tie.Need-add-start
 add-start c = search needs
 
--- src/main.rt:96:9
 number-at-requires : tie.Need-number-at-requires
 number-at-requires c κs = omega (arith, c .before .is-at .ensures (not-false _ (c .if1 .left)))
 
--- src/main.rt:84:1
 returns-2 : tie.Need-returns-2
 returns-2 c = search needs
 
--- src/main.rt:84:1
 returns-3 : tie.Need-returns-3
 returns-3 c = search needs
 

@@ -3,8 +3,6 @@ use Prim.Native.Nat.{_-_, _≤_}
 use lib.ListN.{length}
 use Rattle.movement_cases.proofs.place_of.Statement.{statement}
 use Rattle.movement_cases.proofs.place_of.Tie as tie
-use Rattle.movement_cases.proofs.place_of.Reads as reads
-use Rattle.movement_cases.proofs.place_of.Lts as lts
 
 abbrev Inv-loop : tie.InvT-loop
 Inv-loop s from b at₀ at = (from ≤ at) × (at ≤ length s)
@@ -12,31 +10,24 @@ Inv-loop s from b at₀ at = (from ≤ at) × (at ≤ length s)
 abbrev μ-loop : tie.MeasureT-loop
 μ-loop s from b at₀ at = length s - at
 
--- src/main.rt:353:5
 loop-holds : tie.Need-loop-holds Inv-loop μ-loop
 loop-holds c = search needs
 
--- src/main.rt:354:12
 shared-slice-read-if1 : tie.Need-shared-slice-read-if1 Inv-loop μ-loop
 shared-slice-read-if1 c = search needs
 
--- src/main.rt:355:13
 returns : tie.Need-returns Inv-loop μ-loop
 returns c = search needs
 
--- src/main.rt:357:9
 add-at : tie.Need-add-at Inv-loop μ-loop
 add-at c = search needs
 
--- src/main.rt:353:5
 loop-less : tie.Need-loop-less Inv-loop μ-loop
 loop-less c = search needs
 
--- src/main.rt:353:5
 loop-again : tie.Need-loop-again Inv-loop μ-loop
 loop-again c = search needs
 
--- src/main.rt:348:1
 returns-2 : tie.Need-returns-2 Inv-loop μ-loop
 returns-2 c = search needs
 

@@ -3,12 +3,6 @@ use Prim.Native.Nat.{_-_, _≤_}
 use lib.ListN.{length}
 use Rattle.movement_cases.proofs.total.Statement.{statement}
 use Rattle.movement_cases.proofs.total.Tie as tie
-use Rattle.movement_cases.proofs.total.Reads as reads
-use Rattle.movement_cases.proofs.total.Lts as lts
-use Rattle.movement_cases.proofs.counted.Reads as counted-reads
-use Rattle.movement_cases.proofs.past.Reads as past-reads
-use Rattle.movement_cases.proofs.place_of.Reads as place-of-reads
-use Rattle.movement_cases.proofs.report.Reads as report-reads
 
 abbrev Inv-loop : tie.InvT-loop
 Inv-loop s cases₀ agreed₀ number₀ at₀ cases agreed number at = (at ≤ length s) × (cases ≤ at) × (agreed ≤ at) × (number ≤ at)
@@ -16,59 +10,45 @@ Inv-loop s cases₀ agreed₀ number₀ at₀ cases agreed number at = (at ≤ l
 abbrev μ-loop : tie.MeasureT-loop
 μ-loop s cases₀ agreed₀ number₀ at₀ cases agreed number at = length s - at
 
--- src/main.rt:428:5
 loop-holds : tie.Need-loop-holds Inv-loop μ-loop
 loop-holds c = search needs
 
--- src/main.rt:429:13
 place-of-requires : tie.Need-place-of-requires Inv-loop μ-loop
 place-of-requires c κs = search needs
 
--- src/main.rt:430:25
 sub-counted : tie.Need-sub-counted Inv-loop μ-loop
 sub-counted c = search needs
 
--- src/main.rt:430:25
 part-counted-start : tie.Need-part-counted-start Inv-loop μ-loop
 part-counted-start c = search needs
 
--- src/main.rt:430:25
 part-counted-end : tie.Need-part-counted-end Inv-loop μ-loop
 part-counted-end c = search needs
 
--- src/main.rt:430:13
 counted-requires : tie.Need-counted-requires Inv-loop μ-loop
 counted-requires c κs = search needs
 
--- src/main.rt:431:9
 add-number : tie.Need-add-number Inv-loop μ-loop
 add-number c = search needs
 
--- src/main.rt:432:9
 report-requires : tie.Need-report-requires Inv-loop μ-loop
 report-requires c κs = search needs
 
--- src/main.rt:433:9
 add-cases : tie.Need-add-cases Inv-loop μ-loop
 add-cases c = search needs
 
--- src/main.rt:434:9
 add-agreed : tie.Need-add-agreed Inv-loop μ-loop
 add-agreed c = search needs
 
--- src/main.rt:435:9
 past-requires : tie.Need-past-requires Inv-loop μ-loop
 past-requires c κs = search needs
 
--- src/main.rt:428:5
 loop-less : tie.Need-loop-less Inv-loop μ-loop
 loop-less c = search needs
 
--- src/main.rt:428:5
 loop-again : tie.Need-loop-again Inv-loop μ-loop
 loop-again c = search needs
 
--- src/main.rt:423:1
 returns : tie.Need-returns Inv-loop μ-loop
 returns c = search needs
 

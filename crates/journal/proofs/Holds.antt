@@ -1,0 +1,235 @@
+-- The two lists in the two buffers: each list by itself, a record put behind, the seam moved, the last record written over, the list cut. Assumes nothing.
+use Prim.Native.Nat.{ℕ, _+_, _-_, _≤_}
+use native.Mathlib.Omega.{arith}
+use mathlib.Core.Path.{_≡_, refl, sym, ap, ap₂, subst, _∙_}
+use mathlib.Core.List.{List, [], _∷_, _++_, append-assoc, append-nil}
+use lib.ListN.{length, take, drop, length-append, take-append-drop}
+use lib.Seq.{take-add, length-take-le, take-take, sets, length-sets, take-at, drop-at}
+use Rattle.lists.proofs.Parts.{drop-take}
+use Rattle.lists.proofs.Stores.{take-sets}
+use Rattle.unicode.specs.Repertoire.{Repertoire}
+use Rattle.journal.specs.Change.{Change}
+use Rattle.journal.specs.Layout.{Format, recordOf, textsOf, encodeRecords, encodeTexts, Good, AllGood, Layout}
+use Rattle.journal.specs.Hold.{Holds}
+
+-- ---- lists of changes one behind the other
+pub records-append : (F : Format) (xs ys : List Change) → encodeRecords F (xs ++ ys) ≡ encodeRecords F xs ++ encodeRecords F ys
+records-append F [] ys = refl
+records-append F (a ∷ xs) ys = rw (records-append F xs ys) (sym (append-assoc (recordOf F a) (encodeRecords F xs) (encodeRecords F ys)))
+
+pub texts-append : (xs ys : List Change) → encodeTexts (xs ++ ys) ≡ encodeTexts xs ++ encodeTexts ys
+texts-append [] ys = refl
+texts-append (a ∷ xs) ys = rw (texts-append xs ys) (sym (append-assoc (textsOf a) (encodeTexts xs) (encodeTexts ys)))
+
+-- one record behind the others
+pub records-snoc : (F : Format) (xs : List Change) (c : Change) → encodeRecords F (xs ++ (c ∷ [])) ≡ encodeRecords F xs ++ recordOf F c
+records-snoc F xs c = records-append F xs (c ∷ []) ∙ rw (append-nil (recordOf F c))
+
+pub texts-snoc : (xs : List Change) (c : Change) → encodeTexts (xs ++ (c ∷ [])) ≡ encodeTexts xs ++ textsOf c
+texts-snoc xs c = texts-append xs (c ∷ []) ∙ rw (append-nil (textsOf c))
+
+module _ (R : Repertoire) (w : ℕ) where
+  pub good-append : (xs ys : List Change) → AllGood R w xs → AllGood R w ys → AllGood R w (xs ++ ys)
+  good-append [] ys h i = i
+  good-append (a ∷ xs) ys h i = (h .0, good-append xs ys (h .1) i)
+
+  pub good-left : (xs ys : List Change) → AllGood R w (xs ++ ys) → AllGood R w xs
+  good-left [] ys h = tt
+  good-left (a ∷ xs) ys h = (h .0, good-left xs ys (h .1))
+
+  pub good-right : (xs ys : List Change) → AllGood R w (xs ++ ys) → AllGood R w ys
+  good-right [] ys h = h
+  good-right (a ∷ xs) ys h = good-right xs ys (h .1)
+
+module _ (R : Repertoire) (F : Format) where
+  pub layout-nil : Layout R F [] [] []
+  layout-nil = record { records = refl; texts = refl; good = tt }
+
+  pub layout-one : (c : Change) → Good R (F .width) c → Layout R F (recordOf F c) (textsOf c) (c ∷ [])
+  layout-one c h = record { records = sym (append-nil (recordOf F c)); texts = sym (append-nil (textsOf c)); good = (h, tt) }
+
+  pub layout-append : (r1 t1 r2 t2 : List ℕ) (xs ys : List Change) → Layout R F r1 t1 xs → Layout R F r2 t2 ys → Layout R F (r1 ++ r2) (t1 ++ t2) (xs ++ ys)
+  layout-append r1 t1 r2 t2 xs ys x y =
+      record {
+        records = ap₂ _++_ (x .records) (y .records) ∙ sym (records-append F xs ys);
+        texts = ap₂ _++_ (x .texts) (y .texts) ∙ sym (texts-append xs ys);
+        good = good-append R (F .width) xs ys (x .good) (y .good);
+      }
+
+  -- the parts of a layout, at the places n and m where the first list ends
+  pub layout-left : (rs ts : List ℕ) (n m : ℕ) (xs ys : List Change) → Layout R F rs ts (xs ++ ys) → n ≡ length (encodeRecords F xs) → m ≡ length (encodeTexts xs)
+      → Layout R F (take n rs) (take m ts) xs
+  layout-left rs ts n m xs ys x e f =
+      record {
+        records = ap (take n) (x .records ∙ records-append F xs ys) ∙ take-at (encodeRecords F xs) (encodeRecords F ys) n (sym e);
+        texts = ap (take m) (x .texts ∙ texts-append xs ys) ∙ take-at (encodeTexts xs) (encodeTexts ys) m (sym f);
+        good = good-left R (F .width) xs ys (x .good);
+      }
+
+  pub layout-right : (rs ts : List ℕ) (n m : ℕ) (xs ys : List Change) → Layout R F rs ts (xs ++ ys) → n ≡ length (encodeRecords F xs) → m ≡ length (encodeTexts xs)
+      → Layout R F (drop n rs) (drop m ts) ys
+  layout-right rs ts n m xs ys x e f =
+      record {
+        records = ap (drop n) (x .records ∙ records-append F xs ys) ∙ drop-at (encodeRecords F xs) (encodeRecords F ys) n (sym e);
+        texts = ap (drop m) (x .texts ∙ texts-append xs ys) ∙ drop-at (encodeTexts xs) (encodeTexts ys) m (sym f);
+        good = good-right R (F .width) xs ys (x .good);
+      }
+
+  module _ (rb tb : List ℕ) (ur ut rr rt : ℕ) (us rs : List Change) where
+    -- from a layout of each list
+    pub holds : ur + rr ≤ length rb → ut + rt ≤ length tb → Layout R F (take ur rb) (take ut tb) us → Layout R F (take rr (drop ur rb)) (take rt (drop ut tb)) rs
+        → Holds R F rb tb ur ut rr rt us rs
+    holds h i x y =
+        record {
+          both = rw (take-add ur rr rb, take-add ut rt tb) (layout-append (take ur rb) (take ut tb) (take rr (drop ur rb)) (take rt (drop ut tb)) us rs x y);
+          records = sym (length-take-le ur rb (omega arith)) ∙ ap length (x .records);
+          texts = sym (length-take-le ut tb (omega arith)) ∙ ap length (x .texts);
+          room = h;
+          space = i;
+        }
+
+    -- the undo list by itself
+    pub front : Holds R F rb tb ur ut rr rt us rs → Layout R F (take ur rb) (take ut tb) us
+    front h =
+        rw (← take-take ur (ur + rr) rb (omega arith), ← take-take ut (ut + rt) tb (omega arith))
+        (layout-left (take (ur + rr) rb) (take (ut + rt) tb) ur ut us rs (h .both) (h .records) (h .texts))
+
+    -- the redo list by itself
+    pub behind : Holds R F rb tb ur ut rr rt us rs → Layout R F (take rr (drop ur rb)) (take rt (drop ut tb)) rs
+    behind h =
+        let e : ur + rr - ur ≡ rr = omega arith in
+        let f : ut + rt - ut ≡ rt = omega arith in
+        rw (drop-take ur (ur + rr) rb, drop-take ut (ut + rt) tb, e, f) at (layout-right (take (ur + rr) rb) (take (ut + rt) tb) ur ut us rs (h .both) (h .records) (h .texts))
+
+  -- the undo list alone
+  pub holds-alone : (rb tb : List ℕ) (ur ut : ℕ) (us : List Change) → ur ≤ length rb → ut ≤ length tb → Layout R F (take ur rb) (take ut tb) us → Holds R F rb tb ur ut 0 0 us []
+  holds-alone rb tb ur ut us h i x = holds rb tb ur ut 0 0 us [] (omega arith) (omega arith) x layout-nil
+
+  module _ (rb tb : List ℕ) (ur ut rr rt : ℕ) (us rs : List Change) (h : Holds R F rb tb ur ut rr rt us rs) where
+    -- the redo list dropped
+    pub cleared : Holds R F rb tb ur ut 0 0 us []
+    cleared = holds-alone rb tb ur ut us (omega arith) (omega arith) (front rb tb ur ut rr rt us rs h)
+
+    -- a record behind the undo list, the redo list dropped
+    pub pushed : (c : Change) → Good R (F .width) c → ur + length (recordOf F c) ≤ length rb → ut + length (textsOf c) ≤ length tb
+        → Holds R F (sets rb ur (recordOf F c)) (sets tb ut (textsOf c)) (ur + length (recordOf F c)) (ut + length (textsOf c)) 0 0 (us ++ (c ∷ [])) []
+    pushed c g i j =
+        holds-alone (sets rb ur (recordOf F c)) (sets tb ut (textsOf c)) (ur + length (recordOf F c)) (ut + length (textsOf c)) (us ++ (c ∷ []))
+        (simp length-sets (omega arith)) (simp length-sets (omega arith))
+        (rw (take-sets rb ur (recordOf F c) i, take-sets tb ut (textsOf c) j)
+        (layout-append (take ur rb) (take ut tb) (recordOf F c) (textsOf c) us (c ∷ []) (front rb tb ur ut rr rt us rs h) (layout-one c g)))
+
+    -- the first n records kept
+    pub cut : (n : ℕ) → Holds R F rb tb (length (encodeRecords F (take n us))) (length (encodeTexts (take n us))) 0 0 (take n us) []
+    cut n =
+        holds-alone rb tb i j (take n us) (omega (arith, below)) (omega (arith, within))
+        (rw (take-take i ur rb below, take-take j ut tb within)
+        at (layout-left (take ur rb) (take ut tb) i j (take n us) (drop n us) (subst (Layout R F (take ur rb) (take ut tb)) parts (front rb tb ur ut rr rt us rs h)) refl refl))
+      where
+        i : ℕ
+        i = length (encodeRecords F (take n us))
+
+        j : ℕ
+        j = length (encodeTexts (take n us))
+
+        parts : us ≡ take n us ++ drop n us
+        parts = sym (take-append-drop n us)
+
+        below : i ≤ ur
+        below = omega (arith, h .records, ap (λ (x : List Change). length (encodeRecords F x)) parts, ap length (records-append F (take n us) (drop n us)), length-append (encodeRecords F (take n us)) (encodeRecords F (drop n us)))
+
+        within : j ≤ ut
+        within = omega (arith, h .texts, ap (λ (x : List Change). length (encodeTexts x)) parts, ap length (texts-append (take n us) (drop n us)), length-append (encodeTexts (take n us)) (encodeTexts (drop n us)))
+
+  -- ---- the seam moved: the bytes stay, only the lengths change
+  module _ (rb tb : List ℕ) (ur ut rr rt n m : ℕ) where
+    -- the records vs, last of the undo list, become the first of the redo list
+    pub moved-back : (us vs rs : List Change) → Holds R F rb tb (ur + n) (ut + m) rr rt (us ++ vs) rs → n ≡ length (encodeRecords F vs) → m ≡ length (encodeTexts vs)
+        → Holds R F rb tb ur ut (n + rr) (m + rt) us (vs ++ rs)
+    moved-back us vs rs h e f =
+        let ar : ur + n + rr ≡ ur + (n + rr) = omega arith in
+        let at : ut + m + rt ≡ ut + (m + rt) = omega arith in
+        record {
+          both = rw (ar, at, append-assoc us vs rs) at (h .both);
+          records = omega (arith, simp (records-append, length-append) at (h .records));
+          texts = omega (arith, simp (texts-append, length-append) at (h .texts));
+          room = omega arith;
+          space = omega arith;
+        }
+
+    -- the records vs, first of the redo list, become the last of the undo list
+    pub moved-on : (us vs rs : List Change) → Holds R F rb tb ur ut (n + rr) (m + rt) us (vs ++ rs) → n ≡ length (encodeRecords F vs) → m ≡ length (encodeTexts vs)
+        → Holds R F rb tb (ur + n) (ut + m) rr rt (us ++ vs) rs
+    moved-on us vs rs h e f =
+        let ar : ur + (n + rr) ≡ ur + n + rr = omega arith in
+        let at : ut + (m + rt) ≡ ut + m + rt = omega arith in
+        record {
+          both = rw (ar, at, ← append-assoc us vs rs) at (h .both);
+          records = simp (records-append, length-append) (omega arith);
+          texts = simp (texts-append, length-append) (omega arith);
+          room = omega arith;
+          space = omega arith;
+        }
+
+    -- the last record of the undo list becomes the first of the redo list
+    pub undone : (us rs : List Change) (c : Change) → Holds R F rb tb (ur + n) (ut + m) rr rt (us ++ (c ∷ [])) rs → n ≡ length (recordOf F c) → m ≡ length (textsOf c)
+        → Holds R F rb tb ur ut (n + rr) (m + rt) us (c ∷ rs)
+    undone us rs c h e f = moved-back us (c ∷ []) rs h (rw (append-nil (recordOf F c)) e) (rw (append-nil (textsOf c)) f)
+
+    -- the first record of the redo list becomes the last of the undo list
+    pub redone : (us rs : List Change) (c : Change) → Holds R F rb tb ur ut (n + rr) (m + rt) us (c ∷ rs) → n ≡ length (recordOf F c) → m ≡ length (textsOf c)
+        → Holds R F rb tb (ur + n) (ut + m) rr rt (us ++ (c ∷ [])) rs
+    redone us rs c h e f = moved-on us (c ∷ []) rs h (rw (append-nil (recordOf F c)) e) (rw (append-nil (textsOf c)) f)
+
+  -- ---- the last record of the undo list written over by another, the redo list dropped
+  -- the buffers begin with the records and the texts before it and with those of d
+  pub replaced-by : (rb tb : List ℕ) (ur ut rr rt : ℕ) (us rs : List Change) (c d : Change) → Holds R F rb tb ur ut rr rt (us ++ (c ∷ [])) rs → Good R (F .width) d
+      → (rb' tb' : List ℕ) (n m : ℕ) → n ≤ length rb' → m ≤ length tb' → take n rb' ≡ encodeRecords F us ++ recordOf F d → take m tb' ≡ encodeTexts us ++ textsOf d
+      → Holds R F rb' tb' n m 0 0 (us ++ (d ∷ [])) []
+  replaced-by rb tb ur ut rr rt us rs c d h g rb' tb' n m i j e f =
+      holds-alone rb' tb' n m (us ++ (d ∷ [])) i j
+      (record {
+        records = e ∙ sym (records-snoc F us d);
+        texts = f ∙ sym (texts-snoc us d);
+        good = good-append R (F .width) us (d ∷ []) (good-left R (F .width) us (c ∷ []) (good-left R (F .width) (us ++ (c ∷ [])) rs (h .both .good))) (g, tt);
+      })
+
+  -- what two lists begin with, in a buffer that holds the first behind a list p
+  shared-front : (l p a x y : List ℕ) (n at : ℕ) → take n l ≡ p ++ a → a ≡ x ++ y → at ≡ length p → n ≤ length l → take (at + length x) l ≡ p ++ x
+  shared-front l p a x y n at e f g h =
+      let k : n ≡ length p + (length x + length y) = sym (length-take-le n l h) ∙ ap length (e ∙ ap (λ (z : List ℕ). p ++ z) f) ∙ simp length-append in
+      sym (take-take (at + length x) n l (omega arith))
+      ∙ ap (take (at + length x)) (e ∙ ap (λ (z : List ℕ). p ++ z) f ∙ sym (append-assoc p x y))
+      ∙ take-at (p ++ x) y (at + length x) (simp length-append (omega arith))
+
+  -- behind what they begin with, v is stored
+  tail-stored : (l p a x y b v : List ℕ) (n at : ℕ) → take n l ≡ p ++ a → a ≡ x ++ y → b ≡ x ++ v → at ≡ length p → n ≤ length l → at + length b ≤ length l
+      → take (at + length b) (sets l (at + length x) v) ≡ p ++ b
+  tail-stored l p a x y b v n at e f g i h j =
+      let k : length b ≡ length x + length v = ap length g ∙ length-append x v in
+      let q : at + length b ≡ at + length x + length v = omega arith in
+      rw q
+      (take-sets l (at + length x) v (omega arith) ∙ ap (λ (z : List ℕ). z ++ v) (shared-front l p a x y n at e f i h) ∙ append-assoc p x v ∙ ap (λ (z : List ℕ). p ++ z) (sym g))
+
+  -- of the record only what comes behind p is stored anew, of the texts only what comes behind x: last and text are where the record and its texts begin
+  pub replaced-tail : (rb tb : List ℕ) (ur ut rr rt last text : ℕ) (us rs : List Change) (c d : Change) (p q v x y z : List ℕ) → Holds R F rb tb ur ut rr rt (us ++ (c ∷ [])) rs → Good R (F .width) d
+      → last ≡ length (encodeRecords F us) → text ≡ length (encodeTexts us)
+      → recordOf F c ≡ p ++ q → recordOf F d ≡ p ++ v → textsOf c ≡ x ++ y → textsOf d ≡ x ++ z
+      → last + length (recordOf F d) ≤ length rb → text + length (textsOf d) ≤ length tb
+      → Holds R F (sets rb (last + length p) v) (sets tb (text + length x) z) (last + length (recordOf F d)) (text + length (textsOf d)) 0 0 (us ++ (d ∷ [])) []
+  replaced-tail rb tb ur ut rr rt last text us rs c d p q v x y z h g i j ep ev ey ez k l =
+      let f = front rb tb ur ut rr rt (us ++ (c ∷ [])) rs h in
+      replaced-by rb tb ur ut rr rt us rs c d h g (sets rb (last + length p) v) (sets tb (text + length x) z) (last + length (recordOf F d)) (text + length (textsOf d))
+      (simp length-sets (omega arith)) (simp length-sets (omega arith))
+      (tail-stored rb (encodeRecords F us) (recordOf F c) p q (recordOf F d) v ur last (f .records ∙ records-snoc F us c) ep ev i (omega arith) k)
+      (tail-stored tb (encodeTexts us) (textsOf c) x y (textsOf d) z ut text (f .texts ∙ texts-snoc us c) ey ez j (omega arith) l)
+
+  -- the record is stored whole, of the texts what comes behind x
+  pub replaced-last : (rb tb : List ℕ) (ur ut rr rt last text : ℕ) (us rs : List Change) (c d : Change) (x y z : List ℕ) → Holds R F rb tb ur ut rr rt (us ++ (c ∷ [])) rs → Good R (F .width) d
+      → last ≡ length (encodeRecords F us) → text ≡ length (encodeTexts us) → textsOf c ≡ x ++ y → textsOf d ≡ x ++ z
+      → last + length (recordOf F d) ≤ length rb → text + length (textsOf d) ≤ length tb
+      → Holds R F (sets rb last (recordOf F d)) (sets tb (text + length x) z) (last + length (recordOf F d)) (text + length (textsOf d)) 0 0 (us ++ (d ∷ [])) []
+  replaced-last rb tb ur ut rr rt last text us rs c d x y z h g i j ey ez k l =
+      subst (λ (a : ℕ). Holds R F (sets rb a (recordOf F d)) (sets tb (text + length x) z) (last + length (recordOf F d)) (text + length (textsOf d)) 0 0 (us ++ (d ∷ [])) [])
+      (omega arith)
+      (replaced-tail rb tb ur ut rr rt last text us rs c d [] (recordOf F c) (recordOf F d) x y z h g i j refl refl ey ez k l)

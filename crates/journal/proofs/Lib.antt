@@ -1,0 +1,6 @@
+pub mod Numbers
+pub mod Decode
+pub mod Sound
+pub mod Holds
+pub mod Walk
+pub mod Last

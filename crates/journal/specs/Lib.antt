@@ -1,0 +1,5 @@
+pub mod Change
+pub mod Recording
+pub mod Layout
+pub mod Hold
+pub mod Last
