@@ -4,3 +4,4 @@ pub mod Sound
 pub mod Holds
 pub mod Walk
 pub mod Last
+pub mod Examples

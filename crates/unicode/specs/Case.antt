@@ -1,4 +1,4 @@
--- A text in upper or in lower case: each character replaced by its mapping (Unicode 3.13, toUppercase and toLowercase).
+-- A text in upper or in lower case: each character replaced by its mapping (The Unicode Standard, section 3.13: toUppercase, toLowercase).
 use Prim.Native.Nat.{ℕ, _+_, _≤_}
 use mathlib.Core.Path.{_≡_}
 use mathlib.Core.Bool.{true, cond}
