@@ -1,9 +1,5 @@
 // Document 01, "What a call says": the checks of a lent text in number order, and the answers of calls that are lent one.
 ghost use mathlib.Core.Path.{_≡_};
-ghost use mathlib.Core.Bool.{true, false};
-ghost use Prim.Native.Nat.{_≤_};
-ghost use lib.ListN.{length, take};
-ghost use Rattle.utf8.specs.Chars.{boundary};
 ghost use Rattle.unicode.specs.Repertoire.{catalogue};
 ghost use Rattle.checks.specs.Checks.{refusal as Checks·refusal, both, lineTests, ownTests};
 ghost use Rattle.checks.specs.Answers.{says as Answers·says, movedTo, answered as Answers·answered};

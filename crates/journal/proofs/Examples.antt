@@ -1,13 +1,12 @@
 -- What the definitions give on small lists: document 01's P11 and P12 as far as they speak of records, and the groups of undo.rs. Assumes nothing.
 use mathlib.Core.Path.{_≡_, refl}
-use mathlib.Core.Bool.{true, false}
-use mathlib.Core.List.{List, [], _∷_}
+use mathlib.Core.Bool.{false}
+use mathlib.Core.List.{[], _∷_}
 use mathlib.Core.Option.{some}
-use Prim.Native.Nat.{ℕ}
 use Rattle.utf8.specs.Utf8.{within}
 use Rattle.utf8.specs.Encode.{encode}
 use Rattle.unicode.specs.Repertoire.{catalogue, isAlnum}
-use Rattle.journal.specs.Change.{Change, begin, end, edit, insert}
+use Rattle.journal.specs.Change.{begin, end, edit, insert}
 use Rattle.journal.specs.Recording.{note, recordInsert}
 use Rattle.journal.specs.Groups.{empty, begun, truncated, endAll, endsAny, ended, lastInsert}
 

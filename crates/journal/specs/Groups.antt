@@ -1,10 +1,10 @@
 -- The rest of Changeset on values: undo.rs, begin, end, truncate and last_insert. The undo list is newest first.
 use Prim.Native.Nat.{ℕ, zero, suc, _+_, _-_}
-use mathlib.Core.Bool.{Bool, true, false, _||_}
+use mathlib.Core.Bool.{Bool, true, false}
 use mathlib.Core.List.{List, [], _∷_}
 use mathlib.Core.Option.{Option, some, none}
 use lib.ListN.{length, drop}
-use Rattle.journal.specs.Change.{Edit, insert, delete, replace, Change, begin, end, edit}
+use Rattle.journal.specs.Change.{insert, delete, replace, Change, begin, end, edit}
 
 -- a log: the undo list, newest first; the redo list, next first, every record turned round; the group level
 pub record Log : Type 0 where

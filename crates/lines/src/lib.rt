@@ -1,6 +1,5 @@
 // Lines: line_buffer.rs, start_of_line, end_of_line, n_lines_up, n_lines_down, move_to_line_up and move_to_line_down.
 ghost use mathlib.Core.Path.{_≡_};
-ghost use mathlib.Core.Bool.{true};
 ghost use Prim.Native.Nat.{_+_, _-_, _≤_, _<_};
 ghost use lib.ListN.{length};
 ghost use Rattle.unicode.specs.Repertoire.{catalogue};

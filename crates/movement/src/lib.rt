@@ -1,8 +1,6 @@
 // The movements of LineBuffer: calls that are lent a text and change at most the cursor. Any text, cursor, code and number
 // may be handed over: what is unfit is turned away by a number of document 01.
 ghost use mathlib.Core.Path.{_≡_};
-ghost use Prim.Native.Nat.{_≤_};
-ghost use lib.ListN.{length};
 ghost use Rattle.unicode.specs.Repertoire.{catalogue};
 ghost use Rattle.movement.specs.Moves.{nextPosCall, moveForward, moveBackward, moveBufferStart, moveBufferEnd, moveHome, moveEnd, isCursorAtEnd, isEndOfInput, setPos, moveToLineUp, moveToLineDown, moveToPrevWord, moveToNextWord, moveTo, prevWordBy, nextWordBy, searchBy, wordIs, stopIs, searchIs, elsewhere as Moves·elsewhere, tells as Moves·tells};
 use checks::Line;

@@ -2,9 +2,9 @@
 // code point.
 ghost use mathlib.Core.Path.{_≡_};
 ghost use mathlib.Core.Bool.{true, false};
-ghost use Prim.Native.Nat.{_+_, _*_, _%_, _<_, _≤_, _^_};
-ghost use lib.ListN.{length, getD, drop};
-ghost use Rattle.utf8.specs.Utf8.{within, tail, leadLen, one, two, lead3, three, lead4, four, firstOf, first};
+ghost use Prim.Native.Nat.{_+_, _*_, _%_, _<_, _^_};
+ghost use lib.ListN.{getD, drop};
+ghost use Rattle.utf8.specs.Utf8.{within, tail, leadLen, two, lead3, three, lead4, four, firstOf, first};
 ghost use Rattle.utf8.specs.Answer.{asFirst};
 ghost use Rattle.utf8.specs.Chars.{valid, boundary, noTail, startBefore};
 ghost use Rattle.utf8.specs.Encode.{scalar, size, EncodedAt};

@@ -4,7 +4,6 @@ use Rattle.unicode.specs.Text.{isChar}
 use Rattle.copies.specs.Copy.{isForeign}
 use Rattle.copies.proofs.Ranges.{no-search}
 use mathlib.Core.Path.{sym, ap, _∙_}
-use mathlib.Core.Bool.{not}
 use borrow.Author.Needs.{needs}
 use Rattle.copies.proofs.is_foreign.Statement.{statement}
 use Rattle.copies.proofs.is_foreign.Tie as tie

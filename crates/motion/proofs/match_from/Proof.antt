@@ -9,7 +9,6 @@ use Rattle.utf8.specs.Answer.{asFirst}
 use Rattle.unicode.proofs.Text.{within-at}
 use Rattle.motion.specs.Search.{lastFound, nthMatch}
 use Rattle.motion.specs.declared.Found.the-variants.{Nothing}
-use Rattle.motion.proofs.Search.{ahead, ahead-in, ahead-out, ahead-end, found-zero}
 use Rattle.motion.proofs.match_from.Statement.{statement}
 use Rattle.motion.proofs.match_from.Tie as tie
 

@@ -1,7 +1,6 @@
-use mathlib.Core.Path.{sym, ap, _∙_}
+use mathlib.Core.Path.{sym, ap, _∙_, ap₂}
 use Rattle.unicode.specs.Repertoire.{catalogue}
 use Rattle.movement.proofs.Called.{unnamed-refused}
-use mathlib.Core.Path.{ap₂}
 use Rattle.keymap.specs.Codes.{wordOf}
 use Rattle.keymap.specs.declared.AtCode.{AtCode}
 use Rattle.movement.specs.Moves.{nextWordBy}

@@ -1,15 +1,12 @@
 use mathlib.Core.Path.{sym, ap, _∙_}
 use lib.Seq.{length-take-le}
 use Rattle.unicode.specs.Repertoire.{catalogue}
-use Rattle.checks.specs.Checks.{ownTests}
+use Rattle.checks.specs.Checks.{ownTests, refusal, both, lineTests}
 use Rattle.checks.specs.Answers.{movedTo}
 use Rattle.checks.proofs.Fit.{fit-valid}
 use Rattle.movement.proofs.Called.{refused, accepted, fit-of, fit-within}
-use mathlib.Core.Bool.{Bool, true, false}
-use mathlib.Core.Bool.{not}
+use mathlib.Core.Bool.{Bool, false, not}
 use Rattle.unicode.specs.Text.{isChar}
-use Rattle.checks.specs.Checks.{refusal, both, lineTests}
-use mathlib.Core.Bool.{true, false}
 use borrow.Author.Needs.{needs}
 use Rattle.movement.proofs.search_char.Statement.{statement}
 use Rattle.movement.proofs.search_char.Tie as tie
