@@ -1,10 +1,13 @@
 //! Puts rustyline's modules at the crate's root, where their `crate::` paths lead, and links the library.
 //!
-//! Four files are compiled where they lie, unchanged. Of keymap.rs only the five items that document 01 takes are cut
-//! out; the rest of it needs the whole of rustyline.
-use std::{env, fs, path::PathBuf};
+//! Four files are compiled unchanged: three where they lie, undo.rs as a copy with a module of its own behind its text.
+//! Of keymap.rs only the five items that document 01 takes are cut out; the rest of it needs the whole of rustyline.
+use std::path::{Path, PathBuf};
+use std::{env, fs};
 
 const WHOLE: [&str; 4] = ["line_buffer", "undo", "kill_ring", "layout"];
+/// A module inside `undo` sees the private fields of `Changeset`.
+const INSIDE: (&str, &str, &str) = ("undo", "lists", "src/undo_lists.rs");
 const KEYMAP: [&str; 5] =
     ["pub type RepeatCount ", "pub enum Word ", "pub enum At ", "pub enum CharSearch ", "pub enum Movement "];
 
@@ -12,6 +15,16 @@ const KEYMAP: [&str; 5] =
 fn path(name: &str) -> PathBuf {
     println!("cargo:rerun-if-env-changed={name}");
     PathBuf::from(env::var(name).unwrap_or_else(|_| panic!("{name} is not set: start differential/run")))
+}
+
+fn text_of(file: &Path) -> String {
+    println!("cargo:rerun-if-changed={}", file.display());
+    fs::read_to_string(file).unwrap_or_else(|e| panic!("{}: {e}", file.display()))
+}
+
+/// The declaration of a whole module.
+fn module(file: &Path, name: &str) -> String {
+    format!("#[allow(dead_code)]\n#[path = {file:?}]\nmod {name};\n")
 }
 
 /// The item of `text` whose first line begins with `head`, with the comments and derives above it.
@@ -26,22 +39,27 @@ fn item(text: &str, head: &str) -> String {
 fn main() {
     let source = path("RUSTYLINE_SRC").join("src");
     let archive = path("EDIT_LINE_ARCHIVE");
+    let out = PathBuf::from(env::var("OUT_DIR").unwrap());
+    let (outer, inner, inner_file) = INSIDE;
+    let inner_file = Path::new(&env::var("CARGO_MANIFEST_DIR").unwrap()).join(inner_file);
     let mut root = String::new();
     for name in WHOLE {
-        let file = source.join(name).with_extension("rs");
-        println!("cargo:rerun-if-changed={}", file.display());
-        root += &format!("#[allow(dead_code)]\n#[path = {file:?}]\nmod {name};\n");
+        let mut file = source.join(name).with_extension("rs");
+        let text = text_of(&file);
+        if name == outer {
+            file = out.join(name).with_extension("rs");
+            fs::write(&file, format!("{text}\n#[path = {inner_file:?}]\npub mod {inner};\n")).unwrap();
+        }
+        root += &module(&file, name);
     }
-    let keymap = source.join("keymap.rs");
-    println!("cargo:rerun-if-changed={}", keymap.display());
-    let text = fs::read_to_string(&keymap).unwrap_or_else(|e| panic!("{}: {e}", keymap.display()));
+    let text = text_of(&source.join("keymap.rs"));
     root += "#[allow(dead_code)]\nmod keymap {\n";
     for head in KEYMAP {
         root += &item(&text, head);
         root += "\n\n";
     }
     root += "}\n";
-    fs::write(PathBuf::from(env::var("OUT_DIR").unwrap()).join("rustyline.rs"), root).unwrap();
+    fs::write(out.join("rustyline.rs"), root).unwrap();
     println!("cargo:rustc-cfg=test");
     println!("cargo:rerun-if-changed={}", archive.display());
     println!("cargo:rustc-link-arg-bins={}", archive.display());

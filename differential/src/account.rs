@@ -55,8 +55,13 @@ pub fn answers(difference: &Difference) -> String {
 
 fn answer(answer: &LineAnswer) -> String {
     let LineAnswer { number, from, to, line } = answer;
-    let word = WORDS.get(*number as usize).unwrap_or(&"no number of document 01");
+    let word = word(*number);
     format!("{number} {word}, from {from}, to {to}, used length {}, cursor {}", line.len, line.cursor)
+}
+
+/// Document 01's word for a number.
+pub fn word(number: u32) -> &'static str {
+    WORDS.get(number as usize).unwrap_or(&"no number of document 01")
 }
 
 fn arguments(uses: &[Param], args: &Args) -> String {
@@ -78,7 +83,7 @@ fn value(param: Param, number: usize) -> String {
 }
 
 /// Bytes as a string with its cursor; of a long one the part around the cursor, or the front where there is none.
-fn shown(bytes: &[u8], cursor: usize) -> String {
+pub fn shown(bytes: &[u8], cursor: usize) -> String {
     let centre = if cursor <= bytes.len() { cursor } else { 0 };
     let end = bytes.len().min(SHOWN.max(centre + SHOWN / 2));
     let start = end.saturating_sub(SHOWN);

@@ -19,6 +19,18 @@ pub fn in_repertoire(c: u32) -> bool {
     }
 }
 
+/// "Repertoire and clusters": of what is in, what is alphanumeric.
+pub fn is_alphanumeric(c: u32) -> bool {
+    match c {
+        0x30..=0x39 | 0x41..=0x5A | 0x61..=0x7A => true,
+        0xAA | 0xB2 | 0xB3 | 0xB9 | 0xBA | 0xBC..=0xBE => true,
+        0xD7 | 0xF7 => false,
+        0xC0..=0xFF => true,
+        0x178 => true,
+        _ => false,
+    }
+}
+
 /// The first character of `bytes` and its length: UTF8-1 to UTF8-4 of RFC 3629, section 4.
 pub fn first_character(bytes: &[u8]) -> Option<(u32, usize)> {
     let lead = *bytes.first()?;

@@ -17,6 +17,31 @@ pub struct LineAnswer {
     pub line: Line,
 }
 
+/// The used lengths of a list in the two buffers that the lists share.
+#[repr(C)]
+#[derive(Clone, Copy, Debug, Default, PartialEq, Eq)]
+pub struct Used {
+    pub records: usize,
+    pub texts: usize,
+}
+
+#[repr(C)]
+#[derive(Clone, Copy, Debug, Default, PartialEq, Eq)]
+pub struct Log {
+    pub undo: Used,
+    pub redo: Used,
+    pub level: usize,
+}
+
+#[repr(C)]
+#[derive(Clone, Copy, Debug, PartialEq, Eq)]
+pub struct LogAnswer {
+    pub number: u32,
+    pub from: usize,
+    pub to: usize,
+    pub log: Log,
+}
+
 // T: a text is lent and not written.
 #[rustfmt::skip]
 unsafe extern "C" {
@@ -48,4 +73,37 @@ unsafe extern "C" {
     pub fn tlf_line_move_to(
         text: *const u8, text_len: usize, line: Line, search: u32, ch: u32, n: u16,
     ) -> LineAnswer;
+}
+
+// L: a log is lent.
+#[rustfmt::skip]
+unsafe extern "C" {
+    pub fn tlf_log_new() -> Log;
+    pub fn tlf_log_begin(
+        records: *mut u8, records_len: usize, texts: *mut u8, texts_len: usize, log: Log,
+    ) -> LogAnswer;
+    pub fn tlf_log_end(
+        records: *mut u8, records_len: usize, texts: *mut u8, texts_len: usize, log: Log,
+    ) -> LogAnswer;
+    pub fn tlf_log_insert(
+        records: *mut u8, records_len: usize, texts: *mut u8, texts_len: usize, log: Log, idx: usize, ch: u32,
+    ) -> LogAnswer;
+    pub fn tlf_log_insert_str(
+        records: *mut u8, records_len: usize, texts: *mut u8, texts_len: usize, log: Log, idx: usize,
+        buf: *const u8, buf_len: usize,
+    ) -> LogAnswer;
+    pub fn tlf_log_delete(
+        records: *mut u8, records_len: usize, texts: *mut u8, texts_len: usize, log: Log, idx: usize,
+        buf: *const u8, buf_len: usize,
+    ) -> LogAnswer;
+    pub fn tlf_log_replace(
+        records: *mut u8, records_len: usize, texts: *mut u8, texts_len: usize, log: Log, idx: usize,
+        old: *const u8, old_len: usize, new: *const u8, new_len: usize,
+    ) -> LogAnswer;
+    pub fn tlf_log_truncate(
+        records: *mut u8, records_len: usize, texts: *mut u8, texts_len: usize, log: Log, len: usize,
+    ) -> LogAnswer;
+    pub fn tlf_log_last_insert(
+        records: *const u8, records_len: usize, texts: *const u8, texts_len: usize, log: Log,
+    ) -> LogAnswer;
 }

@@ -111,7 +111,7 @@ pub fn members() -> impl Iterator<Item = char> {
 }
 
 /// Any character of the repertoire.
-fn member(rng: &mut Rng) -> char {
+pub fn member(rng: &mut Rng) -> char {
     loop {
         let c = rng.below(CODE_POINTS as usize) as u32;
         if in_repertoire(c) {
@@ -229,9 +229,9 @@ const CUT: [(&[u8], &[u8]); 4] =
 
 /// Numbers that are no character of the repertoire.
 #[rustfmt::skip]
-const FOREIGN_CHARACTERS: [u32; 20] = [
+pub const FOREIGN_CHARACTERS: [u32; 22] = [
     0x00, 0x08, 0x0B, 0x0C, 0x1F, 0x7F, 0x80, 0x9F, 0xAD, 0xB5, 0x100, 0x177, 0x179, 0x2FF, 0x334, 0xD800, 0xDFFF,
-    0x1F600, 0x110000, u32::MAX,
+    0x10061, 0x1F600, 0x110000, 0x1000061, u32::MAX,
 ];
 
 /// What can be wrong with an input, in the order in which it is put there: lengths last.
@@ -334,6 +334,6 @@ pub fn spoil(rng: &mut Rng, draft: &mut Draft, uses: &[Param], fault: Fault) {
 }
 
 /// A number over `limit`: mostly just over it.
-fn over(rng: &mut Rng, limit: usize) -> usize {
+pub fn over(rng: &mut Rng, limit: usize) -> usize {
     rng.pick(&[limit + 1, limit + 1, limit + 2, limit + 65536, usize::MAX])
 }

@@ -33,6 +33,11 @@ impl Lent {
         &self.before[self.start..][..self.size()]
     }
 
+    /// What stands there now.
+    pub fn now(&self) -> &[u8] {
+        &self.arena[self.start..][..self.size()]
+    }
+
     /// Where the buffer starts: never null, with length 0 either.
     pub fn pointer(&mut self) -> *mut u8 {
         self.arena[self.start..].as_mut_ptr()
@@ -45,5 +50,34 @@ impl Lent {
         }
         let place = self.arena.iter().zip(&self.before).position(|(now, then)| now != then)?;
         Some(place as isize - self.start as isize)
+    }
+
+    /// The place, counted from the buffer's start, of the first byte that is not as it should be: of the used part that
+    /// is due, or of the guards. Bytes past the used part are the library's own.
+    pub fn differs(&self, due: &[u8]) -> Option<isize> {
+        let behind = self.start + self.size();
+        let first = |from: usize, due: &[u8]| {
+            let now = &self.arena[from..];
+            if now.starts_with(due) {
+                return None;
+            }
+            let place = now.iter().zip(due).position(|(now, then)| now != then).unwrap_or(now.len());
+            Some((from + place) as isize - self.start as isize)
+        };
+        first(self.start, due)
+            .or_else(|| first(0, &self.before[..self.start]))
+            .or_else(|| first(behind, &self.before[behind..]))
+    }
+
+    /// What stands there now is what is lent next.
+    pub fn keep(&mut self) {
+        self.before.copy_from_slice(&self.arena);
+    }
+
+    /// Puts bytes there, as part of what is lent.
+    pub fn put(&mut self, place: usize, bytes: &[u8]) {
+        for arena in [&mut self.arena, &mut self.before] {
+            arena[self.start + place..][..bytes.len()].copy_from_slice(bytes);
+        }
     }
 }

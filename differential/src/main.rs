@@ -6,6 +6,16 @@ mod r#gen;
 mod lent;
 mod line_calls;
 mod line_parts;
+mod log_account;
+mod log_calls;
+mod log_case;
+mod log_checks;
+mod log_faults;
+mod log_gen;
+mod log_lists;
+mod log_model;
+mod log_parts;
+mod log_shrink;
 mod oracle;
 mod shrink;
 mod tally;
@@ -17,7 +27,7 @@ use std::process::ExitCode;
 use std::time::Instant;
 
 /// From here on a call must have been seen with every number that it can give.
-const ENOUGH: u64 = 200_000;
+const ENOUGH: u64 = 400_000;
 
 fn main() -> ExitCode {
     let mut words = std::env::args().skip(1).map(|word| word.parse::<u64>());
@@ -28,8 +38,12 @@ fn main() -> ExitCode {
     // Each input is told before its call: for a library that ends the program.
     let trace = std::env::var_os("DIFFERENTIAL_TRACE").is_some();
     let began = Instant::now();
-    let mut tally = tally::Tally::new(line_calls::ENTRIES.iter().map(|entry| (entry.name, entry.gives)));
-    if let Err(account) = line_parts::run(n, seed, trace, &mut tally) {
+    let lines = line_calls::ENTRIES.iter().map(|entry| (entry.name, entry.gives));
+    let logs = log_calls::ENTRIES.iter().map(|entry| (entry.name, entry.gives));
+    let mut tally = tally::Tally::new(lines.chain(logs));
+    let compared = line_parts::run(n / 2, seed, trace, &mut tally)
+        .and_then(|()| log_parts::run(n - n / 2, seed, trace, &mut tally, line_calls::ENTRIES.len()));
+    if let Err(account) = compared {
         print!("N {n}, seed {seed}: {account}");
         return ExitCode::FAILURE;
     }

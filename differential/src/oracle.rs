@@ -1,8 +1,11 @@
-//! The Rust's side: rustyline's own `LineBuffer`, with `can_growth(true)`.
+//! The Rust's side: rustyline's own `LineBuffer`, with `can_growth(true)`, and its `Changeset`.
+use crate::ffi::{Log, Used};
 use crate::keymap::{At, CharSearch, Movement, Word};
 use crate::layout::{GraphemeClusterMode, Layout};
 use crate::line_buffer::{DeleteListener, Direction, LineBuffer, NoListener};
 use crate::line_calls::Args;
+use crate::log_model::Bytes;
+use crate::undo::{Changeset, lists};
 
 /// What the Rust decides: the places of answer 0, or `None` for answer 1. The cursor stays in the line buffer.
 pub type Outcome = Option<(usize, usize)>;
@@ -127,4 +130,25 @@ pub fn line_move(line: &mut LineBuffer, prompt: usize, go: impl Fn(&mut LineBuff
 /// The widths that the Rust's crate gives U+0009, \r and \n.
 pub fn control_widths() -> [u16; 3] {
     ["\t", "\r", "\n"].map(|c| Layout::new(GraphemeClusterMode::Unicode).width(c))
+}
+
+/// The Rust's lists in bytes, the undo list in front, and the state of the log that they are.
+pub fn laid_out(changes: &Changeset) -> (Log, Bytes) {
+    let mut bytes = Bytes::default();
+    lists::undo(changes).for_each(|change| bytes.push(&change));
+    let undo = bytes.used();
+    lists::redo(changes).for_each(|change| bytes.push(&change));
+    let both = bytes.used();
+    let redo = Used { records: both.records - undo.records, texts: both.texts - undo.texts };
+    (Log { undo, redo, level: lists::level(changes) }, bytes)
+}
+
+/// The Rust's last_insert answers the text. It is the last of the undo list's texts: Ends, which it passes, have none.
+pub fn last_insert(changes: &Changeset) -> Outcome {
+    let text = changes.last_insert()?;
+    let (log, bytes) = laid_out(changes);
+    let to = log.undo.texts;
+    let from = to - text.len();
+    assert_eq!(&bytes.texts[from..to], text.as_bytes(), "the places are those of the text");
+    Some((from, to))
 }

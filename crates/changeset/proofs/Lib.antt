@@ -1,3 +1,7 @@
-pub mod Numbers
-pub mod Records
-pub mod Logs
+pub mod Sums
+pub mod Answers
+pub mod Passed
+pub mod Recorded
+pub mod Groups
+pub mod Single
+pub mod Examples

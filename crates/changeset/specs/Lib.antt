@@ -1,2 +1,3 @@
-pub mod Formats
 pub mod Logs
+pub mod Outcomes
+pub mod Calls

@@ -1,135 +1,31 @@
-// The log: records and texts in two lent buffers. undo.rs, Changeset.
+// The log: Changeset of undo.rs over two lent buffers. The log's state goes in by value and comes back. Here are the checks of a
+// lent log, and what is done with one that they pass, in any format of its records.
 ghost use mathlib.Core.Path.{_≡_};
+ghost use mathlib.Core.Bool.{true, false, cond};
 ghost use Prim.Native.Nat.{_+_, _≤_, _<_};
-ghost use lib.ListN.{length, getD};
-ghost use Rattle.unicode.specs.Repertoire.{catalogue};
-ghost use Rattle.journal.specs.Layout.{numAt, sizeOf, textsAt, changeAt, okChange, decode, isSome};
-ghost use Rattle.changeset.specs.Formats.{asFormat, Fit};
-ghost use Rattle.changeset.specs.Logs.{overSizes, damaged};
 ghost use lib.Dec.{ltb};
-use unicode::check_text;
-
-// How the log's records are written: the bytes of a number, and by how much the kinds of edits are raised.
-pub struct Format {
-    pub width: usize,
-    pub offset: usize,
-}
-
-fn wide(b: u8) -> usize
-    ensures { λ r. ⌜ (r ≡ b) × (r < 256) ⌝ }
-{
-    b as usize
-}
-
-// The little-endian number in the width bytes at a place.
-pub fn read_num(s: &[u8], at: usize, width: usize) -> usize
-    requires { ⌜ (width ≤ 4) × (at + width ≤ length (now s)) ⌝ }
-    ensures { λ r. ⌜ (r ≡ numAt width (now (s .entry)) at) × (r < 4294967296) ⌝ }
-{
-    let mut value: usize = 0;
-    let mut left = width;
-    while 0 < left {
-        left -= 1;
-        value = wide(s[at + left]) + 256 * value;
-    }
-    value
-}
-
-// The size of a record by its kind; 0 for a byte that is no kind.
-pub fn record_size(f: Format, kind: usize) -> usize
-    requires { ⌜ Fit f ⌝ }
-    ensures { λ r. ⌜ (r ≡ sizeOf (asFormat f) kind) × (r ≤ 13) ⌝ }
-{
-    let w = f.width;
-    let o = f.offset;
-    if kind == 1 {
-        return 1;
-    }
-    if kind == 2 {
-        return 1;
-    }
-    if kind == 3 + o {
-        return 1 + w + w;
-    }
-    if kind == 4 + o {
-        return 1 + w + w;
-    }
-    if kind == 5 + o {
-        return 1 + w + w + w;
-    }
-    0
-}
-
-// The size of the texts of the whole record at a place.
-pub fn texts_size(f: Format, records: &[u8], at: usize) -> usize
-    requires { ⌜ Fit f ⌝ }
-    requires { ⌜ (0 < sizeOf (asFormat f) (getD (now records) at 0)) × (at + sizeOf (asFormat f) (getD (now records) at 0) ≤ length (now records)) ⌝ }
-    ensures { λ r. ⌜ (r ≡ textsAt (asFormat f) (now (records .entry)) at (getD (now (records .entry)) at 0)) × (r < 8589934592) ⌝ }
-{
-    let kind = wide(records[at]);
-    let w = f.width;
-    let o = f.offset;
-    if kind <= 2 {
-        return 0;
-    }
-    let first = read_num(records, at + 1 + w, w);
-    if kind <= 4 + o {
-        return first;
-    }
-    first + read_num(records, at + 1 + w + w, w)
-}
-
-// Are the texts of the whole record at a place, which begin at t, texts of the repertoire?
-pub fn texts_ok(f: Format, records: &[u8], texts: &[u8], at: usize, t: usize) -> bool
-    requires { ⌜ Fit f ⌝ }
-    requires { ⌜ (0 < sizeOf (asFormat f) (getD (now records) at 0)) × (at + sizeOf (asFormat f) (getD (now records) at 0) ≤ length (now records)) ⌝ }
-    requires { ⌜ t + textsAt (asFormat f) (now records) at (getD (now records) at 0) ≤ length (now texts) ⌝ }
-    ensures { λ r. ⌜ r ≡ okChange catalogue (changeAt (asFormat f) (now (records .entry)) (now (texts .entry)) at t (getD (now (records .entry)) at 0)) ⌝ }
-{
-    let kind = wide(records[at]);
-    let w = f.width;
-    let o = f.offset;
-    if kind <= 2 {
-        return true;
-    }
-    let a = t + read_num(records, at + 1 + w, w);
-    if kind <= 4 + o {
-        return check_text(&texts[t..a]);
-    }
-    let b = a + read_num(records, at + 1 + w + w, w);
-    if !check_text(&texts[t..a]) {
-        return false;
-    }
-    check_text(&texts[a..b])
-}
-
-// Are records and texts the layout of a list of changes? One pass over each.
-pub fn check_list(f: Format, records: &[u8], texts: &[u8]) -> bool
-    requires { ⌜ Fit f ⌝ }
-    ensures { λ r. ⌜ r ≡ isSome (decode catalogue (asFormat f) (now (records .entry)) (now (texts .entry))) ⌝ }
-{
-    let mut at: usize = 0;
-    let mut t: usize = 0;
-    while at < records.len() {
-        let size = record_size(f, wide(records[at]));
-        if size == 0 {
-            return false;
-        }
-        if records.len() - at < size {
-            return false;
-        }
-        let m = texts_size(f, records, at);
-        if texts.len() - t < m {
-            return false;
-        }
-        if !texts_ok(f, records, texts, at, t) {
-            return false;
-        }
-        at += size;
-        t += m;
-    }
-    t == texts.len()
-}
+ghost use lib.ListN.{length};
+ghost use Rattle.unicode.specs.Repertoire.{catalogue};
+ghost use Rattle.unicode.specs.Text.{isText};
+ghost use Rattle.cluster.specs.Clusters.{clustersOf};
+ghost use Rattle.checks.specs.Checks.{refusal as Checks·refusal, both, ownTests};
+ghost use Rattle.journal.specs.Change.{edit};
+ghost use Rattle.journal.specs.Layout.{top, okChange};
+ghost use Rattle.journal.specs.Recording.{note, isSingle};
+ghost use Rattle.records.specs.Formats.{asFormat, Fit};
+ghost use Rattle.changeset.specs.Logs.{overSizes, damaged, logTests};
+ghost use Rattle.changeset.specs.Outcomes.{beginOut, endOut, recordOut, truncateOut, lastInsertOut};
+ghost use Rattle.changeset.specs.Calls.{lent, sizesOf, valueOf, says as Calls·says, Logged, Ready, editOf, Numbered, answerOf};
+use buffer::cut_bytes;
+use buffer::fill;
+use cluster::next_cluster;
+use recording::tail_of;
+use recording::write_noted;
+use records::Format;
+use records::check_list;
+use records::run_start;
+use records::top_of;
+use records::walk;
 
 // The used lengths of a list in the two buffers.
 #[repr(C)]
@@ -193,4 +89,252 @@ pub fn is_damaged(f: Format, records: &[u8], texts: &[u8], log: Log) -> bool
     let re = ur + r.records;
     let te = ut + r.texts;
     !check_list(f, &records[ur..re], &texts[ut..te])
+}
+
+#[repr(C)]
+pub struct LogAnswer {
+    pub number: u32,
+    pub from: usize,
+    pub to: usize,
+    pub log: Log,
+}
+
+// A number alone.
+pub fn says(number: u32, log: Log) -> LogAnswer
+    ensures { λ r. ⌜ r ≡ Calls·says number log ⌝ }
+{
+    LogAnswer {
+        number,
+        from: 0,
+        to: 0,
+        log,
+    }
+}
+
+// The number of the first of the checks 2, 4 and 8 that a lent log meets, 0 where they pass. `foreign` says that an argument
+// is outside the repertoire.
+pub fn refusal(f: Format, records: &[u8], texts: &[u8], log: Log, foreign: bool) -> u32
+    requires { ⌜ Fit f ⌝ }
+    requires { ⌜ 65535 < top (f .width) ⌝ }
+    ensures number { λ r. ⌜ r ≡ Checks·refusal (both (logTests catalogue (asFormat f) log (now (records .entry)) (now (texts .entry))) (ownTests false foreign false)) ⌝ }
+    ensures ready { λ r. ⌜ (r ≡ 0 → Ready (asFormat f) (lent (now (records .entry)) (now (texts .entry)) log)) ⌝ }
+{
+    if over_sizes(records, texts, log) {
+        return 2;
+    }
+    if foreign {
+        return 4;
+    }
+    if is_damaged(f, records, texts, log) {
+        return 8;
+    }
+    0
+}
+
+// single_char: is the text one cluster, all alphanumeric?
+pub fn is_single(s: &[u8]) -> bool
+    requires { ⌜ isText catalogue (now s) ≡ true ⌝ }
+    ensures { λ r. ⌜ r ≡ isSingle catalogue (clustersOf catalogue (now (s .entry))) ⌝ }
+{
+    let c = next_cluster(s);
+    (0 < s.len()) & (c.len == s.len()) & c.alnum
+}
+
+// The lesser of two numbers.
+fn least(a: usize, b: usize) -> usize
+    ensures { λ r. ⌜ r ≡ cond (ltb a b) a b ⌝ }
+{
+    if a < b { a } else { b }
+}
+
+impl Log {
+    // Wrong answers ruled out: a level left raised; a used length that is not 0.
+    pub fn new() -> Log
+        ensures { λ r. ⌜ r ≡ record { undo = record { records = 0; texts = 0 }; redo = record { records = 0; texts = 0 }; level = 0 } ⌝ }
+    {
+        let none = Used {
+            records: 0,
+            texts: 0,
+        };
+        Log {
+            undo: none,
+            redo: none,
+            level: 0,
+        }
+    }
+
+    // The redo list dropped: undo.rs clears it before it looks at what is to be recorded.
+    pub fn drop_redo(mut self) -> Log
+        ensures { λ r. ⌜ r ≡ record { undo = self .undo; redo = record { records = 0; texts = 0 }; level = self .level } ⌝ }
+    {
+        let empty = Used {
+            records: 0,
+            texts: 0,
+        };
+        self.redo = empty;
+        self
+    }
+
+    // The undo list with these used lengths, and no redo list.
+    fn only_undo(mut self, records: usize, texts: usize) -> Log
+        ensures { λ r. ⌜ r ≡ record { undo = record { records = records; texts = texts }; redo = record { records = 0; texts = 0 }; level = self .level } ⌝ }
+    {
+        let used = Used { records, texts };
+        self.undo = used;
+        self.drop_redo()
+    }
+
+    // A change recorded, by its kind 3, 4 or 5, its place, its old and its new text: merged where it may be and follows.
+    pub fn record(
+        self,
+        f: Format,
+        records: &mut [u8],
+        texts: &mut [u8],
+        joins: bool,
+        kind: usize,
+        place: usize,
+        old: &[u8],
+        new: &[u8],
+    ) -> LogAnswer
+        requires { ⌜ Fit f ⌝ }
+        requires { ⌜ Ready (asFormat f) (lent (now records) (now texts) self) ⌝ }
+        requires { ⌜ Numbered (editOf kind place (now old) (now new)) kind place (now old) (now new) ⌝ }
+        requires { ⌜ okChange catalogue (edit (editOf kind place (now old) (now new))) ≡ true ⌝ }
+        ensures { λ r. ⌜ Logged (asFormat f) (lent (now (records .entry)) (now (texts .entry)) self)
+            (recordOut (asFormat f) (sizesOf (lent (now (records .entry)) (now (texts .entry)) self))
+            (note joins (editOf kind place (now (old .entry)) (now (new .entry))) (valueOf catalogue (asFormat f) (lent (now (records .entry)) (now (texts .entry)) self) .undo))
+            (valueOf catalogue (asFormat f) (lent (now (records .entry)) (now (texts .entry)) self)))
+            r (now (records .exit)) (now (texts .exit)) ⌝ }
+    {
+        let u = self.undo;
+        let ur = u.records;
+        let ut = u.texts;
+        let space = texts.len() - ut;
+        if space < old.len() {
+            return says(10, self);
+        }
+        if space - old.len() < new.len() {
+            return says(10, self);
+        }
+        let tail = tail_of(f, &records[..ur], ut);
+        let n = tail.note(f, joins, kind, place, old.len(), new.len());
+        let t = n.tail;
+        if records.len() < t.records {
+            return says(10, self);
+        }
+        if top_of(f.width) <= t.place {
+            return says(10, self);
+        }
+        write_noted(f, records, texts, ut, n, old, new);
+        says(0, self.only_undo(t.records, t.texts))
+    }
+
+    // begin on a log that the checks pass.
+    pub fn begin(mut self, f: Format, records: &mut [u8], texts: &[u8]) -> LogAnswer
+        requires { ⌜ Fit f ⌝ }
+        requires { ⌜ Ready (asFormat f) (lent (now records) (now texts) self) ⌝ }
+        ensures { λ r. ⌜ Logged (asFormat f) (lent (now (records .entry)) (now (texts .entry)) self)
+            (beginOut (asFormat f) (sizesOf (lent (now (records .entry)) (now (texts .entry)) self)) (valueOf catalogue (asFormat f) (lent (now (records .entry)) (now (texts .entry)) self)))
+            r (now (records .exit)) (now (texts .entry)) ⌝ }
+    {
+        let u = self.undo;
+        let ur = u.records;
+        let ut = u.texts;
+        let level = self.level;
+        if 255 <= level {
+            return says(10, self);
+        }
+        if records.len() <= ur {
+            return says(10, self);
+        }
+        let before = walk(f, &records[..ur], ur);
+        records[ur] = 1;
+        self.level = level + 1;
+        LogAnswer {
+            number: 0,
+            from: before.count,
+            to: 0,
+            log: self.only_undo(ur + 1, ut),
+        }
+    }
+
+    // end on a log that the checks pass: Begins that stand last are dropped, and for each level left an End is put.
+    pub fn end(mut self, f: Format, records: &mut [u8], texts: &[u8]) -> LogAnswer
+        requires { ⌜ Fit f ⌝ }
+        requires { ⌜ Ready (asFormat f) (lent (now records) (now texts) self) ⌝ }
+        ensures { λ r. ⌜ Logged (asFormat f) (lent (now (records .entry)) (now (texts .entry)) self)
+            (endOut (asFormat f) (sizesOf (lent (now (records .entry)) (now (texts .entry)) self)) (valueOf catalogue (asFormat f) (lent (now (records .entry)) (now (texts .entry)) self)))
+            r (now (records .exit)) (now (texts .entry)) ⌝ }
+    {
+        let u = self.undo;
+        let ur = u.records;
+        let ut = u.texts;
+        let level = self.level;
+        let run = ur - run_start(f, &records[..ur], 1);
+        let empty = least(run, level);
+        let kept = ur - empty;
+        let ends = level - empty;
+        if records.len() - kept < ends {
+            return says(10, self);
+        }
+        fill(records, kept, ends, 2);
+        self.level = 0;
+        let log = self.only_undo(kept + ends, ut);
+        if ends == 0 {
+            return says(1, log);
+        }
+        says(0, log)
+    }
+
+    // truncate on a log that the checks pass: the redo list moves down behind the shorter undo list.
+    pub fn truncate(
+        mut self,
+        f: Format,
+        records: &mut [u8],
+        texts: &mut [u8],
+        len: usize,
+    ) -> LogAnswer
+        requires { ⌜ Fit f ⌝ }
+        requires { ⌜ Ready (asFormat f) (lent (now records) (now texts) self) ⌝ }
+        ensures { λ r. ⌜ Logged (asFormat f) (lent (now (records .entry)) (now (texts .entry)) self)
+            (truncateOut len (valueOf catalogue (asFormat f) (lent (now (records .entry)) (now (texts .entry)) self)))
+            r (now (records .exit)) (now (texts .exit)) ⌝ }
+    {
+        let u = self.undo;
+        let d = self.redo;
+        let ur = u.records;
+        let ut = u.texts;
+        let kept = walk(f, &records[..ur], len);
+        cut_bytes(records, ur + d.records, kept.records, ur);
+        cut_bytes(texts, ut + d.texts, kept.texts, ut);
+        let used = Used {
+            records: kept.records,
+            texts: kept.texts,
+        };
+        self.undo = used;
+        says(0, self)
+    }
+
+    // last_insert on a log that the checks pass: the Ends that stand last are passed.
+    pub fn last_insert(self, f: Format, records: &[u8], texts: &[u8]) -> LogAnswer
+        requires { ⌜ Fit f ⌝ }
+        requires { ⌜ Ready (asFormat f) (lent (now records) (now texts) self) ⌝ }
+        ensures { λ r. ⌜ r ≡ answerOf (asFormat f) (lent (now (records .entry)) (now (texts .entry)) self)
+            (lastInsertOut (valueOf catalogue (asFormat f) (lent (now (records .entry)) (now (texts .entry)) self))) ⌝ }
+    {
+        let u = self.undo;
+        let ur = u.records;
+        let ut = u.texts;
+        let start = run_start(f, &records[..ur], 2);
+        let t = tail_of(f, &records[..start], ut);
+        if (t.kind == 3) | (t.kind == 5) {
+            return LogAnswer {
+                number: 0,
+                from: ut - t.new,
+                to: ut,
+                log: self,
+            };
+        }
+        says(1, self)
+    }
 }

@@ -1,13 +1,13 @@
 -- The checks of a lent text, one law for each way they go, and what holds where they pass. Assumes nothing.
 use mathlib.Core.Path.{_≡_, refl}
-use mathlib.Core.Bool.{Bool, true, false, cond, _||_}
+use mathlib.Core.Bool.{Bool, true, false, cond}
 use mathlib.Core.List.{List}
 use Prim.Native.Nat.{ℕ, _<_, _≤_}
 use native.Mathlib.Omega.{arith}
 use borrow.Author.Tests.{ltb-false, not-false}
 use lib.Dec.{ltb}
 use lib.ListN.{length}
-use Rattle.lists.proofs.Bools.{never}
+use Rattle.lists.proofs.Bools.{never, or-none}
 use Rattle.utf8.specs.Chars.{valid, boundary}
 use Rattle.unicode.specs.Repertoire.{Repertoire}
 use Rattle.unicode.specs.Text.{isText}
@@ -48,10 +48,6 @@ pub record Fit (R : Repertoire) (buffer : List ℕ) (line : Line) : Type 0 where
   pub text : isText R (lentText buffer line) ≡ true
   pub within : line .cursor ≤ line .len
   pub edge : boundary (lentText buffer line) (line .cursor) ≡ true
-
-or-none : (a b : Bool) → a || b ≡ false → (a ≡ false) × (b ≡ false)
-or-none true b e = never _ true refl e
-or-none false b e = (refl, e)
 
 module _ (R : Repertoire) (buffer : List ℕ) (line : Line) where
   pub fit : (own : Tests) → refusal (both (lineTests R buffer line) own) ≡ 0 → Fit R buffer line × Passed own

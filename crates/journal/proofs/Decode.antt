@@ -12,8 +12,8 @@ use borrow.Author.Tests.{ltb-true, leb-true, eqb-true, eqb-false, lt-ltb, le-leb
 use Rattle.lists.proofs.Bools.{and-both, by-test}
 use Rattle.unicode.specs.Repertoire.{Repertoire}
 use Rattle.unicode.specs.Text.{isText}
-use Rattle.journal.specs.Change.{Change, begin, end, edit, insert, delete, replace}
-use Rattle.journal.specs.Layout.{Format, top, le, numAt, recordOf, textsOf, encodeRecords, encodeTexts, Small, AllGood, okChange, sizeOf, firstLen, secondLen, textsAt, changeAt, wholeAt, push, isSome, decodeFrom, decodeAt, decode}
+use Rattle.journal.specs.Change.{Edit, Change, begin, end, edit, insert, delete, replace}
+use Rattle.journal.specs.Layout.{Format, top, le, numAt, kindOf, recordOf, textsOf, encodeRecords, encodeTexts, Small, AllGood, okChange, sizeOf, firstLen, secondLen, textsAt, changeAt, wholeAt, push, isSome, decodeFrom, decodeAt, decode}
 use Rattle.journal.proofs.Numbers.{length-le, num-le}
 
 -- ---- a choice by the kind k, where the kinds of edits are raised by o
@@ -126,23 +126,8 @@ kind-is F k h =
     (λ d. by-test (KindIs F k) (eqb k (5 + F .offset)) (λ e. is-replace (eqb-true k (5 + F .offset) e))
     (λ f. let z = size-none F k (eqb-false k 1 a) (eqb-false k 2 b) (eqb-false k (3 + F .offset) c) (eqb-false k (4 + F .offset) d) (eqb-false k (5 + F .offset) f) in absurd (omega arith))))))
 
--- and one that has one of them has a size
-pub kind-size : (F : Format) (k : ℕ) → KindIs F k → 0 < sizeOf F k
-kind-size F k (is-begin e) = omega (arith, size-begin F k e)
-kind-size F k (is-end e) = omega (arith, size-end F k e)
-kind-size F k (is-insert e) = omega (arith, size-insert F k e)
-kind-size F k (is-delete e) = omega (arith, size-delete F k e)
-kind-size F k (is-replace e) = omega (arith, size-replace F k e)
-
--- Begin and End have a body of no byte, an insertion and a deletion one of two numbers, a replacement one of three
+-- an insertion and a deletion have a body of two numbers, a replacement one of three
 module _ (F : Format) (k : ℕ) where
-  pub size-low : KindIs F k → k ≤ 2 → sizeOf F k ≡ 1
-  size-low (is-begin e) h = size-begin F k e
-  size-low (is-end e) h = size-end F k e
-  size-low (is-insert e) h = absurd (omega arith)
-  size-low (is-delete e) h = absurd (omega arith)
-  size-low (is-replace e) h = absurd (omega arith)
-
   pub size-mid : KindIs F k → 2 < k → k ≤ 4 + F .offset → sizeOf F k ≡ 1 + F .width + F .width
   size-mid (is-begin e) h i = absurd (omega arith)
   size-mid (is-end e) h i = absurd (omega arith)
@@ -305,6 +290,7 @@ text-at q s rest t n e f = rw (drop-at q (s ++ rest) t e) (take-at s rest n (sym
 
 -- the change c is what stands at at and t
 pub record Reads (F : Format) (c : Change) (rs ts : List ℕ) (at t : ℕ) : Type 0 where
+  pub kind : getD rs at 0 ≡ kindOf F c
   pub size : sizeOf F (getD rs at 0) ≡ length (recordOf F c)
   pub texts : textsAt F rs at (getD rs at 0) ≡ length (textsOf c)
   pub change : changeAt F rs ts at t (getD rs at 0) ≡ c
@@ -313,10 +299,10 @@ pub reads : (F : Format) (c : Change) (p q rest trest : List ℕ) (at t : ℕ) �
     → Reads F c (p ++ (recordOf F c ++ rest)) (q ++ (textsOf c ++ trest)) at t
 reads F begin p q rest trest at t e f h =
     let k = getD-at p 1 rest 0 at e in
-    record { size = size-begin F _ k; texts = texts-begin F _ at _ k; change = change-begin F _ _ at t _ k }
+    record { kind = k; size = size-begin F _ k; texts = texts-begin F _ at _ k; change = change-begin F _ _ at t _ k }
 reads F end p q rest trest at t e f h =
     let k = getD-at p 2 rest 0 at e in
-    record { size = size-end F _ k; texts = texts-end F _ at _ k; change = change-end F _ _ at t _ k }
+    record { kind = k; size = size-end F _ k; texts = texts-end F _ at _ k; change = change-end F _ _ at t _ k }
 reads F (edit (insert a s)) p q rest trest at t e f h =
     let w = F .width in
     let o = 3 + F .offset in
@@ -324,6 +310,7 @@ reads F (edit (insert a s)) p q rest trest at t e f h =
     let n = nums2 w o a (length s) at p rest e (h .0) (h .1) in
     rw (append-assoc (le w a) (le w (length s)) rest)
     (record {
+      kind = k;
       size = size-insert F _ k ∙ simp (length-append, length-le) (omega arith);
       texts = texts-insert F _ at _ k ∙ n .1;
       change = change-insert F _ _ at t _ k ∙ simp (n .0, n .1, text-at q s trest t (length s) f refl);
@@ -335,6 +322,7 @@ reads F (edit (delete a s)) p q rest trest at t e f h =
     let n = nums2 w o a (length s) at p rest e (h .0) (h .1) in
     rw (append-assoc (le w a) (le w (length s)) rest)
     (record {
+      kind = k;
       size = size-delete F _ k ∙ simp (length-append, length-le) (omega arith);
       texts = texts-delete F _ at _ k ∙ n .1;
       change = change-delete F _ _ at t _ k ∙ simp (n .0, n .1, text-at q s trest t (length s) f refl);
@@ -349,10 +337,30 @@ reads F (edit (replace a s u)) p q rest trest at t e f h =
     let v' : take (length u) (drop (t + length s) (q ++ (s ++ (u ++ trest)))) ≡ u = rw append-assoc at v in
     rw (append-assoc (le w a) (le w (length s) ++ le w (length u)) rest, append-assoc (le w (length s)) (le w (length u)) rest, append-assoc s u trest)
     (record {
+      kind = k;
       size = size-replace F _ k ∙ simp (length-append, length-le) (omega arith);
       texts = texts-replace F _ at _ k ∙ simp (n .1, m, length-append);
       change = change-replace F _ _ at t _ k ∙ simp (n .0, n .1, m, text-at q s (u ++ trest) t (length s) f refl, v');
     })
+
+-- the numbers of an edit's record stand in its body
+abbrev pub NumbersAt : (F : Format) → Edit → List ℕ → ℕ → Type 0
+NumbersAt F (insert a s) rs at = (numAt (F .width) rs (at + 1) ≡ a) × (firstLen F rs at ≡ length s)
+NumbersAt F (delete a s) rs at = (numAt (F .width) rs (at + 1) ≡ a) × (firstLen F rs at ≡ length s)
+NumbersAt F (replace a s u) rs at = (numAt (F .width) rs (at + 1) ≡ a) × (firstLen F rs at ≡ length s) × (secondLen F rs at ≡ length u)
+
+pub numbers-at : (F : Format) (x : Edit) (p rest : List ℕ) (at : ℕ) → length p ≡ at → Small (F .width) (edit x) → NumbersAt F x (p ++ (recordOf F (edit x) ++ rest)) at
+numbers-at F (insert a s) p rest at e h =
+    let w = F .width in
+    rw (append-assoc (le w a) (le w (length s)) rest) (nums2 w (3 + F .offset) a (length s) at p rest e (h .0) (h .1))
+numbers-at F (delete a s) p rest at e h =
+    let w = F .width in
+    rw (append-assoc (le w a) (le w (length s)) rest) (nums2 w (4 + F .offset) a (length s) at p rest e (h .0) (h .1))
+numbers-at F (replace a s u) p rest at e h =
+    let w = F .width in
+    let n = nums2 w (5 + F .offset) a (length s) at p (le w (length u) ++ rest) e (h .0) (h .1) in
+    let m = num3 w (5 + F .offset) a (length s) (length u) at p rest e (h .2) in
+    rw (append-assoc (le w a) (le w (length s) ++ le w (length u)) rest, append-assoc (le w (length s)) (le w (length u)) rest) (n .0, n .1, m)
 
 pub record-pos : (F : Format) (c : Change) → 0 < length (recordOf F c)
 record-pos F begin = omega arith

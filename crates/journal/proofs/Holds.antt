@@ -141,6 +141,80 @@ module _ (R : Repertoire) (F : Format) where
         within : j ≤ ut
         within = omega (arith, h .texts, ap (λ (x : List Change). length (encodeTexts x)) parts, ap length (texts-append (take n us) (drop n us)), length-append (encodeTexts (take n us)) (encodeTexts (drop n us)))
 
+  -- ---- the list cut after its first n records, and the redo list moved down behind them
+  -- a part taken out of a buffer's used bytes
+  gap : (l l′ p q r : List ℕ) (used i k : ℕ) → take used l ≡ (p ++ q) ++ r → i ≡ length p → k ≡ length (p ++ q) → used ≤ length l
+      → take (used - (k - i)) l′ ≡ take i (take used l) ++ drop k (take used l) → take (i + length r) l′ ≡ p ++ r
+  gap l l′ p q r used i k e ei ek h c =
+      let n : used ≡ length p + length q + length r = sym (length-take-le used l h) ∙ ap length e ∙ simp length-append in
+      let m : used - (k - i) ≡ i + length r = omega (arith, length-append p q) in
+      ap (λ (j : ℕ). take j l′) (sym m) ∙ c
+      ∙ ap₂ _++_ (ap (take i) (e ∙ append-assoc p q r) ∙ take-at p (q ++ r) i (sym ei)) (ap (drop k) e ∙ drop-at (p ++ q) r k (sym ek))
+
+  pub closed : (rb tb rb′ tb′ : List ℕ) (ur ut rr rt : ℕ) (us rs : List Change) (n : ℕ) → Holds R F rb tb ur ut rr rt us rs → length rb′ ≡ length rb → length tb′ ≡ length tb
+      → (i j : ℕ) → i ≡ length (encodeRecords F (take n us)) → j ≡ length (encodeTexts (take n us))
+      → take (ur + rr - (ur - i)) rb′ ≡ take i (take (ur + rr) rb) ++ drop ur (take (ur + rr) rb)
+      → take (ut + rt - (ut - j)) tb′ ≡ take j (take (ut + rt) tb) ++ drop ut (take (ut + rt) tb)
+      → Holds R F rb′ tb′ i j rr rt (take n us) rs
+  closed rb tb rb′ tb′ ur ut rr rt us rs n h lr lt i j ei ej cr ct =
+      record {
+        both =
+            record {
+              records = ap (λ (k : ℕ). take (i + k) rb′) er ∙ gap rb rb′ a b c (ur + rr) i ur whole ei front-end (h .room) cr ∙ sym (records-append F (take n us) rs);
+              texts = ap (λ (k : ℕ). take (j + k) tb′) et ∙ gap tb tb′ a′ b′ c′ (ut + rt) j ut whole′ ej front-end′ (h .space) ct ∙ sym (texts-append (take n us) rs);
+              good = good-append R (F .width) (take n us) rs (good-left R (F .width) (take n us) (drop n us) (subst (AllGood R (F .width)) parts (good-left R (F .width) us rs (h .both .good)))) (good-right R (F .width) us rs (h .both .good));
+            };
+        records = ei;
+        texts = ej;
+        room = omega (arith, lr, h .room, h .records, ei, front-end, length-append a b);
+        space = omega (arith, lt, h .space, h .texts, ej, front-end′, length-append a′ b′);
+      }
+    where
+      parts : us ≡ take n us ++ drop n us
+      parts = sym (take-append-drop n us)
+
+      a : List ℕ
+      a = encodeRecords F (take n us)
+
+      b : List ℕ
+      b = encodeRecords F (drop n us)
+
+      c : List ℕ
+      c = encodeRecords F rs
+
+      a′ : List ℕ
+      a′ = encodeTexts (take n us)
+
+      b′ : List ℕ
+      b′ = encodeTexts (drop n us)
+
+      c′ : List ℕ
+      c′ = encodeTexts rs
+
+      split : encodeRecords F us ≡ a ++ b
+      split = ap (encodeRecords F) parts ∙ records-append F (take n us) (drop n us)
+
+      split′ : encodeTexts us ≡ a′ ++ b′
+      split′ = ap encodeTexts parts ∙ texts-append (take n us) (drop n us)
+
+      whole : take (ur + rr) rb ≡ (a ++ b) ++ c
+      whole = h .both .records ∙ records-append F us rs ∙ ap (λ (l : List ℕ). l ++ c) split
+
+      whole′ : take (ut + rt) tb ≡ (a′ ++ b′) ++ c′
+      whole′ = h .both .texts ∙ texts-append us rs ∙ ap (λ (l : List ℕ). l ++ c′) split′
+
+      front-end : ur ≡ length (a ++ b)
+      front-end = h .records ∙ ap length split
+
+      front-end′ : ut ≡ length (a′ ++ b′)
+      front-end′ = h .texts ∙ ap length split′
+
+      er : rr ≡ length c
+      er = omega (arith, sym (length-take-le (ur + rr) rb (h .room)) ∙ ap length whole ∙ length-append (a ++ b) c, front-end)
+
+      et : rt ≡ length c′
+      et = omega (arith, sym (length-take-le (ut + rt) tb (h .space)) ∙ ap length whole′ ∙ length-append (a′ ++ b′) c′, front-end′)
+
   -- ---- the seam moved: the bytes stay, only the lengths change
   module _ (rb tb : List ℕ) (ur ut rr rt n m : ℕ) where
     -- the records vs, last of the undo list, become the first of the redo list

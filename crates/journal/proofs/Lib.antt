@@ -3,5 +3,8 @@ pub mod Decode
 pub mod Sound
 pub mod Holds
 pub mod Walk
-pub mod Last
+pub mod Newest
+pub mod Recording
+pub mod Undo
+pub mod Groups
 pub mod Examples

@@ -3,13 +3,14 @@ use Prim.Native.Nat.{ℕ, suc, _+_, _≤_, _<_}
 use native.Mathlib.Omega.{arith}
 use native.Mathlib.Numerals.{add-one}
 use mathlib.Core.Path.{_≡_, refl, sym, ap, subst, _∙_}
-use mathlib.Core.List.{List, _∷_, _++_}
+use mathlib.Core.List.{List, [], _∷_, _++_}
 use lib.ListN.{length, getD, take, drop, length-append}
 use lib.Seq.{split-at, take-suc, take-all}
 use Rattle.lists.proofs.Bools.{by-less}
 use Rattle.unicode.specs.Repertoire.{Repertoire}
 use Rattle.journal.specs.Change.{Change, begin}
-use Rattle.journal.specs.Layout.{Format, recordOf, textsOf, encodeRecords, encodeTexts, okChange, Layout, sizeOf, textsAt, changeAt}
+use Rattle.journal.specs.Hold.{Listed}
+use Rattle.journal.specs.Layout.{Format, kindOf, recordOf, textsOf, encodeRecords, encodeTexts, okChange, Layout, sizeOf, textsAt}
 use Rattle.journal.proofs.Decode.{Whole, Reads, reads, record-pos}
 use Rattle.journal.proofs.Holds.{records-append, texts-append, records-snoc, texts-snoc, good-right}
 
@@ -45,10 +46,10 @@ pub record At (F : Format) (cs : List Change) (i at t : ℕ) : Type 0 where
 pub at-start : (F : Format) (cs : List Change) → At F cs 0 0 0
 at-start F cs = record { records = refl; texts = refl }
 
--- number i is a whole record, it is that change, and number i + 1 stands behind it
+-- number i is a whole record, that change is read there, and number i + 1 stands behind it
 pub record Here (R : Repertoire) (F : Format) (rs ts : List ℕ) (cs : List Change) (i at t : ℕ) : Type 0 where
   pub all : Whole R F rs ts at t
-  pub change : changeAt F rs ts at t (getD rs at 0) ≡ getD cs i begin
+  pub reads : Reads F (getD cs i begin) rs ts at t
   pub next : At F cs (i + 1) (at + sizeOf F (getD rs at 0)) (t + textsAt F rs at (getD rs at 0))
 
 module _ (R : Repertoire) (F : Format) (rs ts : List ℕ) (cs : List Change) (i at t : ℕ) where
@@ -56,7 +57,7 @@ module _ (R : Repertoire) (F : Format) (rs ts : List ℕ) (cs : List Change) (i 
   here l h a =
       record {
         all = whole-at R F rs ts (take i cs) (drop (suc i) cs) c at t lays (a .records) (a .texts);
-        change = q .change;
+        reads = q;
         next =
             record {
               records = rw (add-one i, take-suc cs i begin h) (omega (arith, q .size, a .records, ap length (records-snoc F (take i cs) c), length-append (encodeRecords F (take i cs)) (recordOf F c)));
@@ -86,11 +87,60 @@ module _ (R : Repertoire) (F : Format) (rs ts : List ℕ) (cs : List Change) (i 
       (λ x. x)
       (λ x. absurd (omega (arith, a .records, ap (λ (y : List Change). length (encodeRecords F y)) (take-all i cs x), ap length (l .records))))
 
-  -- past the end every number is the list's end
-  pub stays : (j : ℕ) → At F cs i at t → length cs ≤ i → i ≤ j → At F cs j at t
-  stays j a h k =
-      let e : take j cs ≡ take i cs = take-all j cs (omega arith) ∙ sym (take-all i cs h) in
+-- ---- a walk over the records
+-- it has come to at: P holds of the changes of the list before it
+pub record Upto (F : Format) (cs : List Change) (at : ℕ) (P : List Change → Type 0) : Type 0 where
+  pub count : ℕ
+  pub size : ℕ
+  pub place : At F cs count at size
+  pub holds : P (take count cs)
+
+-- the change c stands at at, behind the changes us
+pub record Next (F : Format) (rs : List ℕ) (at : ℕ) (us : List Change) (c : Change) : Type 0 where
+  pub place : at ≡ length (encodeRecords F us)
+  pub kind : getD rs at 0 ≡ kindOf F c
+  pub texts : textsAt F rs at (getD rs at 0) ≡ length (textsOf c)
+  pub behind : at + sizeOf F (getD rs at 0) ≡ length (encodeRecords F (us ++ (c ∷ [])))
+
+module _ (R : Repertoire) (F : Format) (rs : List ℕ) where
+  -- in every list that has these records
+  abbrev pub Come : ℕ → (List Change → Type 0) → Type 0
+  Come at P = (ts : List ℕ) (cs : List Change) → Layout R F rs ts cs → Upto F cs at P
+
+  pub come-start : (P : List Change → Type 0) → P [] → Come 0 P
+  come-start P p ts cs l = record { count = 0; size = 0; place = at-start F cs; holds = p }
+
+  -- a record is passed, of n bytes
+  pub come-next : (at n : ℕ) (P Q : List Change → Type 0) → at < length rs → n ≡ sizeOf F (getD rs at 0) → ((us : List Change) (c : Change) → Next F rs at us c → P us → Q (us ++ (c ∷ []))) → Come at P
+      → Come (at + n) Q
+  come-next at n P Q h e f w ts cs l =
+      let u = w ts cs l in
+      let i = u .count in
+      let c = getD cs i begin in
+      let x = before-end R F rs ts cs i at (u .size) l (u .place) h in
+      let q = here R F rs ts cs i at (u .size) l x (u .place) in
+      let s : take (i + 1) cs ≡ take i cs ++ (c ∷ []) = rw (add-one i) (take-suc cs i begin x) in
       record {
-        records = a .records ∙ ap (λ (y : List Change). length (encodeRecords F y)) (sym e);
-        texts = a .texts ∙ ap (λ (y : List Change). length (encodeTexts y)) (sym e);
+        count = i + 1;
+        size = u .size + textsAt F rs at (getD rs at 0);
+        place = rw e (q .next);
+        holds =
+            rw s
+            (f (take i cs) c
+            (record { place = u .place .records; kind = q .reads .kind; texts = q .reads .texts; behind = q .next .records ∙ ap (λ (y : List Change). length (encodeRecords F y)) s })
+            (u .holds));
       }
+
+  -- all records are passed
+  pub come-end : (at : ℕ) (P : List Change → Type 0) → length rs ≤ at → Come at P → (ts : List ℕ) (cs : List Change) → Layout R F rs ts cs → P cs
+  come-end at P h w ts cs l =
+      let u = w ts cs l in
+      subst P (take-all (u .count) cs (past R F rs ts cs (u .count) at (u .size) l (u .place) h)) (u .holds)
+
+  -- a whole record stands there
+  pub come-whole : (at : ℕ) (P : List Change → Type 0) → Listed R F rs → at < length rs → Come at P → (0 < sizeOf F (getD rs at 0)) × (at + sizeOf F (getD rs at 0) ≤ length rs)
+  come-whole at P r h w =
+      let u = w (r .texts) (r .changes) (r .lays) in
+      let x = before-end R F rs (r .texts) (r .changes) (u .count) at (u .size) (r .lays) (u .place) h in
+      let q = here R F rs (r .texts) (r .changes) (u .count) at (u .size) (r .lays) x (u .place) .all in
+      (q .kind, q .body)

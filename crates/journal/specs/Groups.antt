@@ -1,6 +1,6 @@
 -- The rest of Changeset on values: undo.rs, begin, end, truncate and last_insert. The undo list is newest first.
 use Prim.Native.Nat.{ℕ, zero, suc, _+_, _-_}
-use mathlib.Core.Bool.{Bool, true, false}
+use mathlib.Core.Bool.{Bool, true, false, cond}
 use mathlib.Core.List.{List, [], _∷_}
 use mathlib.Core.Option.{Option, some, none}
 use lib.ListN.{length, drop}
@@ -45,6 +45,21 @@ ended g = record { undo = endAll (g .level) (g .undo); redo = []; level = 0 }
 -- truncate: the first len records stay, the redo list and the level are untouched
 abbrev pub truncated : ℕ → Log → Log
 truncated len g = record { undo = drop (length (g .undo) - len) (g .undo); redo = g .redo; level = g .level }
+
+abbrev pub isBegin : Change → Bool
+isBegin begin = true
+isBegin end = false
+isBegin (edit x) = false
+
+abbrev pub isEnd : Change → Bool
+isEnd begin = false
+isEnd end = true
+isEnd (edit x) = false
+
+-- a list without the newest records, as far as they all meet a test
+unfoldable pub passed : (Change → Bool) → List Change → List Change
+passed f [] = []
+passed f (c ∷ u) = cond (f c) (passed f u) (c ∷ u)
 
 -- last_insert, from the newest record back: Ends are passed; the text of an Insert, the new text of a Replace; else none
 unfoldable pub lastInsert : List Change → Option (List ℕ)

@@ -14,3 +14,9 @@ pub record Holds (R : Repertoire) (F : Format) (rb tb : List ℕ) (ur ut rr rt :
   pub texts : ut ≡ length (encodeTexts us)
   pub room : ur + rr ≤ length rb
   pub space : ut + rt ≤ length tb
+
+-- these bytes are the records of a list
+pub record Listed (R : Repertoire) (F : Format) (rs : List ℕ) : Type 0 where
+  pub texts : List ℕ
+  pub changes : List Change
+  pub lays : Layout R F rs texts changes

@@ -37,6 +37,14 @@ numAt zero s at = 0
 numAt (suc w) s at = getD s at 0 + 256 * numAt w s (at + 1)
 
 module _ (F : Format) where
+  -- the byte of kind
+  abbrev pub kindOf : Change → ℕ
+  kindOf begin = 1
+  kindOf end = 2
+  kindOf (edit (insert p s)) = 3 + F .offset
+  kindOf (edit (delete p s)) = 4 + F .offset
+  kindOf (edit (replace p o n)) = 5 + F .offset
+
   -- 1 Begin, 2 End, 3 Insert, 4 Delete: place and length; 5 Replace: place, old length, new length
   abbrev pub recordOf : Change → List ℕ
   recordOf begin = 1 ∷ []

@@ -3,4 +3,4 @@ pub mod Recording
 pub mod Groups
 pub mod Layout
 pub mod Hold
-pub mod Last
+pub mod Undo

@@ -1,6 +1,6 @@
 -- Laws of tests, and case splits on them. Assumes nothing.
 use mathlib.Core.Path.{_≡_, refl, sym, subst, _∙_}
-use mathlib.Core.Bool.{Bool, true, false, cond, _&&_}
+use mathlib.Core.Bool.{Bool, true, false, cond, _&&_, _||_}
 use mathlib.Core.Logic.{_⊎_, inl, inr}
 use Prim.Native.Nat.{ℕ, _<_, _≤_}
 use native.Mathlib.Omega.{arith}
@@ -19,6 +19,11 @@ and-swap false false c = refl
 -- no test is both
 pub never : (P : Type 0) (b : Bool) → b ≡ true → b ≡ false → P
 never P b t f = absurd (subst T (sym t ∙ f) tt)
+
+-- neither of two tests is met
+pub or-none : (a b : Bool) → a || b ≡ false → (a ≡ false) × (b ≡ false)
+or-none true b e = never _ true refl e
+or-none false b e = (refl, e)
 
 pub cond-cases : (t : Bool) (a b : Bool) → cond t a b ≡ true → ((t ≡ true) × (a ≡ true)) ⊎ ((t ≡ false) × (b ≡ true))
 cond-cases true a b e = inl (refl, e)

@@ -1,11 +1,11 @@
 -- Runs of stores, one behind the other, and what a front of the list is after them. Assumes nothing.
-use mathlib.Core.Path.{_≡_, sym, ap, _∙_}
-use mathlib.Core.List.{List, [], _∷_, _++_, append-assoc}
+use mathlib.Core.Path.{_≡_, ap, _∙_}
+use mathlib.Core.List.{List, [], _∷_, _++_}
 use Prim.Native.Nat.{ℕ, suc, _+_, _≤_}
 use native.Mathlib.Nat.{add-zero}
 use native.Mathlib.Omega.{arith}
 use lib.ListN.{length, set, take, drop, length-append}
-use lib.Seq.{sets, sets-eq, take-at, take-take, length-take-le}
+use lib.Seq.{sets, sets-eq, take-at, length-take-le}
 
 module _ {A : Type 0} where
   pub sets-append : (l : List A) (i : ℕ) (a b : List A) → sets (sets l i a) (i + length a) b ≡ sets l i (a ++ b)
@@ -19,10 +19,3 @@ module _ {A : Type 0} where
   take-sets l i a h =
       rw (sets-eq a l i h)
       (take-at (take i l ++ a) (drop (i + length a) l) (i + length a) (length-append (take i l) a ∙ ap (λ (n : ℕ). n + length a) (length-take-le i l (omega arith))))
-
-  -- the front before what was stored
-  pub take-sets-before : (l : List A) (i k : ℕ) (a : List A) → i + length a ≤ length l → k ≤ i → take k (sets l i a) ≡ take k l
-  take-sets-before l i k a h e =
-      sym (take-take k i (sets l i a) e)
-      ∙ ap (take k) (ap (take i) (sets-eq a l i h ∙ append-assoc (take i l) a (drop (i + length a) l)) ∙ take-at (take i l) (a ++ drop (i + length a) l) i (length-take-le i l (omega arith)))
-      ∙ take-take k i l e

@@ -1,11 +1,30 @@
-// The text scan, exported for the benchmark in bench/ alone.
+// The scans of a text and of a log, exported for the benchmark in bench/ alone.
 ghost use mathlib.Core.Path.{_≡_};
+ghost use mathlib.Core.Bool.{false};
 ghost use Rattle.unicode.specs.Repertoire.{catalogue};
 ghost use Rattle.unicode.specs.Text.{isText};
+ghost use Rattle.journal.specs.Layout.{narrow};
+ghost use Rattle.changeset.specs.Calls.{lent, checked};
+use changeset::Log;
+use records::Format;
+
+// The format of the log's records: numbers of 2 bytes, kinds 1 to 5.
+const NARROW: Format = Format {
+    width: 2,
+    offset: 0,
+};
 
 #[no_mangle]
 pub extern "C" fn tlf_bench_check_text(s: &[u8]) -> bool
     ensures { λ r. ⌜ r ≡ isText catalogue (now (s .entry)) ⌝ }
 {
     unicode::check_text(s)
+}
+
+// Checks 2 and 8 of a lent log.
+#[no_mangle]
+pub extern "C" fn tlf_bench_check_log(records: &[u8], texts: &[u8], log: Log) -> u32
+    ensures { λ r. ⌜ r ≡ checked catalogue narrow (lent (now (records .entry)) (now (texts .entry)) log) false ⌝ }
+{
+    changeset::refusal(NARROW, records, texts, log, false)
 }

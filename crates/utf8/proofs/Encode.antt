@@ -5,10 +5,10 @@ use mathlib.Core.List.{List, [], _∷_, _++_, append-assoc}
 use mathlib.Core.Logic.{⊎-elim, _⊎_, inl, inr}
 use Prim.Native.Nat.{ℕ, suc, _+_, _*_, _/_, _%_, _<_, _≤_}
 use native.Mathlib.Omega.{arith}
-use lib.Dec.{leb, ltb, eqb}
+use lib.Dec.{leb, eqb}
 use lib.ListN.{length, getD, take, drop, set, take-append-drop}
 use lib.Seq.{sets, take-suc, drop-at}
-use borrow.Author.Tests.{le-leb, lt-leb, lt-ltb, leb-true, eqb-true, eqb-false}
+use borrow.Author.Tests.{le-leb, lt-leb, leb-true, eqb-true, eqb-false}
 use Rattle.lists.specs.Lists.{all}
 use Rattle.lists.proofs.Bools.{and-both, by-less, by-test, never}
 use Rattle.utf8.specs.Utf8.{char, bad, within, tail, one, two, lead3, three, lead4, four, orElse, firstOf, first}
@@ -318,15 +318,6 @@ pub chars-scalar : (s : List ℕ) → all scalar (chars s) ≡ true
 chars-scalar =
     by-chars (λ (s : List ℕ). all scalar (chars s) ≡ true) (λ t e. rw (chars-bad t e))
     (λ t c n e r. rw (chars-step t c n e, first-scalar t c n e) r)
-
-pub bytes-below : (c : ℕ) → scalar c ≡ true → all (λ b. ltb b 256) (encode c) ≡ true
-bytes-below c s =
-    let p = scalar-true c s .0 in
-    by-row _ c
-    (λ h. rw (row-one c h .bytes, lt-ltb c 256 (omega arith)))
-    (λ l h. rw (row-two c l h .bytes, lt-ltb (0xC0 + c / 64) 256 (omega arith), lt-ltb (0x80 + c % 64) 256 (omega arith)))
-    (λ l h. rw (row-three c l h .bytes, lt-ltb (0xE0 + c / 4096) 256 (omega arith), lt-ltb (0x80 + c / 64 % 64) 256 (omega arith), lt-ltb (0x80 + c % 64) 256 (omega arith)))
-    (λ l. rw (row-four c l .bytes, lt-ltb (0xF0 + c / 262144) 256 (omega arith), lt-ltb (0x80 + c / 4096 % 64) 256 (omega arith), lt-ltb (0x80 + c / 64 % 64) 256 (omega arith), lt-ltb (0x80 + c % 64) 256 (omega arith)))
 
 -- ---- a character written into a buffer
 pub refused : (s : List ℕ) (at c : ℕ) → scalar c ≡ false → EncodedAt s at c s 0

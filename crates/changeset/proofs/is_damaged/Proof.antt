@@ -4,9 +4,9 @@ use native.Mathlib.Omega.{arith}
 use borrow.Author.Tests.{lt-ltb, le-ltb, not-true, not-false}
 use lib.Seq.{length-take-le}
 use Rattle.unicode.specs.Repertoire.{catalogue}
-use Rattle.changeset.specs.Formats.{asFormat}
+use Rattle.records.specs.Formats.{asFormat}
 use Rattle.changeset.specs.Logs.{damaged}
-use Rattle.changeset.proofs.Logs.{list-behind}
+use Rattle.changeset.proofs.Sums.{list-behind}
 use borrow.Author.Needs.{needs}
 use Rattle.changeset.proofs.is_damaged.Statement.{statement}
 use Rattle.changeset.proofs.is_damaged.Tie as tie

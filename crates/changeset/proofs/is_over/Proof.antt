@@ -1,6 +1,6 @@
 use Prim.Native.Nat.{_+_}
 use borrow.Author.Tests.{lt-ltb}
-use Rattle.changeset.proofs.Logs.{over-sum}
+use Rattle.changeset.proofs.Sums.{over-sum}
 use native.Mathlib.Omega.{arith}
 use Rattle.changeset.proofs.is_over.Statement.{statement}
 use Rattle.changeset.proofs.is_over.Tie as tie

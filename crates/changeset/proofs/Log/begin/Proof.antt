@@ -1,0 +1,72 @@
+use native.Mathlib.Omega.{arith}
+use mathlib.Core.Path.{sym, ap}
+use lib.Seq.{length-take-le}
+use denote.Ref.{now}
+use Rattle.unicode.specs.Repertoire.{catalogue}
+use Rattle.records.specs.Formats.{asFormat}
+use Rattle.changeset.specs.declared.Log.{Log}
+use Rattle.changeset.specs.Outcomes.{beginOut}
+use Rattle.changeset.specs.Calls.{lent, sizesOf, valueOf}
+use Rattle.changeset.proofs.Answers.{answered-as}
+use Rattle.changeset.proofs.Recorded.{listed}
+use Rattle.changeset.proofs.Groups.{begin-high, begin-full, begin-mark, begin-takes}
+use borrow.Author.Needs.{needs}
+use Rattle.changeset.proofs.Log.begin.Statement.{statement}
+use Rattle.changeset.proofs.Log.begin.Tie as tie
+
+says-requires : tie.Need-says-requires
+says-requires c κs = search needs
+
+returns : tie.Need-returns
+returns c = answered-as (asFormat (c .before .before .before .before .before .args .f)) (lent (now (c .before .before .before .before .before .args .records)) (now (c .before .before .before .before .before .args .texts)) (c .before .before .before .before .before .args .self)) (beginOut (asFormat (c .before .before .before .before .before .args .f)) (sizesOf (lent (now (c .before .before .before .before .before .args .records)) (now (c .before .before .before .before .before .args .texts)) (c .before .before .before .before .before .args .self))) (valueOf catalogue (asFormat (c .before .before .before .before .before .args .f)) (lent (now (c .before .before .before .before .before .args .records)) (now (c .before .before .before .before .before .args .texts)) (c .before .before .before .before .before .args .self)))) _ _ _ _ (c .says .ensures) (begin-high (asFormat (c .before .before .before .before .before .args .f)) (lent (now (c .before .before .before .before .before .args .records)) (now (c .before .before .before .before .before .args .texts)) (c .before .before .before .before .before .args .self)) (c .before .before .before .before .before .pre .1) (c .before .if1 .taken))
+
+says-requires-2 : tie.Need-says-requires-2
+says-requires-2 c κs = search needs
+
+returns-2 : tie.Need-returns-2
+returns-2 c = answered-as (asFormat (c .before .before .before .before .before .before .args .f)) (lent (now (c .before .before .before .before .before .before .args .records)) (now (c .before .before .before .before .before .before .args .texts)) (c .before .before .before .before .before .before .args .self)) (beginOut (asFormat (c .before .before .before .before .before .before .args .f)) (sizesOf (lent (now (c .before .before .before .before .before .before .args .records)) (now (c .before .before .before .before .before .before .args .texts)) (c .before .before .before .before .before .before .args .self))) (valueOf catalogue (asFormat (c .before .before .before .before .before .before .args .f)) (lent (now (c .before .before .before .before .before .before .args .records)) (now (c .before .before .before .before .before .before .args .texts)) (c .before .before .before .before .before .before .args .self)))) _ _ _ _ (c .says2 .ensures) (begin-full (asFormat (c .before .before .before .before .before .before .args .f)) (lent (now (c .before .before .before .before .before .before .args .records)) (now (c .before .before .before .before .before .before .args .texts)) (c .before .before .before .before .before .before .args .self)) (c .before .before .before .before .before .before .pre .1) (c .before .before .if1 .left) (c .before .if2 .taken))
+
+slice-reshare-prefix-walk : tie.Need-slice-reshare-prefix-walk
+slice-reshare-prefix-walk c = search needs
+
+slice-aggregate-walk : tie.Need-slice-aggregate-walk
+slice-aggregate-walk c = sym (length-take-le _ _ (omega (arith, (c .before .before .before .before .before .before .pre .1) .hold .room)))
+
+walk-requires : tie.Need-walk-requires
+walk-requires c κs = (c .before .before .before .before .before .before .pre .0, (listed (asFormat (c .before .before .before .before .before .before .args .f)) (lent (now (c .before .before .before .before .before .before .args .records)) (now (c .before .before .before .before .before .before .args .texts)) (c .before .before .before .before .before .before .args .self)) (c .before .before .before .before .before .before .pre .1), omega (arith, length-take-le (c .before .before .before .before .before .before .args .self .undo .records) (now (c .before .before .before .before .before .before .args .records)) (omega (arith, (c .before .before .before .before .before .before .pre .1) .hold .room)), (c .before .before .before .before .before .before .pre .1) .records)))
+
+slice-write-records : tie.Need-slice-write-records
+slice-write-records c = search needs
+
+add-self : tie.Need-add-self
+add-self c = search needs
+
+add-only-undo : tie.Need-add-only-undo
+add-only-undo c = search needs
+
+only-undo-requires : tie.Need-only-undo-requires
+only-undo-requires c κs = search needs
+
+same-length : tie.Need-same-length
+same-length c = search needs
+
+returns-3 : tie.Need-returns-3
+returns-3 c = answered-as (asFormat (c .before .before .before .before .before .before .before .before .args .f)) (lent (now (c .before .before .before .before .before .before .before .before .args .records)) (now (c .before .before .before .before .before .before .before .before .args .texts)) (c .before .before .before .before .before .before .before .before .args .self)) (beginOut (asFormat (c .before .before .before .before .before .before .before .before .args .f)) (sizesOf (lent (now (c .before .before .before .before .before .before .before .before .args .records)) (now (c .before .before .before .before .before .before .before .before .args .texts)) (c .before .before .before .before .before .before .before .before .args .self))) (valueOf catalogue (asFormat (c .before .before .before .before .before .before .before .before .args .f)) (lent (now (c .before .before .before .before .before .before .before .before .args .records)) (now (c .before .before .before .before .before .before .before .before .args .texts)) (c .before .before .before .before .before .before .before .before .args .self)))) _ _ _ _ (ap (λ (g : Log). record { number = 0; from = c .before .walk .result .count; to = 0; log = g }) (c .only-undo .ensures)) (begin-takes (asFormat (c .before .before .before .before .before .before .before .before .args .f)) (lent (now (c .before .before .before .before .before .before .before .before .args .records)) (now (c .before .before .before .before .before .before .before .before .args .texts)) (c .before .before .before .before .before .before .before .before .args .self)) (c .before .before .before .before .before .before .before .before .pre .1) (c .before .walk .result .count) (c .before .before .before .before .if1 .left) (c .before .before .before .if2 .left) (begin-mark (asFormat (c .before .before .before .before .before .before .before .before .args .f)) (lent (now (c .before .before .before .before .before .before .before .before .args .records)) (now (c .before .before .before .before .before .before .before .before .args .texts)) (c .before .before .before .before .before .before .before .before .args .self)) (c .before .before .before .before .before .before .before .before .pre .1) (c .before .walk .result) (c .before .walk .ensures)))
+
+pub begin-spec : {M : Type 1} → statement M
+begin-spec =
+    tie.close
+    (tie.spec
+    says-requires
+    returns
+    says-requires-2
+    returns-2
+    slice-reshare-prefix-walk
+    slice-aggregate-walk
+    walk-requires
+    slice-write-records
+    add-self
+    add-only-undo
+    only-undo-requires
+    same-length
+    returns-3)

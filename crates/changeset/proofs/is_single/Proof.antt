@@ -1,0 +1,15 @@
+use denote.Ref.{now}
+use Rattle.unicode.specs.Repertoire.{catalogue}
+use Rattle.changeset.proofs.Single.{single}
+use borrow.Author.Needs.{needs}
+use Rattle.changeset.proofs.is_single.Statement.{statement}
+use Rattle.changeset.proofs.is_single.Tie as tie
+
+next-cluster-requires : tie.Need-next-cluster-requires
+next-cluster-requires c κs = search needs
+
+returns : tie.Need-returns
+returns c = single catalogue (now (c .before .before .before .before .args .s)) (c .before .before .before .before .pre) (c .before .before .next-cluster .result) (c .before .before .next-cluster .ensures .0) (c .before .before .next-cluster .ensures .1)
+
+pub is-single-spec : {M : Type 1} → statement M
+is-single-spec = tie.close (tie.spec next-cluster-requires returns)

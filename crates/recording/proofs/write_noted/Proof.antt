@@ -1,0 +1,52 @@
+use native.Mathlib.Omega.{arith}
+use mathlib.Core.Path.{ap, _∙_}
+use Prim.Native.Nat.{ℕ, _-_}
+use lib.Seq.{sets}
+use denote.Ref.{now}
+use Rattle.records.specs.Formats.{asFormat}
+use Rattle.records.specs.Written.{recordBytes}
+use Rattle.recording.proofs.Written.{texts-written}
+use borrow.Author.Needs.{needs}
+use Rattle.recording.proofs.write_noted.Statement.{statement}
+use Rattle.recording.proofs.write_noted.Tie as tie
+
+edit-size-requires : tie.Need-edit-size-requires
+edit-size-requires c κs = search needs
+
+sub-at : tie.Need-sub-at
+sub-at c = search needs
+
+write-record-requires : tie.Need-write-record-requires
+write-record-requires c κs = search needs
+
+insert-bytes-requires : tie.Need-insert-bytes-requires
+insert-bytes-requires c κs = search needs
+
+add-end : tie.Need-add-end
+add-end c = search needs
+
+insert-bytes-requires-2 : tie.Need-insert-bytes-requires-2
+insert-bytes-requires-2 c κs = search needs
+
+same-length : tie.Need-same-length
+same-length c = search needs
+
+same-length-2 : tie.Need-same-length-2
+same-length-2 c = search needs
+
+returns : tie.Need-returns
+returns c = record { records = c .before .before .before .before .before .before .before .before .before .before .write-record .ensures ∙ ap (λ (i : ℕ). sets (now (c .before .before .before .before .before .before .before .before .before .before .before .before .before .before .before .before .before .before .before .args .records)) ((c .before .before .before .before .before .before .before .before .before .before .before .before .before .before .before .before .before .before .before .args .n .tail) .records - i) (recordBytes (asFormat (c .before .before .before .before .before .before .before .before .before .before .before .before .before .before .before .before .before .before .before .args .f)) ((c .before .before .before .before .before .before .before .before .before .before .before .before .before .before .before .before .before .before .before .args .n .tail) .kind) ((c .before .before .before .before .before .before .before .before .before .before .before .before .before .before .before .before .before .before .before .args .n .tail) .place) ((c .before .before .before .before .before .before .before .before .before .before .before .before .before .before .before .before .before .before .before .args .n .tail) .old) ((c .before .before .before .before .before .before .before .before .before .before .before .before .before .before .before .before .before .before .before .args .n .tail) .new))) (c .before .before .before .before .before .before .before .before .before .before .before .before .before .edit-size .ensures .0); texts = texts-written (now (c .before .before .before .before .before .before .before .before .before .before .before .before .before .before .before .before .before .before .before .args .texts)) (c .before .before .before .before .before .before .insert-bytes .last .0) (c .before .before .insert-bytes2 .last .0) (now (c .before .before .before .before .before .before .before .before .before .before .before .before .before .before .before .before .before .before .before .args .old)) (now (c .before .before .before .before .before .before .before .before .before .before .before .before .before .before .before .before .before .before .before .args .new)) (c .before .before .before .before .before .before .before .before .before .before .before .before .before .before .before .before .before .before .before .args .used) (c .before .before .before .before .before .before .before .before .before .before .before .before .before .before .before .before .before .before .before .args .n .at) (omega (arith, c .before .before .before .before .before .before .insert-bytes .kept .0, c .before .before .before .before .before .before .before .before .before .before .before .before .before .before .before .before .before .before .before .pre .1)) (c .before .before .before .before .before .before .insert-bytes .ensures) (c .before .before .insert-bytes2 .ensures) }
+
+pub write-noted-spec : {M : Type 1} → statement M
+write-noted-spec =
+    tie.close
+    (tie.spec
+    edit-size-requires
+    sub-at
+    write-record-requires
+    insert-bytes-requires
+    add-end
+    insert-bytes-requires-2
+    same-length
+    same-length-2
+    returns)

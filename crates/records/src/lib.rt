@@ -1,0 +1,270 @@
+// Records: document 01, "Log and ring". A list of changes in bytes is checked, walked over from its front, and written record by record.
+ghost use mathlib.Core.Path.{_≡_};
+ghost use Prim.Native.Nat.{_+_, _≤_, _<_};
+ghost use lib.ListN.{length, getD};
+ghost use lib.Seq.{sets};
+ghost use Rattle.unicode.specs.Repertoire.{catalogue};
+ghost use Rattle.journal.specs.Layout.{top, le, numAt, sizeOf, textsAt, changeAt, okChange, decode, isSome};
+ghost use Rattle.journal.specs.Hold.{Listed};
+ghost use Rattle.records.specs.Formats.{asFormat, Fit};
+ghost use Rattle.records.specs.Walks.{Walks, LastAt, RunAt};
+ghost use Rattle.records.specs.Written.{recordBytes, editSize};
+use unicode::check_text;
+
+// How the log's records are written: the bytes of a number, and by how much the kinds of edits are raised.
+pub struct Format {
+    pub width: usize,
+    pub offset: usize,
+}
+
+fn wide(b: u8) -> usize
+    ensures { λ r. ⌜ (r ≡ b) × (r < 256) ⌝ }
+{
+    b as usize
+}
+
+// The little-endian number in the width bytes at a place.
+pub fn read_num(s: &[u8], at: usize, width: usize) -> usize
+    requires { ⌜ (width ≤ 4) × (at + width ≤ length (now s)) ⌝ }
+    ensures { λ r. ⌜ (r ≡ numAt width (now (s .entry)) at) × (r < 4294967296) ⌝ }
+{
+    let mut value: usize = 0;
+    let mut left = width;
+    while 0 < left {
+        left -= 1;
+        value = wide(s[at + left]) + 256 * value;
+    }
+    value
+}
+
+// The size of a record by its kind; 0 for a byte that is no kind.
+pub fn record_size(f: Format, kind: usize) -> usize
+    requires { ⌜ Fit f ⌝ }
+    ensures { λ r. ⌜ (r ≡ sizeOf (asFormat f) kind) × (r ≤ 13) ⌝ }
+{
+    let w = f.width;
+    let o = f.offset;
+    if kind == 1 {
+        return 1;
+    }
+    if kind == 2 {
+        return 1;
+    }
+    if kind == 3 + o {
+        return 1 + w + w;
+    }
+    if kind == 4 + o {
+        return 1 + w + w;
+    }
+    if kind == 5 + o {
+        return 1 + w + w + w;
+    }
+    0
+}
+
+// The size of the texts of the whole record at a place.
+pub fn texts_size(f: Format, records: &[u8], at: usize) -> usize
+    requires { ⌜ Fit f ⌝ }
+    requires { ⌜ (0 < sizeOf (asFormat f) (getD (now records) at 0)) × (at + sizeOf (asFormat f) (getD (now records) at 0) ≤ length (now records)) ⌝ }
+    ensures { λ r. ⌜ (r ≡ textsAt (asFormat f) (now (records .entry)) at (getD (now (records .entry)) at 0)) × (r < 8589934592) ⌝ }
+{
+    let kind = wide(records[at]);
+    let w = f.width;
+    let o = f.offset;
+    if kind <= 2 {
+        return 0;
+    }
+    let first = read_num(records, at + 1 + w, w);
+    if kind <= 4 + o {
+        return first;
+    }
+    first + read_num(records, at + 1 + w + w, w)
+}
+
+// Are the texts of the whole record at a place, which begin at t, texts of the repertoire?
+pub fn texts_ok(f: Format, records: &[u8], texts: &[u8], at: usize, t: usize) -> bool
+    requires { ⌜ Fit f ⌝ }
+    requires { ⌜ (0 < sizeOf (asFormat f) (getD (now records) at 0)) × (at + sizeOf (asFormat f) (getD (now records) at 0) ≤ length (now records)) ⌝ }
+    requires { ⌜ t + textsAt (asFormat f) (now records) at (getD (now records) at 0) ≤ length (now texts) ⌝ }
+    ensures { λ r. ⌜ r ≡ okChange catalogue (changeAt (asFormat f) (now (records .entry)) (now (texts .entry)) at t (getD (now (records .entry)) at 0)) ⌝ }
+{
+    let kind = wide(records[at]);
+    let w = f.width;
+    let o = f.offset;
+    if kind <= 2 {
+        return true;
+    }
+    let a = t + read_num(records, at + 1 + w, w);
+    if kind <= 4 + o {
+        return check_text(&texts[t..a]);
+    }
+    let b = a + read_num(records, at + 1 + w + w, w);
+    if !check_text(&texts[t..a]) {
+        return false;
+    }
+    check_text(&texts[a..b])
+}
+
+// Are records and texts the layout of a list of changes? One pass over each.
+pub fn check_list(f: Format, records: &[u8], texts: &[u8]) -> bool
+    requires { ⌜ Fit f ⌝ }
+    ensures { λ r. ⌜ r ≡ isSome (decode catalogue (asFormat f) (now (records .entry)) (now (texts .entry))) ⌝ }
+{
+    let mut at: usize = 0;
+    let mut t: usize = 0;
+    while at < records.len() {
+        let size = record_size(f, wide(records[at]));
+        if size == 0 {
+            return false;
+        }
+        if records.len() - at < size {
+            return false;
+        }
+        let m = texts_size(f, records, at);
+        if texts.len() - t < m {
+            return false;
+        }
+        if !texts_ok(f, records, texts, at, t) {
+            return false;
+        }
+        at += size;
+        t += m;
+    }
+    t == texts.len()
+}
+
+// Where a walk over records ends: how many it passed, and the size of those records and of their texts.
+pub struct Walked {
+    pub count: usize,
+    pub records: usize,
+    pub texts: usize,
+}
+
+// The first n records of a list, or all of them.
+pub fn walk(f: Format, records: &[u8], n: usize) -> Walked
+    requires { ⌜ Fit f ⌝ }
+    requires { ⌜ Listed catalogue (asFormat f) (now records) ⌝ }
+    requires { ⌜ length (now records) ≤ 32768 ⌝ }
+    ensures { λ r. ⌜ Walks catalogue (asFormat f) (now (records .entry)) n r ⌝ }
+{
+    let mut count: usize = 0;
+    let mut at: usize = 0;
+    let mut t: usize = 0;
+    while at < records.len() {
+        if count == n {
+            return Walked {
+                count,
+                records: at,
+                texts: t,
+            };
+        }
+        t += texts_size(f, records, at);
+        at += record_size(f, wide(records[at]));
+        count += 1;
+    }
+    Walked {
+        count,
+        records: at,
+        texts: t,
+    }
+}
+
+// Where the last record of a list begins.
+pub fn last_start(f: Format, records: &[u8]) -> usize
+    requires { ⌜ Fit f ⌝ }
+    requires { ⌜ Listed catalogue (asFormat f) (now records) ⌝ }
+    ensures { λ r. ⌜ LastAt catalogue (asFormat f) (now (records .entry)) r ⌝ }
+{
+    let mut at: usize = 0;
+    let mut last: usize = 0;
+    while at < records.len() {
+        last = at;
+        at += record_size(f, wide(records[at]));
+    }
+    last
+}
+
+// Where the records of one kind that stand last begin.
+pub fn run_start(f: Format, records: &[u8], kind: usize) -> usize
+    requires { ⌜ Fit f ⌝ }
+    requires { ⌜ Listed catalogue (asFormat f) (now records) ⌝ }
+    ensures { λ r. ⌜ RunAt catalogue (asFormat f) (now (records .entry)) kind r ⌝ }
+{
+    let mut at: usize = 0;
+    let mut start: usize = 0;
+    while at < records.len() {
+        let k = wide(records[at]);
+        at += record_size(f, k);
+        if k != kind {
+            start = at;
+        }
+    }
+    start
+}
+
+// The number above those of width bytes.
+pub fn top_of(width: usize) -> usize
+    requires { ⌜ width ≤ 4 ⌝ }
+    ensures { λ r. ⌜ r ≡ top width ⌝ }
+{
+    let mut above: usize = 1;
+    let mut left = width;
+    while 0 < left {
+        left -= 1;
+        above = 256 * above;
+    }
+    above
+}
+
+// A number of width bytes, little-endian, at a place.
+pub fn write_num(s: &mut [u8], at: usize, v: usize, width: usize)
+    requires { ⌜ at + width ≤ length (now s) ⌝ }
+    ensures { λ _. ⌜ now (s .exit) ≡ sets (now (s .entry)) at (le width v) ⌝ }
+{
+    let mut rest = v;
+    let mut i: usize = 0;
+    while i < width {
+        s[at + i] = (rest % 256) as u8;
+        rest = rest / 256;
+        i += 1;
+    }
+}
+
+// The size of an edit's record: kind 3, 4 or 5.
+pub fn edit_size(f: Format, kind: usize) -> usize
+    requires { ⌜ Fit f ⌝ }
+    ensures { λ r. ⌜ (r ≡ editSize (asFormat f) kind) × (r ≤ 13) ⌝ }
+{
+    let w = f.width;
+    if kind == 5 { 1 + w + w + w } else { 1 + w + w }
+}
+
+// An edit's record at a place: kind 3 Insert, 4 Delete, 5 Replace.
+pub fn write_record(
+    f: Format,
+    records: &mut [u8],
+    at: usize,
+    kind: usize,
+    place: usize,
+    old: usize,
+    new: usize,
+)
+    requires { ⌜ Fit f ⌝ }
+    requires { ⌜ (3 ≤ kind) × (kind ≤ 5) ⌝ }
+    requires { ⌜ at + editSize (asFormat f) kind ≤ length (now records) ⌝ }
+    ensures { λ _. ⌜ now (records .exit) ≡ sets (now (records .entry)) at (recordBytes (asFormat f) kind place old new) ⌝ }
+{
+    let w = f.width;
+    let o = f.offset;
+    records[at] = (kind + o) as u8;
+    write_num(records, at + 1, place, w);
+    if kind == 3 {
+        write_num(records, at + 1 + w, new, w);
+        return;
+    }
+    write_num(records, at + 1 + w, old, w);
+    if kind == 4 {
+        return;
+    }
+    write_num(records, at + 1 + w + w, new, w);
+}
