@@ -1,0 +1,167 @@
+-- One change made and recorded: the ways it is refused, and what it leaves. Assumes nothing.
+use Prim.Native.Nat.{ℕ, _+_, _-_, _≤_, _<_}
+use native.Mathlib.Omega.{arith}
+use mathlib.Core.Path.{_≡_, refl, sym, ap, ap₂, subst, _∙_}
+use mathlib.Core.Bool.{Bool, true, false, cond, not, _&&_}
+use mathlib.Core.List.{List, [], _∷_}
+use lib.Dec.{ltb, eqb}
+use lib.ListN.{length, take, drop, length-drop}
+use lib.Seq.{length-take-le, take-take}
+use borrow.Author.Tests.{lt-ltb, le-ltb, eq-eqb, ne-eqb, eqb-true}
+use Rattle.lists.proofs.Bools.{and-both}
+use Rattle.lists.proofs.Parts.{drop-take}
+use Rattle.unicode.specs.Repertoire.{catalogue}
+use Rattle.buffer.specs.Edit.{inserted, cut}
+use Rattle.journal.specs.Change.{Edit, insert, delete, replace, Change, edit, place, old, new}
+use Rattle.journal.specs.Layout.{Format, okChange}
+use Rattle.journal.specs.Recording.{note}
+use Rattle.journal.specs.Groups as groups
+use Rattle.journal.specs.Undo.{fits}
+use mathlib.Core.Logic.{_⊎_, inl, inr, ⊎-elim}
+use Rattle.recording.specs.Tails.{kindNumber}
+use Rattle.changeset.specs.Outcomes.{answered, refused, recordOut}
+use Rattle.changeset.specs.declared.Log.{Log}
+use Rattle.changeset.specs.declared.LogAnswer.{LogAnswer}
+use Rattle.changeset.specs.Calls as log
+use Rattle.changeset.proofs.Recorded as recorded
+use Rattle.edit.specs.declared.EditAnswer.{EditAnswer}
+use Rattle.edit.specs.Plan.{splice, part, Outcome, blank, changed, changeOut}
+use Rattle.edit.specs.Calls.{Lent, logLent, textOf, sizesOf, stateOf, says, Edited, Ready}
+use Rattle.edit.proofs.Splice.{splice-length, cut-put, splice-none}
+
+-- ---- what recording answered
+module _ (F : Format) (l : log.Lent) (u : List Change) (g : groups.Log) (a : LogAnswer) (rb tb : List ℕ) (q : log.Logged F l (recordOut F (log.sizesOf l) u g) a rb tb) where
+  pub record Took : Type 0 where
+    pub room : fits F (log.sizesOf l) u ≡ true
+    pub state : a .log ≡ log.logOf F (record { undo = u; redo = []; level = g .level })
+    pub bytes : log.Stored F (record { undo = u; redo = []; level = g .level }) rb tb
+
+  pub record Refused : Type 0 where
+    pub full : fits F (log.sizesOf l) u ≡ false
+    pub records : rb ≡ l .records
+    pub texts : tb ≡ l .texts
+
+  split : (b : Bool) → fits F (log.sizesOf l) u ≡ b → log.Logged F l (cond b (answered 0 0 0 (record { undo = u; redo = []; level = g .level })) (refused 10)) a rb tb → ((a .number ≡ 0) × Took) ⊎ ((a .number ≡ 10) × Refused)
+  split true e r = inl (ap (λ (x : LogAnswer). x .number) (r .answer), record { room = e; state = ap (λ (x : LogAnswer). x .log) (r .answer); bytes = r .bytes })
+  split false e r = inr (ap (λ (x : LogAnswer). x .number) (r .answer), record { full = e; records = r .bytes .records; texts = r .bytes .texts })
+
+  ways : ((a .number ≡ 0) × Took) ⊎ ((a .number ≡ 10) × Refused)
+  unfolding recordOut
+  ways = split (fits F (log.sizesOf l) u) refl q
+
+  pub took : a .number ≡ 0 → Took
+  took e = ⊎-elim (λ w. w .1) (λ w. absurd (omega (arith, w .0))) ways
+
+  pub was-refused : (a .number ≡ 0 → ⊥) → Refused
+  was-refused h = ⊎-elim (λ w. absurd (h (w .0))) (λ w. w .1) ways
+
+-- ---- a change of nothing
+no-bytes : (s : List ℕ) → length s ≡ 0 → s ≡ []
+no-bytes [] e = refl
+no-bytes (b ∷ s) e = absurd (omega arith)
+
+pub blank-is : (x : Edit) (k a b m : ℕ) → kindNumber x ≡ k → a ≤ b → length (old x) ≡ b - a → length (new x) ≡ m → ((not (eqb k 5) && eqb a b) && eqb m 0) ≡ blank x
+blank-is (insert p []) k a b m e h f g = rw (sym e, eq-eqb a b (omega arith), eq-eqb m 0 (omega arith))
+blank-is (insert p (c ∷ s)) k a b m e h f g = rw (sym e, eq-eqb a b (omega arith), ne-eqb m 0 (λ z. omega arith))
+blank-is (delete p []) k a b m e h f g = rw (sym e, eq-eqb a b (omega arith), eq-eqb m 0 (omega arith))
+blank-is (delete p (c ∷ s)) k a b m e h f g = rw (sym e, ne-eqb a b (λ z. omega arith))
+blank-is (replace p o n) k a b m e h f g = rw (sym e)
+
+-- ---- the change x in the text of l
+module _ (F : Format) (l : Lent) (h : Ready F l) (j : Bool) (x : Edit) (k a b : ℕ) (n : List ℕ) (p : ℕ) (d : log.Numbered x k a (part (textOf l) a b) n) (h₁ : a ≤ b) (h₂ : b ≤ l .line .len) where
+  abbrev u : List Change
+  u = log.valueOf catalogue F (logLent l) .undo
+
+  abbrev outcome : Outcome
+  outcome = changeOut F (sizesOf l) (length (l .text)) j x p (stateOf catalogue F l)
+
+  long : length (textOf l) ≡ l .line .len
+  long = length-take-le (l .line .len) (l .text) (h .used)
+
+  cut-size : length (old x) ≡ b - a
+  cut-size = ap length (d .old) ∙ length-take-le (b - a) (drop a (textOf l)) (simp length-drop (omega (arith, long)))
+
+  pub is-blank : ((not (eqb k 5) && eqb a b) && eqb (length n) 0) ≡ blank x
+  is-blank = blank-is x k a b (length n) (d .kind) h₁ cut-size (ap length (d .new))
+
+  is-splice : changed x (textOf l) ≡ splice (textOf l) a b n
+  is-splice =
+      let e : place x + length (old x) ≡ b = omega (arith, d .place, cut-size) in
+      ap₂ (λ (i k : ℕ). splice (textOf l) i k (new x)) (d .place) e ∙ ap (splice (textOf l) a b) (d .new)
+
+  size : length (changed x (textOf l)) ≡ l .line .len - (b - a) + length n
+  size = ap length is-splice ∙ splice-length (textOf l) a b n h₁ (omega (arith, long)) ∙ ap (λ (i : ℕ). i - (b - a) + length n) long
+
+  -- 9
+  pub too-long : length (l .text) - (l .line .len - (b - a)) < length n → Edited F l outcome (says 9 (l .line) (l .log)) (l .text) (l .records) (l .texts)
+  unfolding changeOut
+  too-long c = rw (lt-ltb (length (l .text)) (length (changed x (textOf l))) (omega (arith, size, h .used))) (record { answer = refl; bytes = record { text = refl; records = refl; texts = refl } })
+
+  module _ (fits-text : length n ≤ length (l .text) - (l .line .len - (b - a))) where
+    no-nine : ltb (length (l .text)) (length (changed x (textOf l))) ≡ false
+    no-nine = le-ltb (length (l .text)) (length (changed x (textOf l))) (omega (arith, size, h .used))
+
+    -- nothing is recorded
+    pub unrecorded : blank x ≡ true
+        → Edited F l outcome (says 0 (record { len = l .line .len; cursor = p }) (record { undo = l .log .undo; redo = record { records = 0; texts = 0 }; level = l .log .level })) (l .text) (l .records) (l .texts)
+    unfolding changeOut
+    unrecorded e =
+        let q = took F (logLent l) u (log.valueOf catalogue F (logLent l)) _ (l .records) (l .texts) (recorded.only-dropped F (logLent l) (h .log) u refl) refl in
+        let m = is-blank ∙ e in
+        let z : changed x (textOf l) ≡ textOf l = is-splice ∙ nothing-cut (and-both (not (eqb k 5) && eqb a b) (eqb (length n) 0) m) in
+        let t : take (length (textOf l)) (l .text) ≡ textOf l = ap (λ (i : ℕ). take i (l .text)) long in
+        rw (no-nine, e, q .room, z)
+        (record {
+          answer = ap₂ (λ (i : ℕ) (g : Log). says 0 (record { len = i; cursor = p }) g) (sym long) (q .state);
+          bytes = record { text = t; log = q .bytes };
+        })
+      where
+        nothing-cut : ((not (eqb k 5) && eqb a b) ≡ true) × (eqb (length n) 0 ≡ true) → splice (textOf l) a b n ≡ textOf l
+        nothing-cut m =
+            let e : a ≡ b = eqb-true a b (and-both (not (eqb k 5)) (eqb a b) (m .0) .1) in
+            ap₂ (λ (i : ℕ) (s : List ℕ). splice (textOf l) a i s) (sym e) (no-bytes n (eqb-true (length n) 0 (m .1))) ∙ splice-none (textOf l) a
+
+    module _ (some : blank x ≡ false) (r : LogAnswer) (rb tb : List ℕ) (q : log.Logged F (logLent l) (recordOut F (sizesOf l) (note j x u) (log.valueOf catalogue F (logLent l))) r rb tb) where
+      -- 10
+      pub no-room : (r .number ≡ 0 → ⊥) → Edited F l outcome (says 10 (l .line) (l .log)) (l .text) rb tb
+      unfolding changeOut
+      no-room e =
+          let w = was-refused F (logLent l) (note j x u) (log.valueOf catalogue F (logLent l)) r rb tb q e in
+          rw (no-nine, some, w .full) (record { answer = refl; bytes = record { text = refl; records = w .records; texts = w .texts } })
+
+      pub made : r .number ≡ 0 → (t₁ t₂ : List ℕ) → length t₁ ≡ length (l .text) → take (l .line .len - (b - a)) t₁ ≡ cut (textOf l) a b
+          → take (l .line .len - (b - a) + length n) t₂ ≡ inserted (take (l .line .len - (b - a)) t₁) a n
+          → Edited F l outcome (says 0 (record { len = l .line .len - (b - a) + length n; cursor = p }) (r .log)) t₂ rb tb
+      unfolding changeOut
+      made e t₁ t₂ g c i =
+          let w = took F (logLent l) (note j x u) (log.valueOf catalogue F (logLent l)) r rb tb q e in
+          let z : take (length (changed x (textOf l))) t₂ ≡ changed x (textOf l) =
+          ap (λ (m : ℕ). take m t₂) size ∙ i ∙ ap (λ (s : List ℕ). inserted s a n) c ∙ cut-put (textOf l) a b n (omega (arith, long)) ∙ sym is-splice in
+          rw (no-nine, some, w .room)
+          (record {
+            answer = ap₂ (λ (m : ℕ) (g : Log). says 0 (record { len = m; cursor = p }) g) (sym size) (w .state);
+            bytes = record { text = z; log = w .bytes };
+          })
+
+-- ---- the bytes that are cut, as they are lent from the buffer
+pub raw-part : (t : List ℕ) (len a b : ℕ) → b ≤ len → part (take len t) a b ≡ take (b - a) (drop a t)
+raw-part t len a b h = ap (take (b - a)) (drop-take a len t) ∙ take-take (b - a) (len - a) (drop a t) (omega arith)
+
+module _ (F : Format) (l : Lent) (j : Bool) (k a : ℕ) (n s s′ : List ℕ) (e : s ≡ s′) where
+  pub numbered-as : log.Numbered (log.editOf k a s n) k a s n → log.Numbered (log.editOf k a s′ n) k a s′ n
+  numbered-as d = subst (λ (x : List ℕ). log.Numbered (log.editOf k a x n) k a x n) e d
+
+  pub ok-as : okChange catalogue (edit (log.editOf k a s n)) ≡ true → okChange catalogue (edit (log.editOf k a s′ n)) ≡ true
+  ok-as o = subst (λ (x : List ℕ). okChange catalogue (edit (log.editOf k a x n)) ≡ true) e o
+
+  pub logged-as : (r : LogAnswer) (rb tb : List ℕ) → log.Logged F (logLent l) (recordOut F (sizesOf l) (note j (log.editOf k a s n) (log.valueOf catalogue F (logLent l) .undo)) (log.valueOf catalogue F (logLent l))) r rb tb
+      → log.Logged F (logLent l) (recordOut F (sizesOf l) (note j (log.editOf k a s′ n) (log.valueOf catalogue F (logLent l) .undo)) (log.valueOf catalogue F (logLent l))) r rb tb
+  logged-as r rb tb q = subst (λ (x : List ℕ). log.Logged F (logLent l) (recordOut F (sizesOf l) (note j (log.editOf k a x n) (log.valueOf catalogue F (logLent l) .undo)) (log.valueOf catalogue F (logLent l))) r rb tb) e q
+
+-- the answer as a function gave it
+pub edited-as : (F : Format) (l : Lent) (o : Outcome) (r r′ : EditAnswer) (t rb tb : List ℕ) → r ≡ r′ → Edited F l o r′ t rb tb → Edited F l o r t rb tb
+edited-as F l o r r′ t rb tb e q = record { answer = e ∙ q .answer; bytes = q .bytes }
+
+-- the outcome said in another way
+pub outcome-as : (F : Format) (l : Lent) (o o′ : Outcome) (r : EditAnswer) (t rb tb : List ℕ) → o ≡ o′ → Edited F l o r t rb tb → Edited F l o′ r t rb tb
+outcome-as F l o o′ r t rb tb e q = subst (λ (x : Outcome). Edited F l x r t rb tb) e q

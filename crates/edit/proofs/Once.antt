@@ -1,0 +1,66 @@
+-- A plan of one piece is one change. Assumes nothing.
+use Prim.Native.Nat.{ℕ, _+_, _-_}
+use native.Mathlib.Omega.{arith}
+use mathlib.Core.Path.{_≡_, refl, sym, ap, ap₂, _∙_}
+use mathlib.Core.Bool.{Bool, true, false, cond, _||_}
+use mathlib.Core.List.{List, [], _∷_}
+use lib.Dec.{ltb}
+use lib.ListN.{length, drop, length-drop}
+use lib.Seq.{length-take-le}
+use Rattle.utf8.specs.Chars.{boundary}
+use Rattle.utf8.proofs.Boundary.{boundary-drop}
+use Rattle.unicode.specs.Repertoire.{Repertoire}
+use Rattle.unicode.specs.Text.{isText}
+use Rattle.unicode.proofs.Text.{text-cut}
+use Rattle.cluster.specs.Clusters.{clustersOf}
+use Rattle.journal.specs.Change.{Edit, insert, delete, Change}
+use Rattle.journal.specs.Layout.{Format}
+use Rattle.journal.specs.Recording.{isSingle, recordInsertStr, recordDelete}
+use Rattle.journal.specs.Undo.{Sizes, fits}
+use Rattle.edit.specs.Plan.{part, In, splice, made, recorded, Piece, cutting, once, textAfter, listAfter, tooLong, edited, State, Outcome, refused, answered, notedOr, changed, changeOut}
+
+-- ---- a part between two characters
+module _ (R : Repertoire) (t : List ℕ) (a b : ℕ) (i : In t a b) where
+  pub part-length : length (part t a b) ≡ b - a
+  part-length = length-take-le (b - a) (drop a t) (simp length-drop (let h = i .0 in let k = i .1 in omega arith))
+
+  pub part-text : isText R t ≡ true → isText R (part t a b) ≡ true
+  part-text v =
+      let h = i .0 in
+      let e : a + (b - a) ≡ b = omega arith in
+      let rest = text-cut R t a v (i .2) .1 in
+      text-cut R (drop a t) (b - a) rest (sym (boundary-drop t a (b - a) (i .2)) ∙ ap (boundary t) e ∙ i .3) .0
+
+-- ---- the outcome of one piece, where it is the change x
+or-no : (b : Bool) → b || false ≡ b
+or-no true = refl
+or-no false = refl
+
+one-piece : (R : Repertoire) (F : Format) (z : Sizes) (C : ℕ) (y : Piece) (p : ℕ) (s : State) (j : Bool) (x : Edit)
+    → made y (s .text) ≡ changed x (s .text) → recorded R y (s .text) (s .log .undo) ≡ notedOr j x (s .log .undo) → changeOut F z C j x p s ≡ edited R F z C (once y p) s
+unfolding edited changeOut textAfter listAfter tooLong
+one-piece R F z C y p s j x e f =
+    sym (ap (λ (b : Bool). cond b (refused 9) (behind (made y (s .text)) (recorded R y (s .text) (s .log .undo)))) (or-no (ltb C (length (made y (s .text)))))
+    ∙ ap₂ (λ (t : List ℕ) (u : List Change). cond (ltb C (length t)) (refused 9) (behind t u)) e f)
+  where
+    behind : List ℕ → List Change → Outcome
+    behind t u = cond (fits F z u) (answered 0 0 0 (record { text = t; cursor = p; log = record { undo = u; redo = []; level = s .log .level } })) (refused 10)
+
+noted-insert : (p : ℕ) (s : List ℕ) (u : List Change) → recordInsertStr p s u ≡ notedOr false (insert p s) u
+unfolding recordInsertStr
+noted-insert p [] u = refl
+noted-insert p (b ∷ s) u = refl
+
+noted-delete : (R : Repertoire) (p : ℕ) (s : List ℕ) (u : List Change) → recordDelete R p s u ≡ notedOr (isSingle R (clustersOf R s)) (delete p s) u
+unfolding recordDelete
+noted-delete R p [] u = refl
+noted-delete R p (b ∷ s) u = refl
+
+module _ (R : Repertoire) (F : Format) (z : Sizes) (C p : ℕ) (s : State) where
+  -- bytes cut out
+  pub once-cut : (a b : ℕ) (j : Bool) → In (s .text) a b → j ≡ isSingle R (clustersOf R (part (s .text) a b)) → changeOut F z C j (delete a (part (s .text) a b)) p s ≡ edited R F z C (once (cutting a b) p) s
+  once-cut a b j i e =
+      let h = i .0 in
+      let k : b ≡ a + length (part (s .text) a b) = omega (arith, part-length R (s .text) a b i) in
+      one-piece R F z C (cutting a b) p s j (delete a (part (s .text) a b)) (ap (λ (m : ℕ). splice (s .text) a m []) k)
+      (noted-delete R a (part (s .text) a b) (s .log .undo) ∙ ap (λ (c : Bool). notedOr c (delete a (part (s .text) a b)) (s .log .undo)) (sym e))

@@ -1,0 +1,134 @@
+-- Plans: the primitive changes that an edit makes of a text, one after the other, and what they leave. line_buffer.rs with its listener, the log.
+use Prim.Native.Nat.{ℕ, zero, suc, _+_, _-_, _≤_}
+use mathlib.Core.Path.{_≡_}
+use mathlib.Core.Bool.{Bool, true, false, cond, _||_}
+use mathlib.Core.List.{List, [], _∷_, _++_}
+use lib.Dec.{ltb}
+use lib.ListN.{length, take, drop}
+use Rattle.utf8.specs.Chars.{boundary}
+use Rattle.utf8.specs.Encode.{encode}
+use Rattle.unicode.specs.Repertoire.{Repertoire}
+use Rattle.journal.specs.Change.{Edit, insert, delete, replace, Change, place, old, new}
+use Rattle.journal.specs.Layout.{Format}
+use Rattle.journal.specs.Recording.{note, recordInsert, recordInsertStr, recordDelete, recordReplace}
+use Rattle.journal.specs.Groups.{Log}
+use Rattle.journal.specs.Undo.{Sizes, fits}
+
+-- the bytes of t from a up to b
+abbrev pub part : List ℕ → ℕ → ℕ → List ℕ
+part t a b = take (b - a) (drop a t)
+
+-- two places in a text, in order and between its characters
+abbrev pub In : List ℕ → ℕ → ℕ → Type 0
+In t a b = (a ≤ b) × (b ≤ length t) × (boundary t a ≡ true) × (boundary t b ≡ true)
+
+-- t with s in their place
+unfoldable pub splice : List ℕ → ℕ → ℕ → List ℕ → List ℕ
+splice t a b s = take a t ++ (s ++ drop b t)
+
+-- a character typed at a place, a text put in there, the bytes from a up to b cut out, the same replaced by a text
+pub data Piece : Type 0 where
+  typed : ℕ → ℕ → Piece
+  pasted : ℕ → List ℕ → Piece
+  cutting : ℕ → ℕ → Piece
+  swapping : ℕ → ℕ → List ℕ → Piece
+
+-- the text after it
+abbrev pub made : Piece → List ℕ → List ℕ
+made (typed p c) t = splice t p p (encode c)
+made (pasted p s) t = splice t p p s
+made (cutting a b) t = splice t a b []
+made (swapping a b s) t = splice t a b s
+
+-- the undo list after it, from the text before it
+abbrev pub recorded : Repertoire → Piece → List ℕ → List Change → List Change
+recorded R (typed p c) t u = recordInsert R p c u
+recorded R (pasted p s) t u = recordInsertStr p s u
+recorded R (cutting a b) t u = recordDelete R a (part t a b) u
+recorded R (swapping a b s) t u = recordReplace a (part t a b) s u
+
+-- what a call makes of a text and a cursor: its changes, the cursor afterwards, its number 0 or 1, and the places that it answers
+pub record Plan : Type 0 where
+  pub pieces : List Piece
+  pub cursor : ℕ
+  pub number : ℕ
+  pub from : ℕ
+  pub to : ℕ
+
+-- one change, answered by 0
+abbrev pub once : Piece → ℕ → Plan
+once x p = record { pieces = x ∷ []; cursor = p; number = 0; from = 0; to = 0 }
+
+-- nothing: answer 1, the cursor where it is
+abbrev pub nothing : ℕ → Plan
+nothing p = record { pieces = []; cursor = p; number = 1; from = 0; to = 0 }
+
+unfoldable pub textAfter : List Piece → List ℕ → List ℕ
+textAfter [] t = t
+textAfter (x ∷ xs) t = textAfter xs (made x t)
+
+unfoldable pub listAfter : Repertoire → List Piece → List ℕ → List Change → List Change
+listAfter R [] t u = u
+listAfter R (x ∷ xs) t u = listAfter R xs (made x t) (recorded R x t u)
+
+-- each change drops the redo list
+abbrev pub redoAfter : List Piece → List Change → List Change
+redoAfter [] r = r
+redoAfter (x ∷ xs) r = []
+
+-- 9: a text in between is longer than C
+unfoldable pub tooLong : ℕ → List Piece → List ℕ → Bool
+tooLong C [] t = false
+tooLong C (x ∷ xs) t = ltb C (length (made x t)) || tooLong C xs (made x t)
+
+-- a text, a cursor and a log
+pub record State : Type 0 where
+  pub text : List ℕ
+  pub cursor : ℕ
+  pub log : Log
+
+-- a refusal by its number; or the number 0 or 1, two places, and the state afterwards
+pub data Outcome : Type 0 where
+  refused : ℕ → Outcome
+  answered : ℕ → ℕ → ℕ → State → Outcome
+
+-- the lowest check that refuses, or what the call does where none does
+abbrev pub called : ℕ → Outcome → Outcome
+called zero o = o
+called (suc k) o = refused (suc k)
+
+abbrev pub planned : Repertoire → Plan → State → State
+planned R p s =
+    record {
+      text = textAfter (p .pieces) (s .text);
+      cursor = p .cursor;
+      log = record { undo = listAfter R (p .pieces) (s .text) (s .log .undo); redo = redoAfter (p .pieces) (s .log .redo); level = s .log .level };
+    }
+
+-- a plan carried out: 9 is tried over all its changes, then 10 at the end. Within a call the log only grows, so its end decides
+unfoldable pub edited : Repertoire → Format → Sizes → ℕ → Plan → State → Outcome
+edited R F z C p s =
+    cond (tooLong C (p .pieces) (s .text)) (refused 9)
+    (cond (fits F z (listAfter R (p .pieces) (s .text) (s .log .undo))) (answered (p .number) (p .from) (p .to) (planned R p s))
+    (refused 10))
+
+-- ---- one change by its edit x, where j says that it may be merged: what a plan of one piece comes to
+abbrev pub blank : Edit → Bool
+blank (insert p []) = true
+blank (insert p (b ∷ s)) = false
+blank (delete p []) = true
+blank (delete p (b ∷ s)) = false
+blank (replace p o n) = false
+
+abbrev pub notedOr : Bool → Edit → List Change → List Change
+notedOr j x u = cond (blank x) u (note j x u)
+
+abbrev pub changed : Edit → List ℕ → List ℕ
+changed x t = splice t (place x) (place x + length (old x)) (new x)
+
+unfoldable pub changeOut : Format → Sizes → ℕ → Bool → Edit → ℕ → State → Outcome
+changeOut F z C j x p s =
+    cond (ltb C (length (changed x (s .text)))) (refused 9)
+    (cond (fits F z (notedOr j x (s .log .undo)))
+    (answered 0 0 0 (record { text = changed x (s .text); cursor = p; log = record { undo = notedOr j x (s .log .undo); redo = []; level = s .log .level } }))
+    (refused 10))
