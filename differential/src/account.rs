@@ -17,6 +17,7 @@ const MOVEMENTS: [&str; 14] = [
 ];
 const RULES: [&str; 3] = ["Big", "Emacs", "Vi"];
 const STOPS: [&str; 3] = ["Start", "BeforeEnd", "AfterEnd"];
+const ACTIONS: [&str; 3] = ["Capitalize", "Lowercase", "Uppercase"];
 const SEARCHES: [&str; 4] = ["Forward", "ForwardBefore", "Backward", "BackwardAfter"];
 
 /// Bytes of a longer text that are shown.
@@ -64,20 +65,23 @@ pub fn word(number: u32) -> &'static str {
     WORDS.get(number as usize).unwrap_or(&"no number of document 01")
 }
 
-fn arguments(uses: &[Param], args: &Args) -> String {
-    let one = |&param: &Param| format!("{} {}", format!("{param:?}").to_lowercase(), value(param, args.get(param)));
+pub fn arguments(uses: &[Param], args: &Args) -> String {
+    let one = |&param: &Param| format!("{} {}", format!("{param:?}").to_lowercase(), value(param, args));
     if uses.is_empty() { "none".into() } else { uses.iter().map(one).collect::<Vec<_>>().join(", ") }
 }
 
-/// A number, with its name where it is a code or a character.
-fn value(param: Param, number: usize) -> String {
+/// A number, with its name where it is a code or a character; a text.
+fn value(param: Param, args: &Args) -> String {
+    let number = args.get(param);
     let names: &[&str] = match param {
         Param::Mvt => &MOVEMENTS,
         Param::At => &STOPS,
         Param::Word => &RULES,
         Param::Search => &SEARCHES,
+        Param::Action => &ACTIONS,
         Param::Ch => return format!("U+{number:04X}"),
-        Param::N | Param::Pos | Param::Prompt => return number.to_string(),
+        Param::Buf => return shown(&args.buf, usize::MAX),
+        Param::N | Param::Pos | Param::Prompt | Param::Size | Param::Start | Param::End => return number.to_string(),
     };
     format!("{number} ({})", names.get(number).unwrap_or(&"none"))
 }

@@ -73,7 +73,7 @@ pub fn splits(text: &[u8], place: usize) -> bool {
 pub fn last_code(param: Param) -> Option<u32> {
     match param {
         Param::Mvt => Some(13),
-        Param::At | Param::Word => Some(2),
+        Param::At | Param::Word | Param::Action => Some(2),
         Param::Search => Some(3),
         _ => None,
     }

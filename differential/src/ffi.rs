@@ -42,6 +42,16 @@ pub struct LogAnswer {
     pub log: Log,
 }
 
+#[repr(C)]
+#[derive(Clone, Copy, Debug, PartialEq, Eq)]
+pub struct EditAnswer {
+    pub number: u32,
+    pub from: usize,
+    pub to: usize,
+    pub line: Line,
+    pub log: Log,
+}
+
 // T: a text is lent and not written.
 #[rustfmt::skip]
 unsafe extern "C" {
@@ -106,4 +116,31 @@ unsafe extern "C" {
     pub fn tlf_log_last_insert(
         records: *const u8, records_len: usize, texts: *const u8, texts_len: usize, log: Log,
     ) -> LogAnswer;
+}
+
+/// E: a text and a log are lent, then come the call's own.
+macro_rules! edits {
+    ($($name:ident($($own:ident: $of:ty),*);)*) => {
+        unsafe extern "C" {
+            $(pub fn $name(
+                text: *mut u8, text_len: usize, records: *mut u8, records_len: usize, texts: *mut u8, texts_len: usize,
+                line: Line, log: Log $(, $own: $of)*
+            ) -> EditAnswer;)*
+        }
+    };
+}
+
+edits! {
+    tlf_line_backspace(n: u16);
+    tlf_line_kill_line();
+    tlf_line_kill_buffer();
+    tlf_line_discard_line();
+    tlf_line_discard_buffer();
+    tlf_line_delete_prev_word(word: u32, n: u16);
+    tlf_line_delete_word(at: u32, word: u32, n: u16);
+    tlf_line_delete_to(search: u32, ch: u32, n: u16);
+    tlf_line_kill(mvt: u32, n: u16, at: u32, word: u32, search: u32, ch: u32);
+    tlf_line_delete(n: u16);
+    tlf_line_delete_range(start: usize, end: usize);
+    tlf_line_replace(start: usize, end: usize, buf: *const u8, buf_len: usize);
 }

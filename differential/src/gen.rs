@@ -1,6 +1,6 @@
 //! Inputs: small texts one after the other, drawn texts and arguments, and what spoils them.
 use crate::checks::{self, MAX_PROMPT, MAX_TEXT, first_character, in_repertoire, last_code};
-use crate::line_calls::{Args, Entry, Param};
+use crate::line_calls::{Args, Param, SMALL_BUFS, uses};
 
 /// splitmix64.
 pub struct Rng(u64);
@@ -58,30 +58,45 @@ pub fn boundaries(text: &[u8]) -> impl Iterator<Item = usize> {
     (0..=text.len()).filter(|&place| !checks::splits(text, place))
 }
 
-/// All small arguments of a call on this text, each combination once.
-pub fn small_args(entry: &Entry, text: &str) -> Vec<Args> {
+/// All small arguments of a call with these parameters on this text, each combination once.
+pub fn small_args(takes: &'static [Param], text: &str) -> Vec<Args> {
     let mut all = Vec::new();
-    fill(entry, &|param| small_values(param, text), Args::default(), 0, &mut all);
+    fill(takes, &|param| small_values(param, text), Args::default(), 0, &mut all);
     all
 }
 
-/// Once with every combination of codes: n is 1, the character a hyphen, other numbers 0.
-pub fn code_args(entry: &Entry) -> Vec<Args> {
+/// Once with every combination of codes, everything else as in `FIRST`.
+pub fn code_args(takes: &'static [Param]) -> Vec<Args> {
     let values = |param| if last_code(param).is_some() { small_values(param, "") } else { vec![FIRST.get(param)] };
     let mut all = Vec::new();
-    fill(entry, &values, FIRST, 0, &mut all);
+    fill(takes, &values, FIRST, 0, &mut all);
     all
 }
 
-const FIRST: Args = Args { n: 1, pos: 0, prompt: 0, mvt: 0, at: 0, word: 0, search: 0, ch: '-' as u32 };
+/// n is 1, the character a hyphen, every other number 0, a text empty.
+pub const FIRST: Args = Args {
+    n: 1,
+    pos: 0,
+    prompt: 0,
+    mvt: 0,
+    at: 0,
+    word: 0,
+    search: 0,
+    ch: '-' as u32,
+    action: 0,
+    size: 0,
+    start: 0,
+    end: 0,
+    buf: Vec::new(),
+};
 
 /// The combinations of values for the parameters from the `filled`-th on.
-fn fill(entry: &Entry, values: &dyn Fn(Param) -> Vec<usize>, args: Args, filled: usize, all: &mut Vec<Args>) {
-    match entry.uses(&args).get(filled) {
+fn fill(takes: &'static [Param], values: &dyn Fn(Param) -> Vec<usize>, args: Args, filled: usize, all: &mut Vec<Args>) {
+    match uses(takes, &args).get(filled) {
         None => all.push(args),
         Some(&param) => {
             for value in values(param) {
-                fill(entry, values, args.with(param, value), filled + 1, all);
+                fill(takes, values, args.clone().with(param, value), filled + 1, all);
             }
         }
     }
@@ -90,7 +105,8 @@ fn fill(entry: &Entry, values: &dyn Fn(Param) -> Vec<usize>, args: Args, filled:
 fn small_values(param: Param, text: &str) -> Vec<usize> {
     match param {
         Param::N => vec![0, 1, 2, 3, 4, 65535],
-        Param::Pos => (0..=text.len() + 1).collect(),
+        Param::Pos | Param::Size | Param::Start | Param::End => (0..=text.len() + 1).collect(),
+        Param::Buf => (0..SMALL_BUFS.len()).collect(),
         Param::Prompt => vec![0, 1, 2, MAX_PROMPT, MAX_PROMPT + 1],
         Param::Ch => {
             let mut chars: Vec<usize> = text.chars().chain([ABSENT]).map(|c| c as usize).collect();
@@ -98,7 +114,9 @@ fn small_values(param: Param, text: &str) -> Vec<usize> {
             chars.dedup();
             chars
         }
-        Param::Mvt | Param::At | Param::Word | Param::Search => (0..=last_code(param).unwrap() as usize).collect(),
+        Param::Mvt | Param::At | Param::Word | Param::Search | Param::Action => {
+            (0..=last_code(param).unwrap() as usize).collect()
+        }
     }
 }
 
@@ -176,23 +194,32 @@ pub fn boundary(rng: &mut Rng, text: &[u8]) -> usize {
     place
 }
 
-/// Fit arguments for a text of the repertoire, save that one new place in eight is any number near it.
+/// Fit arguments for a text of the repertoire, save that one place in eight is any number near it.
 pub fn drawn_args(rng: &mut Rng, text: &[u8]) -> Args {
     let few = rng.below(30) as u16;
     let many = rng.next() as u16;
     let narrow = rng.below(30);
     let wide = rng.below(MAX_PROMPT + 1);
-    let near = if rng.one_in(8) { rng.below(text.len() + 3) } else { boundary(rng, text) };
+    let (start, end) = (drawn_place(rng, text), drawn_place(rng, text));
     Args {
         n: rng.pick(&[0, 1, 1, 1, 2, 2, 3, 4, few, many, 65535]),
-        pos: near,
+        pos: drawn_place(rng, text),
         prompt: rng.pick(&[0, 0, 0, 1, 2, narrow, wide, MAX_PROMPT]),
         mvt: known_code(rng, Param::Mvt),
         at: known_code(rng, Param::At),
         word: known_code(rng, Param::Word),
         search: known_code(rng, Param::Search),
         ch: sought(rng, text),
+        action: known_code(rng, Param::Action),
+        size: drawn_place(rng, text),
+        start: start.min(end),
+        end: start.max(end),
+        buf: rng.pick(&SMALL_BUFS).into(),
     }
+}
+
+fn drawn_place(rng: &mut Rng, text: &[u8]) -> usize {
+    if rng.one_in(8) { rng.below(text.len() + 3) } else { boundary(rng, text) }
 }
 
 fn known_code(rng: &mut Rng, param: Param) -> u32 {
@@ -320,7 +347,7 @@ pub fn spoil(rng: &mut Rng, draft: &mut Draft, uses: &[Param], fault: Fault) {
             if !codes.is_empty() {
                 let param = rng.pick(&codes);
                 let code = over(rng, last_code(param).unwrap() as usize).min(u32::MAX as usize);
-                draft.args = draft.args.with(param, code);
+                draft.args = draft.args.clone().with(param, code);
             }
         }
         Fault::Character => draft.args.ch = rng.pick(&FOREIGN_CHARACTERS),

@@ -18,11 +18,16 @@ pub enum Param {
     Word,
     Search,
     Ch,
+    Action,
+    Size,
+    Start,
+    End,
+    Buf,
 }
 use Param::*;
 
 /// The arguments of any call: each call takes its own.
-#[derive(Clone, Copy, Debug, Default)]
+#[derive(Clone, Debug, Default)]
 pub struct Args {
     pub n: u16,
     pub pos: usize,
@@ -32,9 +37,19 @@ pub struct Args {
     pub word: u32,
     pub search: u32,
     pub ch: u32,
+    pub action: u32,
+    pub size: usize,
+    pub start: usize,
+    pub end: usize,
+    pub buf: Vec<u8>,
 }
 
+/// Texts to put in that recording tells apart: none, one alphanumeric character of one or two bytes, another character,
+/// two clusters, a cluster of two characters.
+pub const SMALL_BUFS: [&str; 6] = ["", "a", "\u{DF}", "-", "ab", "e\u{301}"];
+
 impl Args {
+    /// The value; of a text its length.
     pub fn get(&self, param: Param) -> usize {
         match param {
             N => self.n.into(),
@@ -45,10 +60,15 @@ impl Args {
             Word => self.word as usize,
             Search => self.search as usize,
             Ch => self.ch as usize,
+            Action => self.action as usize,
+            Size => self.size,
+            Start => self.start,
+            End => self.end,
+            Buf => self.buf.len(),
         }
     }
 
-    /// The same with another value, which fits the parameter's type.
+    /// The same with another value, which fits the parameter's type; a text is the small one of this number.
     pub fn with(mut self, param: Param, value: usize) -> Args {
         match param {
             N => self.n = value as u16,
@@ -59,6 +79,11 @@ impl Args {
             Word => self.word = value as u32,
             Search => self.search = value as u32,
             Ch => self.ch = value as u32,
+            Action => self.action = value as u32,
+            Size => self.size = value,
+            Start => self.start = value,
+            End => self.end = value,
+            Buf => self.buf = SMALL_BUFS[value].into(),
         }
         self
     }
@@ -66,6 +91,8 @@ impl Args {
 
 pub const VI_CHAR_SEARCH: u32 = 5;
 pub const VI_FIRST_PRINT: u32 = 6;
+pub const BACKWARD_CHAR: u32 = 7;
+pub const FORWARD_CHAR: u32 = 8;
 
 /// What a movement uses besides its code.
 fn movement_uses(mvt: u32) -> &'static [Param] {
@@ -78,9 +105,14 @@ fn movement_uses(mvt: u32) -> &'static [Param] {
     }
 }
 
+/// The parameters that a call with these uses when it is given these arguments.
+pub fn uses(takes: &'static [Param], args: &Args) -> &'static [Param] {
+    if takes.contains(&Mvt) { movement_uses(args.mvt) } else { takes }
+}
+
 pub struct Entry {
     pub name: &'static str,
-    takes: &'static [Param],
+    pub takes: &'static [Param],
     pub gives: &'static [u32],
     ask: unsafe fn(*const u8, usize, Line, &Args) -> LineAnswer,
     rust: fn(&mut LineBuffer, &Args) -> Outcome,
@@ -89,7 +121,7 @@ pub struct Entry {
 impl Entry {
     /// The parameters that the call uses with these arguments.
     pub fn uses(&self, args: &Args) -> &'static [Param] {
-        if self.takes.contains(&Mvt) { movement_uses(args.mvt) } else { self.takes }
+        uses(self.takes, args)
     }
 }
 
@@ -256,15 +288,15 @@ fn expected(entry: &Entry, case: &mut Case, line: Line, args: &Args) -> Option<L
     Some(LineAnswer { number: outcome.is_none().into(), from, to, line })
 }
 
-/// The number that both give, or how they differ: the whole answer counts, and that no byte in and around the lent
+/// The answer that both give, or how they differ: the whole of it counts, and that no byte in and around the lent
 /// buffer has changed.
-pub fn compare(entry: &Entry, case: &mut Case, cursor: usize, args: &Args) -> Result<u32, Difference> {
+pub fn compare(entry: &Entry, case: &mut Case, cursor: usize, args: &Args) -> Result<LineAnswer, Difference> {
     let line = Line { len: case.len, cursor };
     let size = case.lent.size();
     let got = unsafe { (entry.ask)(case.lent.pointer(), size, line, args) };
     let changed = case.lent.changed();
     match expected(entry, case, line, args) {
-        Some(answer) if answer == got && changed.is_none() => Ok(got.number),
+        Some(answer) if answer == got && changed.is_none() => Ok(got),
         expected => Err(Difference { got, changed, expected }),
     }
 }

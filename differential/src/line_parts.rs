@@ -39,8 +39,8 @@ impl Runner<'_> {
         }
         self.done += 1;
         match compare(entry, case, cursor, args) {
-            Ok(number) => {
-                self.tally.note(row, number);
+            Ok(answer) => {
+                self.tally.note(row, answer.number);
                 Ok(())
             }
             Err(found) => Err(self.account(row, shrink::Differing::new(case, cursor, args, found))),
@@ -62,7 +62,7 @@ fn every_argument(runner: &mut Runner, share: u64) -> Result<u32, String> {
     while runner.done + texts_and_cursors(letters) * most_calls(letters) <= share {
         for number in 0..small_texts(letters) {
             let text = small_text(number, letters);
-            let calls: Vec<Vec<Args>> = ENTRIES.iter().map(|entry| small_args(entry, &text)).collect();
+            let calls: Vec<Vec<Args>> = ENTRIES.iter().map(|entry| small_args(entry.takes, &text)).collect();
             let mut case = Case::new(text.as_bytes(), text.len());
             for cursor in boundaries(text.as_bytes()) {
                 for (row, all) in calls.iter().enumerate() {
@@ -86,7 +86,7 @@ fn texts_and_cursors(letters: u32) -> u64 {
 /// search for, and of two bytes, which is one place more for each.
 fn most_calls(letters: u32) -> u64 {
     let distinct: String = SMALL.iter().cycle().take(letters as usize).collect();
-    let calls: usize = ENTRIES.iter().map(|entry| small_args(entry, &distinct).len()).sum();
+    let calls: usize = ENTRIES.iter().map(|entry| small_args(entry.takes, &distinct).len()).sum();
     calls as u64 + u64::from(letters)
 }
 
@@ -120,7 +120,7 @@ fn lent(rng: &mut Rng, text: &[u8]) -> Case {
 /// Characters and bytes one by one, as far as three quarters of `share` reach, then drawn faults.
 fn characters_and_faults(runner: &mut Runner, rng: &mut Rng, share: u64) -> Result<(), String> {
     let limit = runner.done + share;
-    let codes: usize = ENTRIES.iter().map(|entry| code_args(entry).len()).sum();
+    let codes: usize = ENTRIES.iter().map(|entry| code_args(entry.takes).len()).sum();
     let parts: [(Part, usize); 4] = [
         (every_code_point, CODE_POINTS as usize * 3),
         (every_member, members().count() * codes),
@@ -161,7 +161,7 @@ fn every_member(runner: &mut Runner) -> Result<(), String> {
         let text = format!("-{c}-\n-{c}-");
         let mut case = Case::new(text.as_bytes(), text.len());
         for (row, entry) in ENTRIES.iter().enumerate() {
-            for args in code_args(entry) {
+            for args in code_args(entry.takes) {
                 runner.step(row, &mut case, 1 + c.len_utf8(), &args)?;
             }
         }

@@ -4,7 +4,7 @@ use std::fmt::Write as _;
 use crate::account::{shown, word};
 use crate::ffi::{Log, LogAnswer};
 use crate::log_calls::{Args, Param};
-use crate::log_case::Case;
+use crate::log_case::{Case, Difference};
 use crate::log_lists::{Call, Step};
 use crate::log_model::{Bytes, Change, list};
 use crate::log_shrink::Differing;
@@ -26,10 +26,15 @@ pub fn input(case: &Case, step: &Step) -> String {
 /// The list of calls, and the two answers to the last.
 pub fn difference(differing: &Differing) -> String {
     let Differing { list, difference } = differing;
-    let mut out = String::new();
-    let _ = writeln!(out, "buffers    records {}, texts {}, and an empty log", list.records, list.texts);
-    let steps = folded(list.steps.iter().map(told));
+    let buffers = format!("buffers    records {}, texts {}, and an empty log", list.records, list.texts);
+    format!("{buffers}\n{}{}", numbered(list.steps.iter().map(told)), answers(difference))
+}
+
+/// The last of these steps, one to a line, with their numbers.
+pub fn numbered(steps: impl Iterator<Item = String>) -> String {
+    let steps = folded(steps);
     let hidden = steps.len().saturating_sub(SHOWN);
+    let mut out = String::new();
     let mut number = 0;
     for (i, (step, count)) in steps.iter().enumerate() {
         let (first, last) = (number + 1, number + count);
@@ -39,6 +44,12 @@ pub fn difference(differing: &Differing) -> String {
         }
         number = last;
     }
+    out
+}
+
+/// The two answers.
+pub fn answers(difference: &Difference) -> String {
+    let mut out = String::new();
     let _ = writeln!(out, "library    {}", answer(&difference.got));
     let _ = writeln!(out, "           {}", changes(&difference.left, &difference.got.log));
     let Some(due) = &difference.expected else {
@@ -70,7 +81,7 @@ fn folded(lines: impl Iterator<Item = String>) -> Vec<(String, usize)> {
 }
 
 /// A step in words.
-fn told(step: &Step) -> String {
+pub fn told(step: &Step) -> String {
     match step {
         Step::Call(call) => told_call(call),
         Step::Damaged(damages, call) => format!("{}, with {damages:?}", told_call(call)),
@@ -113,14 +124,14 @@ fn answer(answer: &LogAnswer) -> String {
     format!("{number} {}, from {from}, to {to}, {}", word(*number), state(log))
 }
 
-fn state(log: &Log) -> String {
+pub fn state(log: &Log) -> String {
     let Log { undo, redo, level } = log;
     let used = format!("undo {} and {}, redo {} and {}", undo.records, undo.texts, redo.records, redo.texts);
     format!("used lengths {used}, level {level}")
 }
 
 /// Both lists as changes, where they are some; else their bytes.
-fn changes(bytes: &Bytes, log: &Log) -> String {
+pub fn changes(bytes: &Bytes, log: &Log) -> String {
     let whole = || {
         let (undo, redo) = bytes.records.split_at_checked(log.undo.records)?;
         let (undo_texts, redo_texts) = bytes.texts.split_at_checked(log.undo.texts)?;

@@ -172,6 +172,11 @@ pub static ENTRIES: [Entry; 9] = [
     },
 ];
 
+/// The row of this call.
+pub fn row(name: &str) -> usize {
+    ENTRIES.iter().position(|entry| entry.name == name).expect(name)
+}
+
 fn text(bytes: &[u8]) -> &str {
     std::str::from_utf8(bytes).expect("check 4")
 }

@@ -42,7 +42,8 @@ fn set(bytes: &mut [u8], place: usize, byte: u8) {
     bytes.get_mut(place).into_iter().for_each(|b| *b = byte);
 }
 
-fn raw(lent: &mut Lent) -> Raw {
+/// A lent buffer as the library takes it.
+pub fn raw(lent: &mut Lent) -> Raw {
     (lent.pointer(), lent.size())
 }
 
@@ -68,6 +69,31 @@ impl Case {
 
     pub fn rust(&self) -> &Changeset {
         &self.rust
+    }
+
+    pub fn rust_mut(&mut self) -> &mut Changeset {
+        &mut self.rust
+    }
+
+    /// Both buffers as the library takes them.
+    pub fn raw(&mut self) -> [Raw; 2] {
+        [&mut self.records, &mut self.texts].map(raw)
+    }
+
+    /// The first place of each buffer that is not as it should be: these lists, or what was lent where there are none.
+    pub fn wrong(&self, due: Option<&Bytes>) -> [(&'static str, Option<isize>); 2] {
+        let wrong_in = |lent: &Lent, due: Option<&Vec<u8>>| due.map_or_else(|| lent.changed(), |due| lent.differs(due));
+        [
+            ("records", wrong_in(&self.records, due.map(|lists| &lists.records))),
+            ("texts", wrong_in(&self.texts, due.map(|lists| &lists.texts))),
+        ]
+    }
+
+    /// What stands there now, with this state, is what is lent next.
+    pub fn keep(&mut self, log: Log) {
+        self.log = log;
+        self.records.keep();
+        self.texts.keep();
     }
 
     /// Puts a record on top of the undo list, if there is room: any record, as no call may leave it. The redo list is
@@ -174,24 +200,17 @@ pub fn compare(entry: &Entry, case: &mut Case, args: &Args) -> Result<u32, Diffe
     let mut given = [&args.buf, &args.old, &args.new].map(|text| Lent::new(text));
     let expected = expected(entry, case, args);
     let [buf, old, new] = given.each_mut().map(raw);
-    let input = Input { records: raw(&mut case.records), texts: raw(&mut case.texts), log: case.log, buf, old, new };
+    let [records, texts] = case.raw();
+    let input = Input { records, texts, log: case.log, buf, old, new };
     let got = unsafe { (entry.ask)(&input, args) };
 
     let due = expected.as_ref().and_then(|expected| expected.lists.as_ref());
-    let wrong_in = |lent: &Lent, due: Option<&Vec<u8>>| due.map_or_else(|| lent.changed(), |due| lent.differs(due));
-    let places = [
-        ("records", wrong_in(&case.records, due.map(|lists| &lists.records))),
-        ("texts", wrong_in(&case.texts, due.map(|lists| &lists.texts))),
-        ("buf", given[0].changed()),
-        ("old", given[1].changed()),
-        ("new", given[2].changed()),
-    ];
-    let wrong: Vec<_> = places.into_iter().filter_map(|(name, place)| Some((name, place?))).collect();
+    let given = ["buf", "old", "new"].into_iter().zip(given.iter().map(Lent::changed));
+    let places = case.wrong(due).into_iter().chain(given);
+    let wrong: Vec<_> = places.filter_map(|(name, place)| Some((name, place?))).collect();
     match expected {
         Some(due) if due.answer == got && wrong.is_empty() => {
-            case.log = got.log;
-            case.records.keep();
-            case.texts.keep();
+            case.keep(got.log);
             Ok(got.number)
         }
         expected => Err(Difference { left: case.left(&got.log), got, wrong, expected }),

@@ -49,7 +49,7 @@ impl<'a> Loan<'a> {
     }
 
     /// Check 10: what has no room once the redo list is dropped, a place of more than 2 bytes, a group above level 255.
-    fn is_full(&self, growth: &Growth) -> bool {
+    pub fn is_full(&self, growth: &Growth) -> bool {
         let Used { records, texts } = growth.after(self.log.undo);
         records > self.records.len() || texts > self.texts.len() || growth.place > MAX_PLACE || growth.level > MAX_LEVEL
     }

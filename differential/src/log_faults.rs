@@ -55,6 +55,12 @@ pub fn drawn_fault(rng: &mut Rng, case: &Case, mut call: Call) -> Step {
     Step::Damaged(damages, call)
 }
 
+/// What a drawn fault does to this log.
+pub fn log_damage(rng: &mut Rng, case: &Case) -> Vec<Damage> {
+    let fault = rng.pick(&FAULTS);
+    drawn_damage(rng, case, fault)
+}
+
 /// Foreign bytes in a text among the arguments, or a foreign character.
 fn spoil(rng: &mut Rng, call: &mut Call) {
     let foreign = |param: &&Param| !matches!(param, Param::Idx | Param::Len);

@@ -3,7 +3,7 @@
 use crate::checks::in_repertoire;
 use crate::r#gen::{CODE_POINTS, FOREIGN, Rng};
 use crate::log_account;
-use crate::log_calls::{Args, ENTRIES};
+use crate::log_calls::{Args, ENTRIES, row};
 use crate::log_case::{Case, Damage, Difference};
 use crate::log_checks::{MAX_LEVEL, MAX_RECORDS, MAX_TEXTS};
 use crate::log_gen::{MIXES, drawn_size, drawn_step, filling, small_calls, small_records};
@@ -75,8 +75,7 @@ impl Runner<'_> {
 }
 
 fn call(name: &str, args: Args) -> Step {
-    let row = ENTRIES.iter().position(|entry| entry.name == name).expect(name);
-    Step::Call(Call { row, args })
+    Step::Call(Call { row: row(name), args })
 }
 
 /// Room for everything that a few small steps may record.

@@ -1,11 +1,20 @@
 //! Compares the library with the unchanged text of rustyline 19.0.0: `differential [N] [SEED]`.
 mod account;
 mod checks;
+mod edit_account;
+mod edit_calls;
+mod edit_case;
+mod edit_checks;
+mod edit_gen;
+mod edit_lists;
+mod edit_parts;
+mod edit_shrink;
 mod ffi;
 mod r#gen;
 mod lent;
 mod line_calls;
 mod line_parts;
+mod listeners;
 mod log_account;
 mod log_calls;
 mod log_case;
@@ -26,12 +35,14 @@ include!(concat!(env!("OUT_DIR"), "/rustyline.rs"));
 use std::process::ExitCode;
 use std::time::Instant;
 
+const DEFAULT: u64 = 600_000;
+
 /// From here on a call must have been seen with every number that it can give.
 const ENOUGH: u64 = 400_000;
 
 fn main() -> ExitCode {
     let mut words = std::env::args().skip(1).map(|word| word.parse::<u64>());
-    let (Ok(n), Ok(seed)) = (words.next().unwrap_or(Ok(ENOUGH)), words.next().unwrap_or(Ok(1))) else {
+    let (Ok(n), Ok(seed)) = (words.next().unwrap_or(Ok(DEFAULT)), words.next().unwrap_or(Ok(1))) else {
         eprintln!("usage: differential/run [N] [SEED]");
         return ExitCode::from(2);
     };
@@ -40,9 +51,12 @@ fn main() -> ExitCode {
     let began = Instant::now();
     let lines = line_calls::ENTRIES.iter().map(|entry| (entry.name, entry.gives));
     let logs = log_calls::ENTRIES.iter().map(|entry| (entry.name, entry.gives));
-    let mut tally = tally::Tally::new(lines.chain(logs));
-    let compared = line_parts::run(n / 2, seed, trace, &mut tally)
-        .and_then(|()| log_parts::run(n - n / 2, seed, trace, &mut tally, line_calls::ENTRIES.len()));
+    let edits = edit_calls::ENTRIES.iter().map(|entry| (entry.name, entry.gives));
+    let mut tally = tally::Tally::new(lines.chain(logs).chain(edits));
+    let third = n / 3;
+    let compared = line_parts::run(third, seed, trace, &mut tally)
+        .and_then(|()| log_parts::run(third, seed, trace, &mut tally, line_calls::ENTRIES.len()))
+        .and_then(|()| edit_parts::run(n - 2 * third, seed, trace, &mut tally));
     if let Err(account) = compared {
         print!("N {n}, seed {seed}: {account}");
         return ExitCode::FAILURE;

@@ -12,7 +12,7 @@ pub struct Differing {
 impl Differing {
     pub fn new(case: &Case, cursor: usize, args: &Args, difference: Difference) -> Differing {
         let case = Case::new(case.lent.bytes(), case.len);
-        Differing { case, cursor, args: *args, difference }
+        Differing { case, cursor, args: args.clone(), difference }
     }
 
     /// Another input, if it differs too.
@@ -23,7 +23,7 @@ impl Differing {
     }
 
     fn with_n(&self, entry: &Entry, n: u16) -> Option<Differing> {
-        Differing::of(entry, self.case.lent.bytes(), self.case.len, self.cursor, Args { n, ..self.args })
+        Differing::of(entry, self.case.lent.bytes(), self.case.len, self.cursor, Args { n, ..self.args.clone() })
     }
 
     /// The same without a piece of the buffer; places behind the piece move with it.
@@ -31,7 +31,7 @@ impl Differing {
         let moved = |place: usize| if place >= from + count { place - count } else { place.min(from) };
         let mut buffer = self.case.lent.bytes().to_vec();
         buffer.drain(from..from + count);
-        let args = Args { pos: moved(self.args.pos), ..self.args };
+        let args = Args { pos: moved(self.args.pos), ..self.args.clone() };
         Differing::of(entry, &buffer, moved(self.case.len), moved(self.cursor), args)
     }
 }

@@ -13,11 +13,11 @@ use Rattle.unicode.specs.Repertoire.{Repertoire}
 use Rattle.unicode.specs.Text.{isText}
 use Rattle.unicode.proofs.Text.{text-cut}
 use Rattle.cluster.specs.Clusters.{clustersOf}
-use Rattle.journal.specs.Change.{Edit, insert, delete, Change}
+use Rattle.journal.specs.Change.{Edit, insert, delete, replace, Change}
 use Rattle.journal.specs.Layout.{Format}
-use Rattle.journal.specs.Recording.{isSingle, recordInsertStr, recordDelete}
+use Rattle.journal.specs.Recording.{isSingle, recordInsertStr, recordDelete, recordReplace}
 use Rattle.journal.specs.Undo.{Sizes, fits}
-use Rattle.edit.specs.Plan.{part, In, splice, made, recorded, Piece, cutting, once, textAfter, listAfter, tooLong, edited, State, Outcome, refused, answered, notedOr, changed, changeOut}
+use Rattle.edit.specs.Plan.{In, Outcome, Piece, State, answered, changeOut, changed, cutting, edited, listAfter, made, notedOr, once, part, pasted, recorded, refused, splice, swapping, textAfter, tooLong}
 
 -- ---- a part between two characters
 module _ (R : Repertoire) (t : List ℕ) (a b : ℕ) (i : In t a b) where
@@ -64,3 +64,17 @@ module _ (R : Repertoire) (F : Format) (z : Sizes) (C p : ℕ) (s : State) where
       let k : b ≡ a + length (part (s .text) a b) = omega (arith, part-length R (s .text) a b i) in
       one-piece R F z C (cutting a b) p s j (delete a (part (s .text) a b)) (ap (λ (m : ℕ). splice (s .text) a m []) k)
       (noted-delete R a (part (s .text) a b) (s .log .undo) ∙ ap (λ (c : Bool). notedOr c (delete a (part (s .text) a b)) (s .log .undo)) (sym e))
+
+  -- bytes replaced
+  pub once-swap : (a b : ℕ) (n : List ℕ) → In (s .text) a b → changeOut F z C true (replace a (part (s .text) a b) n) p s ≡ edited R F z C (once (swapping a b n) p) s
+  unfolding recordReplace
+  once-swap a b n i =
+      let h = i .0 in
+      let k : b ≡ a + length (part (s .text) a b) = omega (arith, part-length R (s .text) a b i) in
+      one-piece R F z C (swapping a b n) p s true (replace a (part (s .text) a b) n) (ap (λ (m : ℕ). splice (s .text) a m n) k) refl
+
+  -- a text put in
+  pub once-paste : (a : ℕ) (n : List ℕ) → changeOut F z C false (insert a n) p s ≡ edited R F z C (once (pasted a n) p) s
+  once-paste a n =
+      let k : a ≡ a + 0 = omega arith in
+      one-piece R F z C (pasted a n) p s false (insert a n) (ap (λ (m : ℕ). splice (s .text) a m n) k) (noted-insert a n (s .log .undo))

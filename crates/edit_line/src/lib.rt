@@ -6,6 +6,8 @@ ghost use Rattle.movement.specs.Moves.{nextPosCall, isCursorAtEnd, isEndOfInput
 ghost use Rattle.journal.specs.Layout.{narrow};
 ghost use Rattle.changeset.specs.Calls.{lent, Logged, answerOf, beginCall, endCall, insertCall, insertStrCall, deleteCall, replaceCall, truncateCall, lastInsertCall};
 ghost use Rattle.edit.specs.Calls as edits;
+ghost use Rattle.kills.specs.Kills as kills;
+ghost use Rattle.ranges.specs.Ranges as ranges;
 ghost use Rattle.kills.specs.Kills.{killCall, killLineCall, killBufferCall, discardLineCall, discardBufferCall, backspaceCall, deletePrevWordCall, deleteWordCall, deleteToCall};
 use changeset::Log;
 use changeset::LogAnswer;
@@ -321,6 +323,57 @@ pub extern "C" fn tlf_line_delete_to(
         r (now (text .exit)) (now (records .exit)) (now (texts .exit)) ⌝ }
 {
     kills::delete_to(text, records, texts, line, log, search, ch, n)
+}
+
+#[no_mangle]
+pub extern "C" fn tlf_line_delete_range(
+    text: &mut [u8],
+    records: &mut [u8],
+    texts: &mut [u8],
+    line: Line,
+    log: Log,
+    start: usize,
+    end: usize,
+) -> EditAnswer
+    ensures { λ r. ⌜ edits.Edited narrow (edits.lent (now (text .entry)) (now (records .entry)) (now (texts .entry)) line log)
+        (ranges.deleteRangeCall catalogue narrow (edits.lent (now (text .entry)) (now (records .entry)) (now (texts .entry)) line log) start end)
+        r (now (text .exit)) (now (records .exit)) (now (texts .exit)) ⌝ }
+{
+    ranges::delete_range(text, records, texts, line, log, start, end)
+}
+
+#[no_mangle]
+pub extern "C" fn tlf_line_replace(
+    text: &mut [u8],
+    records: &mut [u8],
+    texts: &mut [u8],
+    line: Line,
+    log: Log,
+    start: usize,
+    end: usize,
+    buf: &[u8],
+) -> EditAnswer
+    ensures { λ r. ⌜ edits.Edited narrow (edits.lent (now (text .entry)) (now (records .entry)) (now (texts .entry)) line log)
+        (ranges.replaceCall catalogue narrow (edits.lent (now (text .entry)) (now (records .entry)) (now (texts .entry)) line log) start end (now (buf .entry)))
+        r (now (text .exit)) (now (records .exit)) (now (texts .exit)) ⌝ }
+{
+    ranges::replace(text, records, texts, line, log, start, end, buf)
+}
+
+#[no_mangle]
+pub extern "C" fn tlf_line_delete(
+    text: &mut [u8],
+    records: &mut [u8],
+    texts: &mut [u8],
+    line: Line,
+    log: Log,
+    n: u16,
+) -> EditAnswer
+    ensures { λ r. ⌜ edits.Edited narrow (edits.lent (now (text .entry)) (now (records .entry)) (now (texts .entry)) line log)
+        (kills.deleteCall catalogue narrow (edits.lent (now (text .entry)) (now (records .entry)) (now (texts .entry)) line log) n)
+        r (now (text .exit)) (now (records .exit)) (now (texts .exit)) ⌝ }
+{
+    kills::delete(text, records, texts, line, log, n)
 }
 
 #[no_mangle]

@@ -2,7 +2,7 @@
 -- the text and leaves the cursor there; where there are none it answers 1.
 use Prim.Native.Nat.{ℕ}
 use mathlib.Core.Bool.{true, false}
-use mathlib.Core.List.{List}
+use mathlib.Core.List.{List, [], _∷_}
 use Rattle.unicode.specs.Repertoire.{Repertoire}
 use Rattle.keymap.specs.Codes.{movementOf}
 use Rattle.keymap.specs.declared.Movement.{Movement}
@@ -93,3 +93,11 @@ module _ (R : Repertoire) (F : Format) (l : Lent) where
 
   abbrev pub deleteToCall : ℕ → ℕ → ℕ → Outcome
   deleteToCall search ch n = killCall 5 n 0 0 search ch
+
+-- delete answers the two places between which it cut
+abbrev pub placesPlan : ℕ → Range → Plan
+placesPlan pos (Places a b) = record { pieces = cutting a b ∷ []; cursor = a; number = 0; from = a; to = b }
+placesPlan pos Nowhere = nothing pos
+
+abbrev pub deleteCall : Repertoire → Format → Lent → ℕ → Outcome
+deleteCall R F l n = editCall R F l (ownTests false false false) (placesPlan (l .line .cursor) (killRange R (textOf l) (l .line .cursor) (m.ForwardChar n)))

@@ -9,7 +9,7 @@ ghost use Rattle.unicode.specs.Repertoire.{catalogue};
 ghost use Rattle.copies.specs.Copy.{movementIs};
 ghost use Rattle.journal.specs.Layout.{narrow};
 ghost use Rattle.edit.specs.Calls.{lent, Edited};
-ghost use Rattle.kills.specs.Kills.{killLine, discardLine, killRange, killOf, killCall, killLineCall, killBufferCall, discardLineCall, discardBufferCall, backspaceCall, deletePrevWordCall, deleteWordCall, deleteToCall};
+ghost use Rattle.kills.specs.Kills.{killLine, discardLine, killRange, killOf, deleteCall, killCall, killLineCall, killBufferCall, discardLineCall, discardBufferCall, backspaceCall, deletePrevWordCall, deleteWordCall, deleteToCall};
 use changeset::Log;
 use checks::Line;
 use copies::copied;
@@ -287,4 +287,33 @@ pub fn delete_to(
         r (now (text .exit)) (now (records .exit)) (now (texts .exit)) ⌝ }
 {
     kill(text, records, texts, line, log, 5, n, 0, 0, search, ch)
+}
+
+// Wrong answers ruled out: the cursor twice for the two places; places where nothing was cut.
+pub fn delete(
+    text: &mut [u8],
+    records: &mut [u8],
+    texts: &mut [u8],
+    line: Line,
+    log: Log,
+    n: RepeatCount,
+) -> EditAnswer
+    ensures { λ r. ⌜ Edited narrow (lent (now (text .entry)) (now (records .entry)) (now (texts .entry)) line log)
+        (deleteCall catalogue narrow (lent (now (text .entry)) (now (records .entry)) (now (texts .entry)) line log) n)
+        r (now (text .exit)) (now (records .exit)) (now (texts .exit)) ⌝ }
+{
+    let a = kill_movement(text, records, texts, line, log, Movement::ForwardChar(n));
+    if a.number != 0 {
+        return a;
+    }
+    let left = a.line;
+    let log = a.log;
+    let cursor = line.cursor;
+    EditAnswer {
+        number: 0,
+        from: cursor,
+        to: cursor + (line.len - left.len),
+        line: left,
+        log,
+    }
 }

@@ -1,0 +1,112 @@
+// The calls of LineBuffer with a range of places of their own. Any text, cursor, log and place may be handed over: what is unfit
+// is turned away by a number of document 01.
+ghost use mathlib.Core.Path.{_≡_};
+ghost use mathlib.Core.Bool.{true, not};
+ghost use Prim.Native.Nat.{_≤_};
+ghost use lib.ListN.{length, take};
+ghost use Rattle.utf8.specs.Chars.{valid, boundary};
+ghost use Rattle.unicode.specs.Repertoire.{catalogue};
+ghost use Rattle.journal.specs.Layout.{narrow};
+ghost use Rattle.edit.specs.Calls.{lent, Edited};
+ghost use Rattle.ranges.specs.Ranges.{deleteRangeCall, replaceCall};
+use changeset::Log;
+use checks::Line;
+use edit::EditAnswer;
+use edit::Own;
+use edit::change;
+use edit::cut_out;
+use edit::refusal;
+use edit::says;
+use records::Format;
+use unicode::check_text;
+use utf8::is_boundary;
+
+// The format of the log's records: numbers of 2 bytes, kinds 1 to 5.
+const NARROW: Format = Format {
+    width: 2,
+    offset: 0,
+};
+
+// Does a place lie inside a character of the text's first len bytes?
+fn is_split(text: &[u8], len: usize, pos: usize) -> bool
+    ensures { λ r. ⌜ (len ≤ length (now (text .entry)) → valid (take len (now (text .entry))) ≡ true → r ≡ not (boundary (take len (now (text .entry))) pos)) ⌝ }
+{
+    if text.len() < len {
+        return false;
+    }
+    !is_boundary(&text[..len], pos)
+}
+
+// Wrong answers ruled out: the redo list kept for an empty range; the cursor left behind the cut.
+pub fn delete_range(
+    text: &mut [u8],
+    records: &mut [u8],
+    texts: &mut [u8],
+    line: Line,
+    log: Log,
+    start: usize,
+    end: usize,
+) -> EditAnswer
+    ensures { λ r. ⌜ Edited narrow (lent (now (text .entry)) (now (records .entry)) (now (texts .entry)) line log)
+        (deleteRangeCall catalogue narrow (lent (now (text .entry)) (now (records .entry)) (now (texts .entry)) line log) start end)
+        r (now (text .exit)) (now (records .exit)) (now (texts .exit)) ⌝ }
+{
+    let len = line.len;
+    let split = is_split(text, len, start) | is_split(text, len, end);
+    let own = Own {
+        sizes: false,
+        code: false,
+        foreign: false,
+        place: (len < end) | (end < start),
+        split,
+    };
+    let k = refusal(NARROW, text, records, texts, line, log, own);
+    if k != 0 {
+        return says(k, line, log);
+    }
+    cut_out(NARROW, text, records, texts, line, log, start, end)
+}
+
+// Wrong answers ruled out: nothing by nothing left unrecorded; the cursor left at the start.
+pub fn replace(
+    text: &mut [u8],
+    records: &mut [u8],
+    texts: &mut [u8],
+    line: Line,
+    log: Log,
+    start: usize,
+    end: usize,
+    buf: &[u8],
+) -> EditAnswer
+    ensures { λ r. ⌜ Edited narrow (lent (now (text .entry)) (now (records .entry)) (now (texts .entry)) line log)
+        (replaceCall catalogue narrow (lent (now (text .entry)) (now (records .entry)) (now (texts .entry)) line log) start end (now (buf .entry)))
+        r (now (text .exit)) (now (records .exit)) (now (texts .exit)) ⌝ }
+{
+    let len = line.len;
+    let split = is_split(text, len, start) | is_split(text, len, end);
+    let own = Own {
+        sizes: text.len() < buf.len(),
+        code: false,
+        foreign: !check_text(buf),
+        place: (len < end) | (end < start),
+        split,
+    };
+    let k = refusal(NARROW, text, records, texts, line, log, own);
+    if k != 0 {
+        return says(k, line, log);
+    }
+    change(
+        NARROW,
+        text,
+        records,
+        texts,
+        line,
+        log,
+        true,
+        5,
+        start,
+        end,
+        buf,
+        start + buf.len(),
+    )
+}

@@ -1,0 +1,170 @@
+//! A text and a log that are lent from call to call, with the Rust's line and changeset of them; and the comparison of
+//! the two.
+use std::panic::{AssertUnwindSafe, catch_unwind};
+
+use crate::checks::is_text;
+use crate::edit_calls::{Entry, Input};
+use crate::edit_checks::{EditInput, edit_call};
+use crate::ffi::{EditAnswer, Line, Used};
+use crate::lent::Lent;
+use crate::line_buffer::LineBuffer;
+use crate::line_calls::{self, Args};
+use crate::listeners::{Ears, Heard, Witness};
+use crate::log_case::{self, Damage, raw};
+use crate::log_model::Bytes;
+use crate::oracle;
+
+/// What stands in the text's buffer before the first call: no text.
+const STALE: u8 = 0x9F;
+
+pub struct Case {
+    text: Lent,
+    line: Line,
+    pub log: log_case::Case,
+    /// None where what is lent is no text.
+    rust: Option<LineBuffer>,
+}
+
+impl Case {
+    /// An empty text and an empty log in buffers of these sizes.
+    pub fn new(size: usize, records: usize, texts: usize) -> Case {
+        let text = vec![STALE; size];
+        Case::of(&text, Line { len: 0, cursor: 0 }, log_case::Case::new(records, texts))
+    }
+
+    fn of(buffer: &[u8], line: Line, log: log_case::Case) -> Case {
+        let text = buffer.get(..line.len).filter(|text| is_text(text));
+        let rust = text.map(|text| oracle::line_buffer(std::str::from_utf8(text).expect("check 4"), 0));
+        Case { text: Lent::new(buffer), line, log, rust }
+    }
+
+    /// C.
+    pub fn size(&self) -> usize {
+        self.text.size()
+    }
+
+    pub fn line(&self) -> Line {
+        self.line
+    }
+
+    /// The whole buffer of the text.
+    pub fn buffer(&self) -> &[u8] {
+        self.text.bytes()
+    }
+
+    /// The used part of the text, as far as its buffer reaches.
+    pub fn text(&self) -> &[u8] {
+        &self.buffer()[..self.line.len.min(self.size())]
+    }
+
+    /// Another text, where there is room for it, with its cursor.
+    pub fn lay(&mut self, text: &str, cursor: usize) {
+        if text.len() <= self.size() && text.is_char_boundary(cursor) {
+            self.text.put(0, text.as_bytes());
+            self.line = Line { len: text.len(), cursor };
+            self.rust = Some(oracle::line_buffer(text, cursor));
+        }
+    }
+
+    /// A copy with another text and with these damages to the log.
+    pub fn damaged(&self, buffer: &[u8], line: Line, damages: &[Damage]) -> Case {
+        Case::of(buffer, line, self.log.damaged(damages))
+    }
+
+    /// A call that is lent the text alone.
+    pub fn go(&mut self, entry: &line_calls::Entry, args: &Args) -> Result<u32, line_calls::Difference> {
+        let mut case = line_calls::Case::new(self.buffer(), self.line.len);
+        let answer = line_calls::compare(entry, &mut case, self.line.cursor, args)?;
+        self.line = answer.line;
+        Ok(answer.number)
+    }
+}
+
+/// The text and both lists in bytes.
+pub struct Left {
+    pub text: Vec<u8>,
+    pub lists: Bytes,
+}
+
+/// The answer that is due, and what is left; nothing where no byte may change.
+pub struct Expected {
+    pub answer: EditAnswer,
+    pub left: Option<Left>,
+}
+
+/// What the library answered and left, and what it should have: `None` where the Rust panics and no check foresaw it.
+pub struct Difference {
+    pub got: EditAnswer,
+    pub left: Left,
+    /// The buffers that are not as they should be, each with the first place.
+    pub wrong: Vec<(&'static str, isize)>,
+    pub expected: Option<Expected>,
+}
+
+/// What the Rust's call changes, on a copy of the line.
+fn heard(entry: &Entry, text: &[u8], cursor: usize, args: &Args) -> Vec<Heard> {
+    let mut witness = Witness::default();
+    let mut line = oracle::line_buffer(std::str::from_utf8(text).expect("check 4"), cursor);
+    (entry.rust)(&mut line, args, &mut Ears(&mut witness));
+    witness.0
+}
+
+/// The undo list's used lengths after the call, or the number of the check that fails.
+fn foreseen(entry: &Entry, case: &Case, args: &Args) -> Result<Used, u32> {
+    let Case { text, line, log, rust } = case;
+    let used = rust.as_ref().map(|_| case.text());
+    let input =
+        EditInput { size: text.size(), line: *line, text: used, loan: log.loan(), uses: entry.uses(args), args };
+    edit_call(&input, || heard(entry, case.text(), line.cursor, args))
+}
+
+/// A check's number with line and log as they were, else what the Rust decides.
+fn expected(entry: &Entry, case: &mut Case, args: &Args) -> Option<Expected> {
+    let foreseen = match catch_unwind(AssertUnwindSafe(|| foreseen(entry, case, args))).ok()? {
+        Ok(foreseen) => foreseen,
+        Err(number) => {
+            let answer = EditAnswer { number, from: 0, to: 0, line: case.line, log: case.log.loan().log };
+            return Some(Expected { answer, left: None });
+        }
+    };
+    let (rust, changes) = (case.rust.as_mut()?, case.log.rust_mut());
+    rust.set_pos(case.line.cursor);
+    let outcome = catch_unwind(AssertUnwindSafe(|| (entry.rust)(rust, args, &mut Ears(changes)))).ok()?;
+    let (from, to) = outcome.unwrap_or((0, 0));
+    let (log, lists) = oracle::laid_out(changes);
+    // Check 10 looks ahead, so the rules that it goes by must be the Rust's.
+    assert!(foreseen == log.undo, "{}: {foreseen:?} foreseen, {log:?}", entry.name);
+    let line = Line { len: rust.len(), cursor: rust.pos() };
+    let answer = EditAnswer { number: outcome.is_none().into(), from, to, line, log };
+    Some(Expected { answer, left: Some(Left { text: rust.as_bytes().to_vec(), lists }) })
+}
+
+/// The number that both give, or how they differ: the whole answer counts, every byte of the text and of both lists,
+/// and that no guard and no text given has changed. On a refusal no byte at all may have changed.
+pub fn compare(entry: &Entry, case: &mut Case, args: &Args) -> Result<u32, Difference> {
+    let mut buf = Lent::new(&args.buf);
+    let (line, log) = (case.line, case.log.loan().log);
+    let expected = expected(entry, case, args);
+    let [records, texts] = case.log.raw();
+    let input = Input { text: raw(&mut case.text), records, texts, line, log, buf: raw(&mut buf) };
+    let got = unsafe { (entry.ask)(&input, args) };
+
+    let due = expected.as_ref().and_then(|expected| expected.left.as_ref());
+    let text = due.map_or_else(|| case.text.changed(), |due| case.text.differs(&due.text));
+    let others = [("text", text), ("buf", buf.changed())];
+    let places = case.log.wrong(due.map(|due| &due.lists)).into_iter().chain(others);
+    let wrong: Vec<_> = places.filter_map(|(name, place)| Some((name, place?))).collect();
+    match expected {
+        Some(due) if due.answer == got && wrong.is_empty() => {
+            case.line = got.line;
+            case.text.keep();
+            case.log.keep(got.log);
+            Ok(got.number)
+        }
+        expected => {
+            let count = got.line.len.min(case.size());
+            let left = Left { text: case.text.now()[..count].to_vec(), lists: case.log.left(&got.log) };
+            Err(Difference { got, left, wrong, expected })
+        }
+    }
+}

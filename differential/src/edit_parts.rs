@@ -1,0 +1,311 @@
+//! The inputs of the calls that are lent a text and a log, in five parts: small texts and small records with every
+//! small call, characters and foreign bytes, the largest text and log to the last byte, faults, drawn lists of calls.
+use crate::checks::MAX_TEXT;
+use crate::edit_account;
+use crate::edit_calls::ENTRIES;
+use crate::edit_case::Case;
+use crate::edit_gen::{Habit, another_text, damaged, drawn_edit, drawn_step};
+use crate::edit_lists::{Call, Difference, Faults, List, Step, play};
+use crate::edit_shrink::{Differing, smallest};
+use crate::ffi::{Line, Log};
+use crate::r#gen::{
+    FIRST, FOREIGN, Rng, boundaries, code_args, drawn_args, members, small_args, small_text, small_texts,
+};
+use crate::log_case::Damage;
+use crate::log_checks::{MAX_RECORDS, MAX_TEXTS};
+use crate::log_gen::{drawn_change, drawn_size, filling, small_records};
+use crate::log_lists;
+use crate::log_model::Change;
+use crate::tally::Tally;
+
+struct Runner<'a> {
+    tally: &'a mut Tally,
+    done: u64,
+    /// Tell each input before its call.
+    trace: bool,
+}
+
+/// A list as far as it was played.
+struct Played {
+    list: List,
+    case: Case,
+}
+
+impl Played {
+    fn new(size: usize, records: usize, texts: usize) -> Played {
+        let list = List { size, records, texts, steps: Vec::new() };
+        Played { case: list.case(), list }
+    }
+}
+
+/// `n` comparisons, or the account of the first difference.
+pub fn run(n: u64, seed: u64, trace: bool, tally: &mut Tally) -> Result<(), String> {
+    let mut rng = Rng::new(seed);
+    let mut runner = Runner { tally, done: 0, trace };
+    every_small_call(&mut runner, &mut rng, n / 3)?;
+    characters(&mut runner, n / 12)?;
+    to_the_last_byte(&mut runner, n)?;
+    faults(&mut runner, &mut rng, n)?;
+    drawn(&mut runner, &mut rng, n)
+}
+
+impl Runner<'_> {
+    /// One step; for a call the number that it gives.
+    fn step(&mut self, played: &mut Played, step: Step) -> Result<Option<u32>, String> {
+        let row = step.row();
+        self.done += u64::from(row.is_some());
+        if self.trace && row.is_some() {
+            println!("{}", edit_account::input(&played.case, &step));
+        }
+        let outcome = play(&mut played.case, &step);
+        played.list.steps.push(step);
+        match outcome {
+            Ok(number) => {
+                row.zip(number).into_iter().for_each(|(row, number)| self.tally.note(row, number));
+                Ok(number)
+            }
+            Err(difference) => Err(self.account(&played.list, difference)),
+        }
+    }
+
+    fn account(&self, list: &List, difference: Difference) -> String {
+        let small = smallest(Differing { list: list.clone(), difference });
+        format!("difference in comparison {} of edits, made smaller\n{}", self.done, edit_account::difference(&small))
+    }
+
+    /// A list of a few steps from an empty text and an empty log.
+    fn list(&mut self, sizes: [usize; 3], steps: &[Step]) -> Result<Played, String> {
+        let [size, records, texts] = sizes;
+        let mut played = Played::new(size, records, texts);
+        for step in steps {
+            self.step(&mut played, step.clone())?;
+        }
+        Ok(played)
+    }
+}
+
+fn lay(change: Change<String>) -> Step {
+    Step::Log(log_lists::Step::Lay(change))
+}
+
+fn seam(count: usize) -> Step {
+    Step::Log(log_lists::Step::Seam(count))
+}
+
+/// Room for everything that a few small steps may record.
+const AMPLE: usize = 64;
+
+/// Every small text with every boundary as its cursor and every call: with all small arguments as far as half of
+/// `share` reaches, then once with drawn ones. The log holds the small records in turn, in front of the seam or behind
+/// it.
+fn every_small_call(runner: &mut Runner, rng: &mut Rng, share: u64) -> Result<(), String> {
+    let (middle, limit) = (runner.done + share / 2, runner.done + share);
+    let records = small_records();
+    let mut turn = 0;
+    for letters in 0.. {
+        for number in 0..small_texts(letters) {
+            let text = small_text(number, letters);
+            for cursor in boundaries(text.as_bytes()) {
+                let all = runner.done < middle;
+                for call in small_calls(rng, &text, all) {
+                    if runner.done >= limit {
+                        return Ok(());
+                    }
+                    let log = [lay(records[turn % records.len()].clone()), seam(usize::from(turn % 3 != 0))];
+                    every_room(runner, &[&log[..], &[Step::Text(text.clone(), cursor)]].concat(), call)?;
+                    turn += 1;
+                }
+            }
+        }
+    }
+    Ok(())
+}
+
+/// Each call on this text: with all small arguments, or once with drawn ones.
+fn small_calls(rng: &mut Rng, text: &str, all: bool) -> Vec<Call> {
+    let mut calls = Vec::new();
+    for (row, entry) in ENTRIES.iter().enumerate() {
+        let args = if all { small_args(entry.takes, text) } else { vec![drawn_args(rng, text.as_bytes())] };
+        calls.extend(args.into_iter().map(|args| Call { row, args }));
+    }
+    calls
+}
+
+/// The call after these steps with ample room, then with just the room that it needs, then with a byte less of either
+/// buffer of the log. Where the call records nothing, with ample room alone.
+fn every_room(runner: &mut Runner, before: &[Step], call: Call) -> Result<(), String> {
+    let mut played = runner.list([AMPLE; 3], before)?;
+    let lent = both(&played.case.log.loan().log);
+    let size = played.case.line().len;
+    let edit = Step::Edit(call);
+    runner.step(&mut played, edit.clone())?;
+    let left = both(&played.case.log.loan().log);
+    let [records, texts] = [lent[0].max(left[0]), lent[1].max(left[1])];
+    if [records, texts] == lent {
+        return Ok(());
+    }
+    let size = size.max(played.case.line().len);
+    let mut again = |records, texts| {
+        let mut played = runner.list([size, records, texts], before)?;
+        runner.step(&mut played, edit.clone())
+    };
+    again(records, texts)?;
+    if records > lent[0] {
+        again(records - 1, texts)?;
+    }
+    if texts > lent[1] {
+        again(records, texts - 1)?;
+    }
+    Ok(())
+}
+
+/// The used lengths of records and texts, both lists together.
+fn both(log: &Log) -> [usize; 2] {
+    [log.undo.records + log.redo.records, log.undo.texts + log.redo.texts]
+}
+
+/// Characters, then foreign bytes, each as far as half of `share` reaches.
+fn characters(runner: &mut Runner, share: u64) -> Result<(), String> {
+    let middle = runner.done + share / 2;
+    every_member(runner, middle)?;
+    foreign_anywhere(runner, middle + share / 2)
+}
+
+/// Each character of the repertoire before and behind the cursor: whether it is alphanumeric shows in what joins the
+/// record before it, its class in where words end.
+fn every_member(runner: &mut Runner, limit: u64) -> Result<(), String> {
+    for c in members() {
+        let text = format!("-{c}{c}-");
+        let cursor = 1 + c.len_utf8();
+        for place in [1, cursor] {
+            let before = [lay(Change::Delete(place, "a".into())), Step::Text(text.clone(), cursor)];
+            for (row, entry) in ENTRIES.iter().enumerate() {
+                for args in code_args(entry.takes) {
+                    if runner.done >= limit {
+                        return Ok(());
+                    }
+                    let edit = Step::Edit(Call { row, args });
+                    runner.list([AMPLE; 3], &[&before[..], &[edit]].concat())?;
+                }
+            }
+        }
+    }
+    Ok(())
+}
+
+/// A length that holds a whole block of any scan that takes many bytes at once.
+const BLOCK: usize = 130;
+
+/// Foreign bytes at every place of the text, of the undo list's texts and of the redo list's, in turn with each call.
+/// As far as `limit` reaches.
+fn foreign_anywhere(runner: &mut Runner, limit: u64) -> Result<(), String> {
+    for place in 0..BLOCK {
+        for (number, foreign) in FOREIGN.iter().enumerate() {
+            if runner.done >= limit {
+                return Ok(());
+            }
+            let turn = place + number;
+            let steps = foreign_at(place, foreign, turn % 3, turn / 3 % ENTRIES.len());
+            runner.list([BLOCK; 3], &steps)?;
+        }
+    }
+    Ok(())
+}
+
+/// A call on a text (`whose` is 2) or on a log (0: behind the seam, 1: in front of it) that has these bytes at a place.
+fn foreign_at(place: usize, foreign: &[u8], whose: usize, row: usize) -> Vec<Step> {
+    let bytes = (place..BLOCK).zip(foreign.iter().copied());
+    let mut faults = Faults { buffer: vec![b'a'; BLOCK], line: Line { len: BLOCK, cursor: BLOCK }, log: Vec::new() };
+    match whose {
+        2 => bytes.for_each(|(place, byte)| faults.buffer[place] = byte),
+        _ => faults.log = bytes.map(|(place, byte)| Damage::TextsByte(place, byte)).collect(),
+    }
+    let damaged = Step::Damaged(faults, Call { row, args: FIRST });
+    vec![lay(Change::Delete(0, "a".repeat(BLOCK))), seam(whose % 2), damaged]
+}
+
+/// Every call on a text of the largest size, in buffers of the largest sizes with just the room that it needs in one of
+/// them, and with a byte less. No more than `n` comparisons.
+fn to_the_last_byte(runner: &mut Runner, n: u64) -> Result<(), String> {
+    let half = MAX_TEXT / 2;
+    let text = Step::Text(format!("{}\n{}", "a".repeat(half), "-".repeat(half - 1)), half + 9);
+    let sizes = [MAX_TEXT, MAX_RECORDS, MAX_TEXTS];
+    for row in 0..ENTRIES.len() {
+        if runner.done + 5 > n {
+            return Ok(());
+        }
+        let edit = Step::Edit(Call { row, args: FIRST });
+        let log = runner.list(sizes, &[text.clone(), edit.clone()])?.case.log.loan().log;
+        for less in [0, 1] {
+            let mut steps = vec![lay(Change::End); MAX_RECORDS - log.undo.records + less];
+            steps.extend([text.clone(), edit.clone()]);
+            runner.list(sizes, &steps)?;
+            if log.undo.texts >= less {
+                let full = lay(Change::Insert(9, "a".repeat(MAX_TEXTS - log.undo.texts + less)));
+                runner.list(sizes, &[full, text.clone(), edit.clone()])?;
+            }
+        }
+    }
+    Ok(())
+}
+
+/// Edits on one text and log, each with faults of its own.
+const EDITS: usize = 4;
+
+/// An eighth of `n` comparisons, if so many are left: single edits with one to three faults.
+fn faults(runner: &mut Runner, rng: &mut Rng, n: u64) -> Result<(), String> {
+    let limit = n.min(runner.done + n / 8);
+    while runner.done < limit {
+        let mut played = empty(rng);
+        let text = another_text(rng, &played.case);
+        runner.step(&mut played, text)?;
+        let records = rng.below(5);
+        for _ in 0..records {
+            runner.step(&mut played, lay(drawn_change(rng, 5)))?;
+        }
+        runner.step(&mut played, seam(rng.below(records + 1)))?;
+        for _ in 0..EDITS.min((limit - runner.done) as usize) {
+            let call = drawn_edit(rng, &played.case, Habit::Any);
+            let step = damaged(rng, &played.case, call);
+            runner.step(&mut played, step)?;
+        }
+    }
+    Ok(())
+}
+
+/// Drawn lists until `n` comparisons are done: of every 128 one on a full log of the largest size.
+fn drawn(runner: &mut Runner, rng: &mut Rng, n: u64) -> Result<(), String> {
+    for turn in 0.. {
+        if runner.done >= n {
+            break;
+        }
+        let mut played = if turn % 128 == 0 { full(runner, rng)? } else { empty(rng) };
+        let text = another_text(rng, &played.case);
+        runner.step(&mut played, text)?;
+        let habit = rng.pick(&[Habit::Any, Habit::Any, Habit::Characters]);
+        for _ in 0..rng.below(24) {
+            if runner.done >= n {
+                break;
+            }
+            let step = drawn_step(rng, &played.case, habit);
+            runner.step(&mut played, step)?;
+        }
+    }
+    Ok(())
+}
+
+/// An empty text and an empty log in buffers of drawn sizes.
+fn empty(rng: &mut Rng) -> Played {
+    Played::new(drawn_size(rng, MAX_TEXT), drawn_size(rng, MAX_RECORDS), drawn_size(rng, MAX_TEXTS))
+}
+
+/// A log that fills buffers of the largest sizes.
+fn full(runner: &mut Runner, rng: &mut Rng) -> Result<Played, String> {
+    let less = [0, 0, 0, 1];
+    let (records, texts) = (MAX_RECORDS - rng.pick(&less), MAX_TEXTS - rng.pick(&less));
+    let mut played = Played::new(MAX_TEXT - rng.pick(&less), records, texts);
+    for change in filling(rng, &played.case.log) {
+        runner.step(&mut played, lay(change))?;
+    }
+    Ok(played)
+}
