@@ -1,7 +1,7 @@
 -- The checks of a text and of a log together: the text's come first, then a place inside a character, then the log. Assumes nothing.
 use Prim.Native.Nat.{ℕ, _<_}
 use mathlib.Core.Path.{_≡_, refl, sym, ap, _∙_}
-use mathlib.Core.Bool.{Bool, true, false, cond, _||_}
+use mathlib.Core.Bool.{Bool, true, false, cond, _||_, or-false}
 use native.Mathlib.Omega.{arith}
 use Rattle.unicode.specs.Repertoire.{catalogue}
 use Rattle.checks.specs.Checks.{Tests, both, refusal, lineTests, ownTests}
@@ -73,10 +73,6 @@ module _ (F : Format) (l : Lent) (o : Own) where
     text-is : textNumber ≡ chain (T .sizes || false) (o .code) (T .foreign || o .foreign) (T .place || o .place) (T .split || false) 0
     unfolding refusal
     text-is = refl
-
-    or-false : (c : Bool) → c || false ≡ c
-    or-false true = refl
-    or-false false = refl
 
     first : textNumber ≡ chain (T .sizes || false) (o .code) (T .foreign || o .foreign) (T .place || o .place) (T .split) 0
     first = text-is ∙ ap (λ (c : Bool). chain (T .sizes || false) (o .code) (T .foreign || o .foreign) (T .place || o .place) c 0) (or-false (T .split))

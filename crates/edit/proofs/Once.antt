@@ -2,7 +2,7 @@
 use Prim.Native.Nat.{ℕ, _+_, _-_}
 use native.Mathlib.Omega.{arith}
 use mathlib.Core.Path.{_≡_, refl, sym, ap, ap₂, _∙_}
-use mathlib.Core.Bool.{Bool, true, false, cond, _||_}
+use mathlib.Core.Bool.{Bool, true, false, cond, or-false}
 use mathlib.Core.List.{List, [], _∷_}
 use lib.Dec.{ltb}
 use lib.ListN.{length, drop, length-drop}
@@ -32,15 +32,11 @@ module _ (R : Repertoire) (t : List ℕ) (a b : ℕ) (i : In t a b) where
       text-cut R (drop a t) (b - a) rest (sym (boundary-drop t a (b - a) (i .2)) ∙ ap (boundary t) e ∙ i .3) .0
 
 -- ---- the outcome of one piece, where it is the change x
-or-no : (b : Bool) → b || false ≡ b
-or-no true = refl
-or-no false = refl
-
 one-piece : (R : Repertoire) (F : Format) (z : Sizes) (C : ℕ) (y : Piece) (p : ℕ) (s : State) (j : Bool) (x : Edit)
     → made y (s .text) ≡ changed x (s .text) → recorded R y (s .text) (s .log .undo) ≡ notedOr j x (s .log .undo) → changeOut F z C j x p s ≡ edited R F z C (once y p) s
 unfolding edited changeOut textAfter listAfter tooLong
 one-piece R F z C y p s j x e f =
-    sym (ap (λ (b : Bool). cond b (refused 9) (behind (made y (s .text)) (recorded R y (s .text) (s .log .undo)))) (or-no (ltb C (length (made y (s .text)))))
+    sym (ap (λ (b : Bool). cond b (refused 9) (behind (made y (s .text)) (recorded R y (s .text) (s .log .undo)))) (or-false (ltb C (length (made y (s .text)))))
     ∙ ap₂ (λ (t : List ℕ) (u : List Change). cond (ltb C (length t)) (refused 9) (behind t u)) e f)
   where
     behind : List ℕ → List Change → Outcome

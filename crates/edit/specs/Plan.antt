@@ -22,7 +22,7 @@ part t a b = take (b - a) (drop a t)
 abbrev pub In : List ℕ → ℕ → ℕ → Type 0
 In t a b = (a ≤ b) × (b ≤ length t) × (boundary t a ≡ true) × (boundary t b ≡ true)
 
--- t with s in their place
+-- t with s in the place of its bytes from a up to b
 unfoldable pub splice : List ℕ → ℕ → ℕ → List ℕ → List ℕ
 splice t a b s = take a t ++ (s ++ drop b t)
 

@@ -2,7 +2,7 @@
 use Prim.Native.Nat.{ℕ, _+_, _≤_, _<_}
 use mathlib.Core.Path.{_≡_, refl, sym, ap, subst, _∙_}
 use mathlib.Core.List.{List, [], _∷_, _++_, reverse, reverse-cons}
-use mathlib.Core.Bool.{Bool, true, false, _&&_}
+use mathlib.Core.Bool.{true, false, and-false}
 use lib.ListN.{length, length-append}
 use lib.Dec.{leb}
 use borrow.Author.Tests.{lt-ltb, le-ltb, le-leb, lt-leb}
@@ -58,10 +58,6 @@ big-place w (insert p s) h = rw (le-ltb p (top w) h)
 big-place w (delete p s) h = rw (le-ltb p (top w) h)
 big-place w (replace p o n) h = rw (le-ltb p (top w) h)
 
-and-no : (b : Bool) → (b && false) ≡ false
-and-no true = refl
-and-no false = refl
-
 module _ (F : Format) (z : Sizes) (u : List Change) where
   pub fits-yes : (R : Repertoire) → AllGood R (F .width) u → length (undoRecords F u) ≤ z .records → length (undoTexts u) ≤ z .texts → fits F z u ≡ true
   unfolding fits
@@ -69,11 +65,11 @@ module _ (F : Format) (z : Sizes) (u : List Change) where
 
   pub full-records : z .records < length (undoRecords F u) → fits F z u ≡ false
   unfolding fits
-  full-records h = rw (lt-leb (length (undoRecords F u)) (z .records) h) (and-no (allSmall (F .width) u))
+  full-records h = rw (lt-leb (length (undoRecords F u)) (z .records) h) (and-false (allSmall (F .width) u))
 
   pub full-texts : z .texts < length (undoTexts u) → fits F z u ≡ false
   unfolding fits
-  full-texts h = rw (lt-leb (length (undoTexts u)) (z .texts) h, and-no (leb (length (undoRecords F u)) (z .records))) (and-no (allSmall (F .width) u))
+  full-texts h = rw (lt-leb (length (undoTexts u)) (z .texts) h, and-false (leb (length (undoRecords F u)) (z .records))) (and-false (allSmall (F .width) u))
 
 pub full-place : (F : Format) (z : Sizes) (x : Edit) (u : List Change) → top (F .width) ≤ place x → fits F z (edit x ∷ u) ≡ false
 unfolding fits allSmall

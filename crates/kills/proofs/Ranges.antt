@@ -124,6 +124,3 @@ unnamed l k r e q = refused-by narrow l k (checked catalogue narrow l (ownTests 
   where
     code-named : checked catalogue narrow l (ownTests true false false) ≡ 0 → ⊥
     code-named z = never ⊥ true refl (or-none false true (refusal-passed (both (lineTests catalogue (l .text) (l .line)) (both (logTests catalogue narrow (l .log) (l .records) (l .texts)) (ownTests true false false))) z .code) .1)
-
-pub fit : Fit (record { width = 2; offset = 0 })
-fit = record { width = omega arith; offset = omega arith }

@@ -1,5 +1,4 @@
--- The format of the log's records, an edit by its numbers, and what the calls record. Assumes nothing.
-use native.Mathlib.Omega.{arith}
+-- An edit by its numbers, and what the calls record. Assumes nothing.
 use mathlib.Core.Path.{_≡_, refl, ap₂}
 use mathlib.Core.Bool.{Bool, true, false, not, _&&_, _||_}
 use mathlib.Core.List.{List, []}
@@ -9,11 +8,7 @@ use Rattle.utf8.specs.Encode.{encode}
 use Rattle.unicode.specs.Repertoire.{catalogue}
 use Rattle.journal.specs.Change.{insert, replace, Change}
 use Rattle.journal.specs.Recording.{note, recordInsert, recordReplace}
-use Rattle.records.specs.Formats.{Fit}
 use Rattle.changeset.specs.Calls.{editOf, Numbered}
-
-pub fit : Fit (record { width = 2; offset = 0 })
-fit = record { width = omega arith; offset = omega arith }
 
 pub an-insert : (p : ℕ) (s : List ℕ) → Numbered (editOf 3 p [] s) 3 p [] s
 an-insert p s = record { kind = refl; place = refl; old = refl; new = refl }

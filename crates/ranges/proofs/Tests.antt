@@ -20,9 +20,6 @@ use Rattle.changeset.specs.Logs.{logTests}
 use Rattle.edit.specs.Plan.{In}
 use Rattle.edit.specs.Calls.{Lent, textOf, checked, Ready}
 
-pub fit : Fit (record { width = 2; offset = 0 })
-fit = record { width = omega arith; offset = omega arith }
-
 -- the tests t with another answer to 6
 abbrev pub withSplit : Tests → Bool → Tests
 withSplit t b = record { sizes = t .sizes; code = t .code; foreign = t .foreign; place = t .place; split = b; prompt = t .prompt; damaged = t .damaged }

@@ -1,3 +1,4 @@
+pub mod Formats
 pub mod Numbers
 pub mod Records
 pub mod Walks

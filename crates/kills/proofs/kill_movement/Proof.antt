@@ -15,7 +15,8 @@ use Rattle.edit.specs.Calls.{lent, sizesOf, stateOf, checked}
 use Rattle.edit.proofs.Answers.{refused-by, passed-by, stays}
 use Rattle.edit.proofs.Made.{outcome-as}
 use Rattle.kills.specs.Kills.{cutPlan, killRange}
-use Rattle.kills.proofs.Ranges.{kill-in, fit}
+use Rattle.kills.proofs.Ranges.{kill-in}
+use Rattle.records.proofs.Formats.{narrow-fit}
 use borrow.Author.Needs.{needs}
 use Rattle.kills.proofs.kill_movement.Statement.{statement}
 use Rattle.kills.proofs.kill_movement.Tie as tie
@@ -54,7 +55,7 @@ enum-known-r : tie.Need-enum-known-r
 enum-known-r c = search needs
 
 cut-out-requires : tie.Need-cut-out-requires
-cut-out-requires c κs = (fit, ((c .before .before .before .before .before .before .before .before .before .refusal .ensures .1 (c .before .before .before .before .before .before .before .before .if1 .left)), kill-in catalogue (take (c .before .before .before .before .before .before .before .before .before .before .before .before .before .before .before .before .before .args .line .len) (now (c .before .before .before .before .before .before .before .before .before .before .before .before .before .before .before .before .before .args .text))) (text-valid catalogue (take (c .before .before .before .before .before .before .before .before .before .before .before .before .before .before .before .before .before .args .line .len) (now (c .before .before .before .before .before .before .before .before .before .before .before .before .before .before .before .before .before .args .text))) ((c .before .before .before .before .before .before .before .before .before .refusal .ensures .1 (c .before .before .before .before .before .before .before .before .if1 .left)) .text)) (c .before .before .before .before .r .given .0 .0) (c .before .before .before .before .r .given .0 .1 .0) (c .before .before .before .before .before .before .before .before .before .before .before .before .before .before .before .before .before .args .line .cursor) ((c .before .before .before .before .before .before .before .before .before .refusal .ensures .1 (c .before .before .before .before .before .before .before .before .if1 .left)) .edge) (subst (λ (n : ℕ). (c .before .before .before .before .before .before .before .before .before .before .before .before .before .before .before .before .before .args .line .cursor) ≤ n) (sym (length-take-le (c .before .before .before .before .before .before .before .before .before .before .before .before .before .before .before .before .before .args .line .len) (now (c .before .before .before .before .before .before .before .before .before .before .before .before .before .before .before .before .before .args .text)) ((c .before .before .before .before .before .before .before .before .before .refusal .ensures .1 (c .before .before .before .before .before .before .before .before .if1 .left)) .used))) ((c .before .before .before .before .before .before .before .before .before .refusal .ensures .1 (c .before .before .before .before .before .before .before .before .if1 .left)) .within)) (c .before .before .before .before .before .before .before .before .before .before .before .before .before .before .before .before .before .args .m) (sym (c .before .before .before .before .before .before .kill-range .ensures) ∙ c .before .before .before .before .r .given .1)))
+cut-out-requires c κs = (narrow-fit, ((c .before .before .before .before .before .before .before .before .before .refusal .ensures .1 (c .before .before .before .before .before .before .before .before .if1 .left)), kill-in catalogue (take (c .before .before .before .before .before .before .before .before .before .before .before .before .before .before .before .before .before .args .line .len) (now (c .before .before .before .before .before .before .before .before .before .before .before .before .before .before .before .before .before .args .text))) (text-valid catalogue (take (c .before .before .before .before .before .before .before .before .before .before .before .before .before .before .before .before .before .args .line .len) (now (c .before .before .before .before .before .before .before .before .before .before .before .before .before .before .before .before .before .args .text))) ((c .before .before .before .before .before .before .before .before .before .refusal .ensures .1 (c .before .before .before .before .before .before .before .before .if1 .left)) .text)) (c .before .before .before .before .r .given .0 .0) (c .before .before .before .before .r .given .0 .1 .0) (c .before .before .before .before .before .before .before .before .before .before .before .before .before .before .before .before .before .args .line .cursor) ((c .before .before .before .before .before .before .before .before .before .refusal .ensures .1 (c .before .before .before .before .before .before .before .before .if1 .left)) .edge) (subst (λ (n : ℕ). (c .before .before .before .before .before .before .before .before .before .before .before .before .before .before .before .before .before .args .line .cursor) ≤ n) (sym (length-take-le (c .before .before .before .before .before .before .before .before .before .before .before .before .before .before .before .before .before .args .line .len) (now (c .before .before .before .before .before .before .before .before .before .before .before .before .before .before .before .before .before .args .text)) ((c .before .before .before .before .before .before .before .before .before .refusal .ensures .1 (c .before .before .before .before .before .before .before .before .if1 .left)) .used))) ((c .before .before .before .before .before .before .before .before .before .refusal .ensures .1 (c .before .before .before .before .before .before .before .before .if1 .left)) .within)) (c .before .before .before .before .before .before .before .before .before .before .before .before .before .before .before .before .before .args .m) (sym (c .before .before .before .before .before .before .kill-range .ensures) ∙ c .before .before .before .before .r .given .1)))
 
 enum-told : tie.Need-enum-told
 enum-told c = search needs

@@ -4,7 +4,7 @@ use Rattle.unicode.specs.Repertoire.{catalogue}
 use Rattle.journal.specs.Layout.{narrow}
 use Rattle.changeset.specs.Calls.{lent, sizesOf, valueOf, checked}
 use Rattle.changeset.proofs.Answers.{refused-by, passed-by, answered-as}
-use Rattle.log_calls.proofs.Narrow.{fit}
+use Rattle.records.proofs.Formats.{narrow-fit}
 use native.Mathlib.Omega.{arith}
 use mathlib.Core.Bool.{Bool, not}
 use borrow.Author.Tests.{not-false}
@@ -59,7 +59,7 @@ slice-aggregate-record : tie.Need-slice-aggregate-record
 slice-aggregate-record c = search needs
 
 record-requires : tie.Need-record-requires
-record-requires c κs = (fit, ((c .before .before .before .before .before .before .before .before .before .refusal .ensures .1 (c .before .before .before .before .before .before .before .before .if1 .left)), (an-insert (c .before .before .before .before .before .before .before .before .before .before .before .before .before .before .before .args .idx) (take (c .before .before .before .before .before .before .encode-at .result) (c .before .before .before .before .before .before .encode-at .last .0)), ap (isText catalogue) (typed-bytes (c .before .before .before .before .before .before .before .before .before .before .before .before .before .before .before .args .ch) (not-false _ (own-passed narrow (lent (now (c .before .before .before .before .before .before .before .before .before .before .before .before .before .before .before .args .records)) (now (c .before .before .before .before .before .before .before .before .before .before .before .before .before .before .before .args .texts)) (c .before .before .before .before .before .before .before .before .before .before .before .before .before .before .before .args .log)) (not (isChar catalogue (c .before .before .before .before .before .before .before .before .before .before .before .before .before .before .before .args .ch))) ((sym (c .before .before .before .before .before .before .before .before .before .refusal .ensures .0 ∙ ap (λ (b : Bool). (checked catalogue narrow (lent (now (c .before .before .before .before .before .before .before .before .before .before .before .before .before .before .before .args .records)) (now (c .before .before .before .before .before .before .before .before .before .before .before .before .before .before .before .args .texts)) (c .before .before .before .before .before .before .before .before .before .before .before .before .before .before .before .args .log))) (not b)) (c .before .before .before .before .before .before .before .before .before .before .check-char .ensures))) ∙ c .before .before .before .before .before .before .before .before .if1 .left))) _ (c .before .before .before .before .before .before .encode-at .last .0) (c .before .before .before .before .before .before .encode-at .result) (omega arith) (c .before .before .before .before .before .before .encode-at .ensures)) ∙ typed-text (c .before .before .before .before .before .before .before .before .before .before .before .before .before .before .before .args .ch) (not-false _ (own-passed narrow (lent (now (c .before .before .before .before .before .before .before .before .before .before .before .before .before .before .before .args .records)) (now (c .before .before .before .before .before .before .before .before .before .before .before .before .before .before .before .args .texts)) (c .before .before .before .before .before .before .before .before .before .before .before .before .before .before .before .args .log)) (not (isChar catalogue (c .before .before .before .before .before .before .before .before .before .before .before .before .before .before .before .args .ch))) ((sym (c .before .before .before .before .before .before .before .before .before .refusal .ensures .0 ∙ ap (λ (b : Bool). (checked catalogue narrow (lent (now (c .before .before .before .before .before .before .before .before .before .before .before .before .before .before .before .args .records)) (now (c .before .before .before .before .before .before .before .before .before .before .before .before .before .before .before .args .texts)) (c .before .before .before .before .before .before .before .before .before .before .before .before .before .before .before .args .log))) (not b)) (c .before .before .before .before .before .before .before .before .before .before .check-char .ensures))) ∙ c .before .before .before .before .before .before .before .before .if1 .left))))))
+record-requires c κs = (narrow-fit, ((c .before .before .before .before .before .before .before .before .before .refusal .ensures .1 (c .before .before .before .before .before .before .before .before .if1 .left)), (an-insert (c .before .before .before .before .before .before .before .before .before .before .before .before .before .before .before .args .idx) (take (c .before .before .before .before .before .before .encode-at .result) (c .before .before .before .before .before .before .encode-at .last .0)), ap (isText catalogue) (typed-bytes (c .before .before .before .before .before .before .before .before .before .before .before .before .before .before .before .args .ch) (not-false _ (own-passed narrow (lent (now (c .before .before .before .before .before .before .before .before .before .before .before .before .before .before .before .args .records)) (now (c .before .before .before .before .before .before .before .before .before .before .before .before .before .before .before .args .texts)) (c .before .before .before .before .before .before .before .before .before .before .before .before .before .before .before .args .log)) (not (isChar catalogue (c .before .before .before .before .before .before .before .before .before .before .before .before .before .before .before .args .ch))) ((sym (c .before .before .before .before .before .before .before .before .before .refusal .ensures .0 ∙ ap (λ (b : Bool). (checked catalogue narrow (lent (now (c .before .before .before .before .before .before .before .before .before .before .before .before .before .before .before .args .records)) (now (c .before .before .before .before .before .before .before .before .before .before .before .before .before .before .before .args .texts)) (c .before .before .before .before .before .before .before .before .before .before .before .before .before .before .before .args .log))) (not b)) (c .before .before .before .before .before .before .before .before .before .before .check-char .ensures))) ∙ c .before .before .before .before .before .before .before .before .if1 .left))) _ (c .before .before .before .before .before .before .encode-at .last .0) (c .before .before .before .before .before .before .encode-at .result) (omega arith) (c .before .before .before .before .before .before .encode-at .ensures)) ∙ typed-text (c .before .before .before .before .before .before .before .before .before .before .before .before .before .before .before .args .ch) (not-false _ (own-passed narrow (lent (now (c .before .before .before .before .before .before .before .before .before .before .before .before .before .before .before .args .records)) (now (c .before .before .before .before .before .before .before .before .before .before .before .before .before .before .before .args .texts)) (c .before .before .before .before .before .before .before .before .before .before .before .before .before .before .before .args .log)) (not (isChar catalogue (c .before .before .before .before .before .before .before .before .before .before .before .before .before .before .before .args .ch))) ((sym (c .before .before .before .before .before .before .before .before .before .refusal .ensures .0 ∙ ap (λ (b : Bool). (checked catalogue narrow (lent (now (c .before .before .before .before .before .before .before .before .before .before .before .before .before .before .before .args .records)) (now (c .before .before .before .before .before .before .before .before .before .before .before .before .before .before .before .args .texts)) (c .before .before .before .before .before .before .before .before .before .before .before .before .before .before .before .args .log))) (not b)) (c .before .before .before .before .before .before .before .before .before .before .check-char .ensures))) ∙ c .before .before .before .before .before .before .before .before .if1 .left))))))
 
 same-length-3 : tie.Need-same-length-3
 same-length-3 c = search needs

@@ -4,7 +4,7 @@ use Rattle.unicode.specs.Repertoire.{catalogue}
 use Rattle.journal.specs.Layout.{narrow}
 use Rattle.changeset.specs.Calls.{lent, sizesOf, valueOf, checked}
 use Rattle.changeset.proofs.Answers.{refused-by, passed-by, answered-as}
-use Rattle.log_calls.proofs.Narrow.{fit}
+use Rattle.records.proofs.Formats.{narrow-fit}
 use mathlib.Core.Bool.{Bool, not}
 use Rattle.changeset.specs.Outcomes.{called, recordOut}
 use Rattle.changeset.proofs.Answers.{recorded-as}
@@ -41,7 +41,7 @@ returns : tie.Need-returns
 returns c = answered-as narrow (lent (now (c .before .before .before .before .before .before .before .before .before .before .before .args .records)) (now (c .before .before .before .before .before .before .before .before .before .before .before .args .texts)) (c .before .before .before .before .before .before .before .before .before .before .before .args .log)) (called ((checked catalogue narrow (lent (now (c .before .before .before .before .before .before .before .before .before .before .before .args .records)) (now (c .before .before .before .before .before .before .before .before .before .before .before .args .texts)) (c .before .before .before .before .before .before .before .before .before .before .before .args .log))) (not (isText catalogue (now (c .before .before .before .before .before .before .before .before .before .before .before .args .old))) || not (isText catalogue (now (c .before .before .before .before .before .before .before .before .before .before .before .args .new))))) (recordOut narrow (sizesOf (lent (now (c .before .before .before .before .before .before .before .before .before .before .before .args .records)) (now (c .before .before .before .before .before .before .before .before .before .before .before .args .texts)) (c .before .before .before .before .before .before .before .before .before .before .before .args .log))) (recordReplace (c .before .before .before .before .before .before .before .before .before .before .before .args .idx) (now (c .before .before .before .before .before .before .before .before .before .before .before .args .old)) (now (c .before .before .before .before .before .before .before .before .before .before .before .args .new)) ((valueOf catalogue narrow (lent (now (c .before .before .before .before .before .before .before .before .before .before .before .args .records)) (now (c .before .before .before .before .before .before .before .before .before .before .before .args .texts)) (c .before .before .before .before .before .before .before .before .before .before .before .args .log))) .undo)) (valueOf catalogue narrow (lent (now (c .before .before .before .before .before .before .before .before .before .before .before .args .records)) (now (c .before .before .before .before .before .before .before .before .before .before .before .args .texts)) (c .before .before .before .before .before .before .before .before .before .before .before .args .log))))) _ _ _ _ (c .says .ensures) (refused-by narrow (lent (now (c .before .before .before .before .before .before .before .before .before .before .before .args .records)) (now (c .before .before .before .before .before .before .before .before .before .before .before .args .texts)) (c .before .before .before .before .before .before .before .before .before .before .before .args .log)) (c .before .before .refusal .result) ((checked catalogue narrow (lent (now (c .before .before .before .before .before .before .before .before .before .before .before .args .records)) (now (c .before .before .before .before .before .before .before .before .before .before .before .args .texts)) (c .before .before .before .before .before .before .before .before .before .before .before .args .log))) (not (isText catalogue (now (c .before .before .before .before .before .before .before .before .before .before .before .args .old))) || not (isText catalogue (now (c .before .before .before .before .before .before .before .before .before .before .before .args .new))))) (recordOut narrow (sizesOf (lent (now (c .before .before .before .before .before .before .before .before .before .before .before .args .records)) (now (c .before .before .before .before .before .before .before .before .before .before .before .args .texts)) (c .before .before .before .before .before .before .before .before .before .before .before .args .log))) (recordReplace (c .before .before .before .before .before .before .before .before .before .before .before .args .idx) (now (c .before .before .before .before .before .before .before .before .before .before .before .args .old)) (now (c .before .before .before .before .before .before .before .before .before .before .before .args .new)) ((valueOf catalogue narrow (lent (now (c .before .before .before .before .before .before .before .before .before .before .before .args .records)) (now (c .before .before .before .before .before .before .before .before .before .before .before .args .texts)) (c .before .before .before .before .before .before .before .before .before .before .before .args .log))) .undo)) (valueOf catalogue narrow (lent (now (c .before .before .before .before .before .before .before .before .before .before .before .args .records)) (now (c .before .before .before .before .before .before .before .before .before .before .before .args .texts)) (c .before .before .before .before .before .before .before .before .before .before .before .args .log)))) (sym (c .before .before .refusal .ensures .0 ∙ ap₂ (λ (a b : Bool). (checked catalogue narrow (lent (now (c .before .before .before .before .before .before .before .before .before .before .before .args .records)) (now (c .before .before .before .before .before .before .before .before .before .before .before .args .texts)) (c .before .before .before .before .before .before .before .before .before .before .before .args .log))) (not a || not b)) (c .before .before .before .before .check-text .ensures) (c .before .before .before .check-text2 .ensures))) (c .before .if1 .taken))
 
 record-requires : tie.Need-record-requires
-record-requires c κs = (fit, ((c .before .before .before .refusal .ensures .1 (c .before .before .if1 .left)), (a-replace (c .before .before .before .before .before .before .before .before .before .before .before .before .args .idx) (now (c .before .before .before .before .before .before .before .before .before .before .before .before .args .old)) (now (c .before .before .before .before .before .before .before .before .before .before .before .before .args .new)), (neither (isText catalogue (now (c .before .before .before .before .before .before .before .before .before .before .before .before .args .old))) (isText catalogue (now (c .before .before .before .before .before .before .before .before .before .before .before .before .args .new))) (own-passed narrow (lent (now (c .before .before .before .before .before .before .before .before .before .before .before .before .args .records)) (now (c .before .before .before .before .before .before .before .before .before .before .before .before .args .texts)) (c .before .before .before .before .before .before .before .before .before .before .before .before .args .log)) (not (isText catalogue (now (c .before .before .before .before .before .before .before .before .before .before .before .before .args .old))) || not (isText catalogue (now (c .before .before .before .before .before .before .before .before .before .before .before .before .args .new)))) ((sym (c .before .before .before .refusal .ensures .0 ∙ ap₂ (λ (a b : Bool). (checked catalogue narrow (lent (now (c .before .before .before .before .before .before .before .before .before .before .before .before .args .records)) (now (c .before .before .before .before .before .before .before .before .before .before .before .before .args .texts)) (c .before .before .before .before .before .before .before .before .before .before .before .before .args .log))) (not a || not b)) (c .before .before .before .before .before .check-text .ensures) (c .before .before .before .before .check-text2 .ensures))) ∙ c .before .before .if1 .left))))))
+record-requires c κs = (narrow-fit, ((c .before .before .before .refusal .ensures .1 (c .before .before .if1 .left)), (a-replace (c .before .before .before .before .before .before .before .before .before .before .before .before .args .idx) (now (c .before .before .before .before .before .before .before .before .before .before .before .before .args .old)) (now (c .before .before .before .before .before .before .before .before .before .before .before .before .args .new)), (neither (isText catalogue (now (c .before .before .before .before .before .before .before .before .before .before .before .before .args .old))) (isText catalogue (now (c .before .before .before .before .before .before .before .before .before .before .before .before .args .new))) (own-passed narrow (lent (now (c .before .before .before .before .before .before .before .before .before .before .before .before .args .records)) (now (c .before .before .before .before .before .before .before .before .before .before .before .before .args .texts)) (c .before .before .before .before .before .before .before .before .before .before .before .before .args .log)) (not (isText catalogue (now (c .before .before .before .before .before .before .before .before .before .before .before .before .args .old))) || not (isText catalogue (now (c .before .before .before .before .before .before .before .before .before .before .before .before .args .new)))) ((sym (c .before .before .before .refusal .ensures .0 ∙ ap₂ (λ (a b : Bool). (checked catalogue narrow (lent (now (c .before .before .before .before .before .before .before .before .before .before .before .before .args .records)) (now (c .before .before .before .before .before .before .before .before .before .before .before .before .args .texts)) (c .before .before .before .before .before .before .before .before .before .before .before .before .args .log))) (not a || not b)) (c .before .before .before .before .before .check-text .ensures) (c .before .before .before .before .check-text2 .ensures))) ∙ c .before .before .if1 .left))))))
 
 same-length-3 : tie.Need-same-length-3
 same-length-3 c = search needs
