@@ -29,7 +29,7 @@ pub fn input(entry: &Entry, case: &Case, cursor: usize, args: &Args) -> String {
     let used = case.len.min(buffer.len());
     let mut out = String::new();
     let _ = writeln!(out, "call       {}", entry.name);
-    let _ = writeln!(out, "arguments  {}", arguments(entry.uses(args), args));
+    let _ = writeln!(out, "arguments  {}", arguments(&entry.uses(args), args));
     let _ = writeln!(out, "text       {}", shown(&buffer[..used], cursor));
     let mark = if cursor <= used { ", shown as |" } else { "" };
     let _ = writeln!(out, "           C {}, used length {}, cursor {cursor}{mark}", buffer.len(), case.len);
@@ -81,7 +81,10 @@ fn value(param: Param, args: &Args) -> String {
         Param::Action => &ACTIONS,
         Param::Ch => return format!("U+{number:04X}"),
         Param::Buf => return shown(&args.buf, usize::MAX),
-        Param::N | Param::Pos | Param::Prompt | Param::Size | Param::Start | Param::End => return number.to_string(),
+        Param::Dedent => return format!("{number} ({})", if number == 0 { "indents" } else { "dedents" }),
+        Param::N | Param::Pos | Param::Prompt | Param::Size | Param::Start | Param::End | Param::Amount => {
+            return number.to_string();
+        }
     };
     format!("{number} ({})", names.get(number).unwrap_or(&"none"))
 }

@@ -31,6 +31,11 @@ pub fn is_alphanumeric(c: u32) -> bool {
     }
 }
 
+/// "Repertoire and clusters": of what is in, what is white space.
+pub fn is_white(c: u32) -> bool {
+    matches!(c, 0x09 | 0x0A | 0x0D | 0x20 | 0xA0)
+}
+
 /// The first character of `bytes` and its length: UTF8-1 to UTF8-4 of RFC 3629, section 4.
 pub fn first_character(bytes: &[u8]) -> Option<(u32, usize)> {
     let lead = *bytes.first()?;

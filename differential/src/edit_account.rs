@@ -71,10 +71,10 @@ fn answer(answer: &EditAnswer) -> String {
 /// A step in words.
 fn told(step: &Step) -> String {
     match step {
-        Step::Edit(call) => told_call(call.entry().name, call.entry().uses(&call.args), call),
-        Step::Move(call) => told_call(call.movement().name, call.movement().uses(&call.args), call),
+        Step::Edit(call) => told_call(call.entry().name, &call.entry().uses(&call.args), call),
+        Step::Move(call) => told_call(call.movement().name, &call.movement().uses(&call.args), call),
         Step::Damaged(faults, call) => {
-            let edit = told_call(call.entry().name, call.entry().uses(&call.args), call);
+            let edit = told_call(call.entry().name, &call.entry().uses(&call.args), call);
             let Line { len, cursor } = faults.line;
             let text = shown(&faults.buffer, usize::MAX);
             let buffer = format!("a text buffer of {} bytes {text}", faults.buffer.len());

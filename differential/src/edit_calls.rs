@@ -28,7 +28,7 @@ pub struct Entry {
 
 impl Entry {
     /// The parameters that the call uses with these arguments.
-    pub fn uses(&self, args: &Args) -> &'static [Param] {
+    pub fn uses(&self, args: &Args) -> Vec<Param> {
         uses(self.takes, args)
     }
 }
@@ -45,11 +45,17 @@ macro_rules! ask {
 
 const PLAIN: &[u32] = &[0, 1, 2, 4, 5, 6, 8, 10];
 const CODES: &[u32] = &[0, 1, 2, 3, 4, 5, 6, 8, 10];
+const ALWAYS: &[u32] = &[0, 2, 4, 5, 6, 8, 10];
+const LONGER: &[u32] = &[0, 1, 2, 4, 5, 6, 8, 9, 10];
+const ALWAYS_LONGER: &[u32] = &[0, 2, 4, 5, 6, 8, 9, 10];
+const INDENT: &[u32] = &[0, 2, 3, 4, 5, 6, 8, 9, 10];
 
-const RANGE: &[u32] = &[0, 2, 4, 5, 6, 8, 10];
-const REPLACE: &[u32] = &[0, 2, 4, 5, 6, 8, 9, 10];
+/// The text to put in, which check 4 has passed.
+fn buf(args: &Args) -> &str {
+    std::str::from_utf8(&args.buf).expect("check 4")
+}
 
-pub static ENTRIES: [Entry; 12] = [
+pub static ENTRIES: [Entry; 20] = [
     Entry {
         name: "tlf_line_backspace",
         takes: &[N],
@@ -126,7 +132,7 @@ pub static ENTRIES: [Entry; 12] = [
     Entry {
         name: "tlf_line_delete_range",
         takes: &[Start, End],
-        gives: RANGE,
+        gives: ALWAYS,
         ask: ask!(tlf_line_delete_range, i, a, a.start, a.end),
         rust: |l, a, ears| {
             l.delete_range(a.start..a.end, ears);
@@ -136,11 +142,70 @@ pub static ENTRIES: [Entry; 12] = [
     Entry {
         name: "tlf_line_replace",
         takes: &[Start, End, Buf],
-        gives: REPLACE,
+        gives: ALWAYS_LONGER,
         ask: ask!(tlf_line_replace, i, a, a.start, a.end, i.buf.0, i.buf.1),
         rust: |l, a, ears| {
-            l.replace(a.start..a.end, std::str::from_utf8(&a.buf).expect("check 4"), ears);
+            l.replace(a.start..a.end, buf(a), ears);
             done(true)
         },
+    },
+    Entry {
+        name: "tlf_line_update",
+        takes: &[Buf, Pos],
+        gives: ALWAYS,
+        ask: ask!(tlf_line_update, i, a, i.buf.0, i.buf.1, a.pos),
+        rust: |l, a, ears| {
+            l.update(buf(a), a.pos, ears);
+            done(true)
+        },
+    },
+    Entry {
+        name: "tlf_line_insert",
+        takes: &[Ch, N],
+        gives: ALWAYS_LONGER,
+        ask: ask!(tlf_line_insert, i, a, a.ch, a.n),
+        rust: |l, a, ears| done(l.insert(oracle::character(a.ch), a.n, ears).is_some()),
+    },
+    Entry {
+        name: "tlf_line_yank",
+        takes: &[Buf, N],
+        gives: LONGER,
+        ask: ask!(tlf_line_yank, i, a, i.buf.0, i.buf.1, a.n),
+        rust: |l, a, ears| done(l.yank(buf(a), a.n, ears).is_some()),
+    },
+    Entry {
+        name: "tlf_line_yank_pop",
+        takes: &[Size, Buf],
+        gives: LONGER,
+        ask: ask!(tlf_line_yank_pop, i, a, a.size, i.buf.0, i.buf.1),
+        rust: |l, a, ears| done(l.yank_pop(a.size, buf(a), ears).is_some()),
+    },
+    Entry {
+        name: "tlf_line_transpose_chars",
+        takes: &[],
+        gives: PLAIN,
+        ask: ask!(tlf_line_transpose_chars, i, _),
+        rust: |l, _, ears| done(l.transpose_chars(ears)),
+    },
+    Entry {
+        name: "tlf_line_edit_word",
+        takes: &[Action],
+        gives: CODES,
+        ask: ask!(tlf_line_edit_word, i, a, a.action),
+        rust: |l, a, ears| done(l.edit_word(oracle::action(a.action), ears)),
+    },
+    Entry {
+        name: "tlf_line_transpose_words",
+        takes: &[N],
+        gives: LONGER,
+        ask: ask!(tlf_line_transpose_words, i, a, a.n),
+        rust: |l, a, ears| done(l.transpose_words(a.n, ears)),
+    },
+    Entry {
+        name: "tlf_line_indent",
+        takes: &[Mvt, N, At, Word, Search, Ch, Amount, Dedent],
+        gives: INDENT,
+        ask: ask!(tlf_line_indent, i, a, a.mvt, a.n, a.at, a.word, a.search, a.ch, a.amount, a.dedent),
+        rust: |l, a, ears| done(l.indent(&oracle::movement(a), a.amount, a.dedent != 0, ears)),
     },
 ];

@@ -34,7 +34,7 @@ impl Case {
 
     fn of(buffer: &[u8], line: Line, log: log_case::Case) -> Case {
         let text = buffer.get(..line.len).filter(|text| is_text(text));
-        let rust = text.map(|text| oracle::line_buffer(std::str::from_utf8(text).expect("check 4"), 0));
+        let rust = text.map(|text| oracle::line_of(text, 0));
         Case { text: Lent::new(buffer), line, log, rust }
     }
 
@@ -104,8 +104,7 @@ pub struct Difference {
 /// What the Rust's call changes, on a copy of the line.
 fn heard(entry: &Entry, text: &[u8], cursor: usize, args: &Args) -> Vec<Heard> {
     let mut witness = Witness::default();
-    let mut line = oracle::line_buffer(std::str::from_utf8(text).expect("check 4"), cursor);
-    (entry.rust)(&mut line, args, &mut Ears(&mut witness));
+    (entry.rust)(&mut oracle::line_of(text, cursor), args, &mut Ears(&mut witness));
     witness.0
 }
 
@@ -113,9 +112,10 @@ fn heard(entry: &Entry, text: &[u8], cursor: usize, args: &Args) -> Vec<Heard> {
 fn foreseen(entry: &Entry, case: &Case, args: &Args) -> Result<Used, u32> {
     let Case { text, line, log, rust } = case;
     let used = rust.as_ref().map(|_| case.text());
-    let input =
-        EditInput { size: text.size(), line: *line, text: used, loan: log.loan(), uses: entry.uses(args), args };
-    edit_call(&input, || heard(entry, case.text(), line.cursor, args))
+    let uses = entry.uses(args);
+    let input = EditInput { size: text.size(), line: *line, text: used, loan: log.loan(), uses: &uses, args };
+    let touched = || oracle::touched(case.text(), line.cursor, args);
+    edit_call(&input, touched, || heard(entry, case.text(), line.cursor, args))
 }
 
 /// A check's number with line and log as they were, else what the Rust decides.

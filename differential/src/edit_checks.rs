@@ -1,6 +1,6 @@
 //! The checks of document 01 for a call that is lent a text and a log, in number order. A call that they pass is the
 //! Rust's to decide.
-use crate::checks::{MAX_TEXT, in_repertoire, is_text, last_code, splits};
+use crate::checks::{MAX_TEXT, first_character, in_repertoire, is_text, is_white, last_code, splits};
 use crate::ffi::{Line, Used};
 use crate::line_calls::{Args, Param};
 use crate::listeners::Heard;
@@ -60,11 +60,34 @@ impl EditInput<'_> {
         let own = own.into_iter().filter(|&(param, ..)| self.takes(param)).map(|(_, place, text)| (place, text));
         [(self.line.cursor, text)].into_iter().chain(own).collect()
     }
+
+    /// Check 6 of a dedent: the cut of a line ends inside a character. The cut is as long as the amount says, or as the
+    /// white space in front of the line, where that is shorter.
+    fn cuts_inside(&self, text: &[u8], touched: impl FnOnce() -> Vec<usize>) -> bool {
+        if !self.takes(Param::Dedent) || self.args.dedent == 0 {
+            return false;
+        }
+        let end = |start| start + white_front(&text[start..]).min(self.args.amount.into());
+        touched().into_iter().any(|start| splits(text, end(start)))
+    }
+}
+
+/// The length of the white space in front of a line.
+fn white_front(line: &[u8]) -> usize {
+    let mut len = 0;
+    while let Some((_, bytes)) = first_character(&line[len..]).filter(|&(c, _)| is_white(c) && c != 0x0A) {
+        len += bytes;
+    }
+    len
 }
 
 /// The undo list's used lengths after the call, or the number by which it is refused: the lowest whose check fails.
-/// `heard` is what the Rust's call changes.
-pub fn edit_call(input: &EditInput, heard: impl FnOnce() -> Vec<Heard>) -> Result<Used, u32> {
+/// `touched` is where the lines start that an indent touches, `heard` what the Rust's call changes.
+pub fn edit_call(
+    input: &EditInput,
+    touched: impl FnOnce() -> Vec<usize>,
+    heard: impl FnOnce() -> Vec<Heard>,
+) -> Result<Used, u32> {
     if input.is_oversized() {
         return Err(2);
     }
@@ -76,7 +99,7 @@ pub fn edit_call(input: &EditInput, heard: impl FnOnce() -> Vec<Heard>) -> Resul
     if places.iter().any(|(place, text)| *place > text.len()) {
         return Err(5);
     }
-    if places.iter().any(|(place, text)| splits(text, *place)) {
+    if places.iter().any(|(place, text)| splits(text, *place)) || input.cuts_inside(text, touched) {
         return Err(6);
     }
     let lists = input.loan.lists().ok_or(8u32)?;

@@ -4,14 +4,15 @@ use crate::edit_calls::{ENTRIES, Entry};
 use crate::edit_case::Case;
 use crate::edit_lists::{Call, Faults, Step};
 use crate::ffi::Line;
-use crate::r#gen::{Draft, FAULTS, FOREIGN, Rng, behind, boundary, drawn_args, drawn_text, spoil};
-use crate::line_calls::{self, BACKWARD_CHAR, FORWARD_CHAR, Param};
+use crate::r#gen::{Draft, FAULTS, FOREIGN, Rng, behind, boundary, drawn_args, drawn_place, drawn_text, spoil};
+use crate::line_calls::{self, Args, BACKWARD_CHAR, FORWARD_CHAR, Param};
 use crate::log_faults::log_damage;
 use crate::log_gen::{MIXES, drawn_step as drawn_log_step};
 
-/// The largest text to put in that is drawn, and the most bytes that repeating it may give.
+/// The largest text to put in that is drawn, and the most bytes that repeating it and indenting may give.
 const LONGEST: usize = 40;
 const REPEATED: usize = 1 << 20;
+const INDENTED: usize = 1 << 16;
 
 /// What a list is made of.
 #[derive(Clone, Copy, PartialEq, Eq)]
@@ -35,7 +36,7 @@ pub fn drawn_step(rng: &mut Rng, case: &Case, habit: Habit) -> Step {
             Step::Log(drawn_log_step(rng, &case.log, &mix))
         }
         10..=12 => another_text(rng, case),
-        _ if case.line().len == 0 && !rng.one_in(6) => another_text(rng, case),
+        _ if case.line().len == 0 && !rng.one_in(3) => another_text(rng, case),
         13..=15 => {
             let call = drawn_edit(rng, case, habit);
             damaged(rng, case, call)
@@ -55,25 +56,39 @@ pub fn another_text(rng: &mut Rng, case: &Case) -> Step {
 
 /// A fit call.
 pub fn drawn_edit(rng: &mut Rng, case: &Case, habit: Habit) -> Call {
-    let mut args = drawn_args(rng, case.text());
+    let mut args = edit_args(rng, case.text(), case.line().cursor);
     if habit == Habit::Characters && !rng.one_in(8) {
         args.n = 1;
         args.mvt = rng.pick(&[BACKWARD_CHAR, BACKWARD_CHAR, FORWARD_CHAR]);
         let rows: Vec<usize> = (0..ENTRIES.len()).filter(|&row| is_by_character(&ENTRIES[row])).collect();
         return Call { row: rng.pick(&rows), args };
     }
-    let row = rng.below(ENTRIES.len());
-    if ENTRIES[row].takes.contains(&Param::Buf) && rng.one_in(4) {
+    Call { row: rng.below(ENTRIES.len()), args }
+}
+
+/// Fit arguments: a new place of the cursor is one of the text to put in, a size leads back to a boundary; one of
+/// either in eight is any number near it.
+pub fn edit_args(rng: &mut Rng, text: &[u8], cursor: usize) -> Args {
+    let mut args = drawn_args(rng, text);
+    if rng.one_in(4) {
         let len = rng.below(LONGEST);
         args.buf = drawn_text(rng, len);
     }
+    args.pos = drawn_place(rng, &args.buf);
+    args.size = match rng.one_in(8) {
+        true => rng.below(cursor + 3),
+        false => cursor - boundary(rng, &text[..cursor]),
+    };
+    let lines = 1 + text.iter().filter(|&&b| b == b'\n').count();
     args.n = args.n.min((REPEATED / args.buf.len().max(1)).min(u16::MAX.into()) as u16);
-    Call { row, args }
+    args.amount = args.amount.min((INDENTED / lines).min(u8::MAX.into()) as u8);
+    args
 }
 
 /// A call that with n = 1 is of one character or cluster, or with the right movement.
 fn is_by_character(entry: &Entry) -> bool {
-    matches!(entry.takes, [Param::N] | [Param::Ch, Param::N]) || entry.takes.contains(&Param::Mvt)
+    let moves = entry.takes.contains(&Param::Mvt) && !entry.takes.contains(&Param::Amount);
+    moves || matches!(entry.takes, [Param::N] | [Param::Ch, Param::N])
 }
 
 /// The call with one to three faults: in the text or the arguments, or in the log.
@@ -93,7 +108,7 @@ pub fn damaged(rng: &mut Rng, case: &Case, mut call: Call) -> Step {
         }
     }
     faults.sort_unstable();
-    faults.into_iter().for_each(|fault| spoil(rng, &mut draft, uses, FAULTS[fault]));
+    faults.into_iter().for_each(|fault| spoil(rng, &mut draft, &uses, FAULTS[fault]));
     call.args = draft.args;
     let line = Line { len: draft.len, cursor: draft.cursor };
     Step::Damaged(Faults { buffer: draft.buffer, line, log }, call)

@@ -4,13 +4,12 @@ use crate::checks::MAX_TEXT;
 use crate::edit_account;
 use crate::edit_calls::ENTRIES;
 use crate::edit_case::Case;
-use crate::edit_gen::{Habit, another_text, damaged, drawn_edit, drawn_step};
+use crate::edit_gen::{Habit, another_text, damaged, drawn_edit, drawn_step, edit_args};
 use crate::edit_lists::{Call, Difference, Faults, List, Step, play};
 use crate::edit_shrink::{Differing, smallest};
 use crate::ffi::{Line, Log};
-use crate::r#gen::{
-    FIRST, FOREIGN, Rng, boundaries, code_args, drawn_args, members, small_args, small_text, small_texts,
-};
+use crate::r#gen::{FIRST, FOREIGN, Rng, boundaries, code_args, members, small_args, small_text, small_texts};
+use crate::line_calls::{Args, Param, WHOLE_BUFFER};
 use crate::log_case::Damage;
 use crate::log_checks::{MAX_RECORDS, MAX_TEXTS};
 use crate::log_gen::{drawn_change, drawn_size, filling, small_records};
@@ -107,7 +106,7 @@ fn every_small_call(runner: &mut Runner, rng: &mut Rng, share: u64) -> Result<()
             let text = small_text(number, letters);
             for cursor in boundaries(text.as_bytes()) {
                 let all = runner.done < middle;
-                for call in small_calls(rng, &text, all) {
+                for call in small_calls(rng, &text, cursor, all) {
                     if runner.done >= limit {
                         return Ok(());
                     }
@@ -122,21 +121,21 @@ fn every_small_call(runner: &mut Runner, rng: &mut Rng, share: u64) -> Result<()
 }
 
 /// Each call on this text: with all small arguments, or once with drawn ones.
-fn small_calls(rng: &mut Rng, text: &str, all: bool) -> Vec<Call> {
+fn small_calls(rng: &mut Rng, text: &str, cursor: usize, all: bool) -> Vec<Call> {
     let mut calls = Vec::new();
     for (row, entry) in ENTRIES.iter().enumerate() {
-        let args = if all { small_args(entry.takes, text) } else { vec![drawn_args(rng, text.as_bytes())] };
+        let args = if all { small_args(entry.takes, text) } else { vec![edit_args(rng, text.as_bytes(), cursor)] };
         calls.extend(args.into_iter().map(|args| Call { row, args }));
     }
     calls
 }
 
-/// The call after these steps with ample room, then with just the room that it needs, then with a byte less of either
-/// buffer of the log. Where the call records nothing, with ample room alone.
+/// The call after these steps with ample room, then with just the room that it needs, then with a byte less of each
+/// buffer. Where the call records nothing, with ample room alone.
 fn every_room(runner: &mut Runner, before: &[Step], call: Call) -> Result<(), String> {
     let mut played = runner.list([AMPLE; 3], before)?;
     let lent = both(&played.case.log.loan().log);
-    let size = played.case.line().len;
+    let len = played.case.line().len;
     let edit = Step::Edit(call);
     runner.step(&mut played, edit.clone())?;
     let left = both(&played.case.log.loan().log);
@@ -144,17 +143,23 @@ fn every_room(runner: &mut Runner, before: &[Step], call: Call) -> Result<(), St
     if [records, texts] == lent {
         return Ok(());
     }
-    let size = size.max(played.case.line().len);
-    let mut again = |records, texts| {
+    let mut size = len.max(played.case.line().len);
+    let mut again = |size, records, texts| {
         let mut played = runner.list([size, records, texts], before)?;
         runner.step(&mut played, edit.clone())
     };
-    again(records, texts)?;
+    if size > len {
+        again(size - 1, records, texts)?;
+    }
+    // A text in between may be longer than the last.
+    while again(size, records, texts)? == Some(9) {
+        size += 1;
+    }
     if records > lent[0] {
-        again(records - 1, texts)?;
+        again(size, records - 1, texts)?;
     }
     if texts > lent[1] {
-        again(records, texts - 1)?;
+        again(size, records, texts - 1)?;
     }
     Ok(())
 }
@@ -171,33 +176,47 @@ fn characters(runner: &mut Runner, share: u64) -> Result<(), String> {
     foreign_anywhere(runner, middle + share / 2)
 }
 
-/// Each character of the repertoire before and behind the cursor: whether it is alphanumeric shows in what joins the
-/// record before it, its class in where words end.
+/// Each character of the repertoire before and behind the cursor, at the front of a line, and to put in: whether it is
+/// alphanumeric shows in what joins the record before it, its class in where words end, its case in words. Movements
+/// are left to the calls that are their parts.
 fn every_member(runner: &mut Runner, limit: u64) -> Result<(), String> {
     for c in members() {
-        let text = format!("-{c}{c}-");
-        let cursor = 1 + c.len_utf8();
-        for place in [1, cursor] {
-            let before = [lay(Change::Delete(place, "a".into())), Step::Text(text.clone(), cursor)];
-            for (row, entry) in ENTRIES.iter().enumerate() {
-                for args in code_args(entry.takes) {
-                    if runner.done >= limit {
-                        return Ok(());
-                    }
-                    let edit = Step::Edit(Call { row, args });
-                    runner.list([AMPLE; 3], &[&before[..], &[edit]].concat())?;
+        let text = Step::Text(format!("-{c}{c}{c}-\n{c}"), 1 + c.len_utf8());
+        for record in records_beside(c) {
+            for call in ENTRIES.iter().enumerate().flat_map(|(row, entry)| member_calls(row, entry.takes, c)) {
+                if runner.done >= limit {
+                    return Ok(());
                 }
+                runner.list([AMPLE; 3], &[lay(record.clone()), text.clone(), Step::Edit(call)])?;
             }
         }
     }
     Ok(())
 }
 
+/// Records that a character may join: cut before the cursor or behind it, or put in there.
+fn records_beside(c: char) -> [Change<String>; 3] {
+    let (place, a) = (c.len_utf8(), String::from("a"));
+    [Change::Delete(1, a.clone()), Change::Delete(1 + place, a.clone()), Change::Insert(place, a)]
+}
+
+/// The call with every combination of codes, and the character to put in or to search for; of the calls with a movement
+/// those that dedent a line.
+fn member_calls(row: usize, takes: &'static [Param], c: char) -> Vec<Call> {
+    let args = match (takes.contains(&Param::Mvt), takes.contains(&Param::Dedent)) {
+        (false, _) => code_args(takes),
+        (true, true) => vec![Args { mvt: WHOLE_BUFFER, dedent: 1, ..FIRST }],
+        (true, false) => Vec::new(),
+    };
+    let with = |args| Args { ch: c.into(), buf: c.to_string().into(), ..args };
+    args.into_iter().map(|args| Call { row, args: with(args) }).collect()
+}
+
 /// A length that holds a whole block of any scan that takes many bytes at once.
 const BLOCK: usize = 130;
 
-/// Foreign bytes at every place of the text, of the undo list's texts and of the redo list's, in turn with each call.
-/// As far as `limit` reaches.
+/// Foreign bytes at every place of the text, of the undo list's texts, of the redo list's and of a text to put in, in
+/// turn with each call. As far as `limit` reaches.
 fn foreign_anywhere(runner: &mut Runner, limit: u64) -> Result<(), String> {
     for place in 0..BLOCK {
         for (number, foreign) in FOREIGN.iter().enumerate() {
@@ -205,45 +224,73 @@ fn foreign_anywhere(runner: &mut Runner, limit: u64) -> Result<(), String> {
                 return Ok(());
             }
             let turn = place + number;
-            let steps = foreign_at(place, foreign, turn % 3, turn / 3 % ENTRIES.len());
+            let steps = foreign_at(place, foreign, turn % 4, turn / 4);
             runner.list([BLOCK; 3], &steps)?;
         }
     }
     Ok(())
 }
 
-/// A call on a text (`whose` is 2) or on a log (0: behind the seam, 1: in front of it) that has these bytes at a place.
-fn foreign_at(place: usize, foreign: &[u8], whose: usize, row: usize) -> Vec<Step> {
+/// A call on a text (`whose` is 2) or on a log (0: behind the seam, 1: in front of it) that has these bytes at a place,
+/// or with such a text to put in (3). The `turn` chooses the call.
+fn foreign_at(place: usize, foreign: &[u8], whose: usize, turn: usize) -> Vec<Step> {
     let bytes = (place..BLOCK).zip(foreign.iter().copied());
     let mut faults = Faults { buffer: vec![b'a'; BLOCK], line: Line { len: BLOCK, cursor: BLOCK }, log: Vec::new() };
+    let mut args = FIRST;
     match whose {
         2 => bytes.for_each(|(place, byte)| faults.buffer[place] = byte),
+        3 => {
+            args.buf = vec![b'a'; BLOCK];
+            bytes.for_each(|(place, byte)| args.buf[place] = byte);
+        }
         _ => faults.log = bytes.map(|(place, byte)| Damage::TextsByte(place, byte)).collect(),
     }
-    let damaged = Step::Damaged(faults, Call { row, args: FIRST });
+    let rows: Vec<usize> =
+        (0..ENTRIES.len()).filter(|&row| whose < 3 || ENTRIES[row].takes.contains(&Param::Buf)).collect();
+    let damaged = Step::Damaged(faults, Call { row: rows[turn % rows.len()], args });
     vec![lay(Change::Delete(0, "a".repeat(BLOCK))), seam(whose % 2), damaged]
 }
 
-/// Every call on a text of the largest size, in buffers of the largest sizes with just the room that it needs in one of
-/// them, and with a byte less. No more than `n` comparisons.
+/// Where the second line of a large text starts.
+const HALF: usize = MAX_TEXT / 2;
+
+/// Two lines of so many bytes together, the cursor in the second, with words in front of it and behind it.
+fn large_text(len: usize) -> Step {
+    let first = format!("{} aaa\n", "a".repeat(HALF - 5));
+    let second = format!("{} bc def", "-".repeat(len - HALF - 7));
+    Step::Text(first + &second, HALF + 9)
+}
+
+/// Every call on the largest text, or where it makes that longer, on one a byte shorter: in buffers of the largest
+/// sizes, with just the room that it needs in one of them, and with a byte less. No more than `n` comparisons.
 fn to_the_last_byte(runner: &mut Runner, n: u64) -> Result<(), String> {
-    let half = MAX_TEXT / 2;
-    let text = Step::Text(format!("{}\n{}", "a".repeat(half), "-".repeat(half - 1)), half + 9);
     let sizes = [MAX_TEXT, MAX_RECORDS, MAX_TEXTS];
     for row in 0..ENTRIES.len() {
-        if runner.done + 5 > n {
-            return Ok(());
-        }
-        let edit = Step::Edit(Call { row, args: FIRST });
-        let log = runner.list(sizes, &[text.clone(), edit.clone()])?.case.log.loan().log;
-        for less in [0, 1] {
-            let mut steps = vec![lay(Change::End); MAX_RECORDS - log.undo.records + less];
-            steps.extend([text.clone(), edit.clone()]);
-            runner.list(sizes, &steps)?;
-            if log.undo.texts >= less {
-                let full = lay(Change::Insert(9, "a".repeat(MAX_TEXTS - log.undo.texts + less)));
-                runner.list(sizes, &[full, text.clone(), edit.clone()])?;
+        let edit = Step::Edit(Call { row, args: Args { buf: b"-".into(), ..FIRST } });
+        for text in [large_text(MAX_TEXT), large_text(MAX_TEXT - 1)] {
+            if runner.done + 5 > n {
+                return Ok(());
             }
+            let mut played = runner.list(sizes, &[text.clone()])?;
+            if runner.step(&mut played, edit.clone())? != Some(9) {
+                nearly_full(runner, &played.case.log.loan().log, &[text, edit.clone()])?;
+                break;
+            }
+        }
+    }
+    Ok(())
+}
+
+/// The steps, which record so much on an empty log, on logs of the largest sizes with just the room for it in one of
+/// the buffers, and with a byte less.
+fn nearly_full(runner: &mut Runner, log: &Log, steps: &[Step]) -> Result<(), String> {
+    let sizes = [MAX_TEXT, MAX_RECORDS, MAX_TEXTS];
+    for less in [0, 1] {
+        let ends = vec![lay(Change::End); MAX_RECORDS - log.undo.records + less];
+        runner.list(sizes, &[&ends, steps].concat())?;
+        if log.undo.texts >= less {
+            let full = lay(Change::Insert(9, "a".repeat(MAX_TEXTS - log.undo.texts + less)));
+            runner.list(sizes, &[&[full], steps].concat())?;
         }
     }
     Ok(())

@@ -14,7 +14,10 @@ pub struct Differing {
 const PATIENCE: Duration = Duration::from_secs(5);
 
 /// The arguments that are lowered.
-const LOWERED: [Param; 6] = [Param::N, Param::Pos, Param::Prompt, Param::Size, Param::Start, Param::End];
+#[rustfmt::skip]
+const LOWERED: [Param; 8] = [
+    Param::N, Param::Pos, Param::Prompt, Param::Size, Param::Start, Param::End, Param::Amount, Param::Dedent,
+];
 
 /// Leaves out steps and damages, shortens texts and lowers numbers as long as some step still differs, until nothing
 /// can go. A panic of the Rust is left as it was found.

@@ -143,4 +143,12 @@ edits! {
     tlf_line_delete(n: u16);
     tlf_line_delete_range(start: usize, end: usize);
     tlf_line_replace(start: usize, end: usize, buf: *const u8, buf_len: usize);
+    tlf_line_update(buf: *const u8, buf_len: usize, pos: usize);
+    tlf_line_insert(ch: u32, n: u16);
+    tlf_line_yank(buf: *const u8, buf_len: usize, n: u16);
+    tlf_line_yank_pop(yank_size: usize, buf: *const u8, buf_len: usize);
+    tlf_line_transpose_chars();
+    tlf_line_edit_word(action: u32);
+    tlf_line_transpose_words(n: u16);
+    tlf_line_indent(mvt: u32, n: u16, at: u32, word: u32, search: u32, ch: u32, amount: u8, dedent: u8);
 }

@@ -1,6 +1,6 @@
 //! Inputs: small texts one after the other, drawn texts and arguments, and what spoils them.
 use crate::checks::{self, MAX_PROMPT, MAX_TEXT, first_character, in_repertoire, last_code};
-use crate::line_calls::{Args, Param, SMALL_BUFS, uses};
+use crate::line_calls::{Args, Param, SMALL_BUF, SMALL_BUFS, uses};
 
 /// splitmix64.
 pub struct Rng(u64);
@@ -61,7 +61,14 @@ pub fn boundaries(text: &[u8]) -> impl Iterator<Item = usize> {
 /// All small arguments of a call with these parameters on this text, each combination once.
 pub fn small_args(takes: &'static [Param], text: &str) -> Vec<Args> {
     let mut all = Vec::new();
-    fill(takes, &|param| small_values(param, text), Args::default(), 0, &mut all);
+    let values = |param| match param {
+        // An amount and a direction come with every movement: fewer counts.
+        Param::N if takes.contains(&Param::Amount) => vec![0, 1, 65535],
+        // A place in the text to put in.
+        Param::Pos if takes.contains(&Param::Buf) => (0..=SMALL_BUF + 1).collect(),
+        _ => small_values(param, text),
+    };
+    fill(takes, &values, Args::default(), 0, &mut all);
     all
 }
 
@@ -73,7 +80,7 @@ pub fn code_args(takes: &'static [Param]) -> Vec<Args> {
     all
 }
 
-/// n is 1, the character a hyphen, every other number 0, a text empty.
+/// n and the amount are 1, the character a hyphen, every other number 0, a text empty.
 pub const FIRST: Args = Args {
     n: 1,
     pos: 0,
@@ -88,6 +95,8 @@ pub const FIRST: Args = Args {
     start: 0,
     end: 0,
     buf: Vec::new(),
+    amount: 1,
+    dedent: 0,
 };
 
 /// The combinations of values for the parameters from the `filled`-th on.
@@ -106,6 +115,8 @@ fn small_values(param: Param, text: &str) -> Vec<usize> {
     match param {
         Param::N => vec![0, 1, 2, 3, 4, 65535],
         Param::Pos | Param::Size | Param::Start | Param::End => (0..=text.len() + 1).collect(),
+        Param::Amount => vec![0, 1, 33],
+        Param::Dedent => vec![0, 1],
         Param::Buf => (0..SMALL_BUFS.len()).collect(),
         Param::Prompt => vec![0, 1, 2, MAX_PROMPT, MAX_PROMPT + 1],
         Param::Ch => {
@@ -140,7 +151,7 @@ pub fn member(rng: &mut Rng) -> char {
 
 /// A text of exactly `len` bytes in one of several styles.
 pub fn drawn_text(rng: &mut Rng, len: usize) -> Vec<u8> {
-    let style = rng.below(7);
+    let style = rng.below(8);
     let mut text = String::with_capacity(len);
     while text.len() < len {
         let c = drawn_character(rng, style);
@@ -170,6 +181,10 @@ fn drawn_character(rng: &mut Rng, style: usize) -> char {
         // ASCII, with a stranger here and there.
         5 if rng.one_in(50) => member(rng),
         5 => char::from(b' ' + rng.below(95) as u8),
+        // Lines with white space in front.
+        6 if rng.one_in(4) => '\n',
+        6 if !rng.one_in(3) => rng.pick(&[' ', ' ', ' ', '\t', '\r', '\u{A0}']),
+        6 => rng.pick(&['a', '-', '\u{DF}']),
         // A single line.
         _ => rng.pick(&['a', 'b', ' ', '-', '\u{DF}', '\u{301}']),
     }
@@ -201,6 +216,7 @@ pub fn drawn_args(rng: &mut Rng, text: &[u8]) -> Args {
     let narrow = rng.below(30);
     let wide = rng.below(MAX_PROMPT + 1);
     let (start, end) = (drawn_place(rng, text), drawn_place(rng, text));
+    let (little, amount) = (rng.below(9) as u8, rng.next() as u8);
     Args {
         n: rng.pick(&[0, 1, 1, 1, 2, 2, 3, 4, few, many, 65535]),
         pos: drawn_place(rng, text),
@@ -215,10 +231,12 @@ pub fn drawn_args(rng: &mut Rng, text: &[u8]) -> Args {
         start: start.min(end),
         end: start.max(end),
         buf: rng.pick(&SMALL_BUFS).into(),
+        amount: rng.pick(&[0, 1, 1, 2, little, 31, 32, 33, amount, 255]),
+        dedent: rng.pick(&[0, 0, 0, 1, 1, 255]),
     }
 }
 
-fn drawn_place(rng: &mut Rng, text: &[u8]) -> usize {
+pub fn drawn_place(rng: &mut Rng, text: &[u8]) -> usize {
     if rng.one_in(8) { rng.below(text.len() + 3) } else { boundary(rng, text) }
 }
 
@@ -272,9 +290,9 @@ pub enum Fault {
     Inside,
     /// A cursor beyond the text.
     Beyond,
-    /// A new place beyond the text or somewhere within it.
-    Pos,
-    /// A number that names no movement, word rule, stop or search.
+    /// A place or a size among the arguments beyond the text or somewhere within it.
+    Place,
+    /// A number that names no movement, word rule, stop, search or case action.
     Code,
     /// A number that is no character of the repertoire.
     Character,
@@ -288,9 +306,12 @@ pub enum Fault {
 
 #[rustfmt::skip]
 pub const FAULTS: [Fault; 10] = [
-    Fault::Text, Fault::Cut, Fault::Inside, Fault::Beyond, Fault::Pos, Fault::Code, Fault::Character, Fault::Prompt,
+    Fault::Text, Fault::Cut, Fault::Inside, Fault::Beyond, Fault::Place, Fault::Code, Fault::Character, Fault::Prompt,
     Fault::Size, Fault::Used,
 ];
+
+/// The parameters that are places or sizes.
+const PLACES: [Param; 4] = [Param::Pos, Param::Size, Param::Start, Param::End];
 
 /// An input on its way to being unfit.
 pub struct Draft {
@@ -337,10 +358,13 @@ pub fn spoil(rng: &mut Rng, draft: &mut Draft, uses: &[Param], fault: Fault) {
             draft.cursor = place + 1;
         }
         Fault::Beyond => draft.cursor = over(rng, draft.len),
-        Fault::Pos => {
-            let within = rng.below(draft.len + 1);
-            let beyond = over(rng, draft.len);
-            draft.args.pos = rng.pick(&[within, beyond]);
+        Fault::Place => {
+            let places: Vec<Param> = uses.iter().copied().filter(|param| PLACES.contains(param)).collect();
+            if !places.is_empty() {
+                let within = rng.below(draft.len + 1);
+                let beyond = over(rng, draft.len);
+                draft.args = draft.args.clone().with(rng.pick(&places), rng.pick(&[within, beyond]));
+            }
         }
         Fault::Code => {
             let codes: Vec<Param> = uses.iter().copied().filter(|&param| last_code(param).is_some()).collect();

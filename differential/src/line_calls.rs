@@ -23,6 +23,8 @@ pub enum Param {
     Start,
     End,
     Buf,
+    Amount,
+    Dedent,
 }
 use Param::*;
 
@@ -42,11 +44,15 @@ pub struct Args {
     pub start: usize,
     pub end: usize,
     pub buf: Vec<u8>,
+    pub amount: u8,
+    pub dedent: u8,
 }
 
 /// Texts to put in that recording tells apart: none, one alphanumeric character of one or two bytes, another character,
 /// two clusters, a cluster of two characters.
 pub const SMALL_BUFS: [&str; 6] = ["", "a", "\u{DF}", "-", "ab", "e\u{301}"];
+/// The length of the longest.
+pub const SMALL_BUF: usize = 3;
 
 impl Args {
     /// The value; of a text its length.
@@ -65,6 +71,8 @@ impl Args {
             Start => self.start,
             End => self.end,
             Buf => self.buf.len(),
+            Amount => self.amount.into(),
+            Dedent => self.dedent.into(),
         }
     }
 
@@ -84,6 +92,8 @@ impl Args {
             Start => self.start = value,
             End => self.end = value,
             Buf => self.buf = SMALL_BUFS[value].into(),
+            Amount => self.amount = value as u8,
+            Dedent => self.dedent = value as u8,
         }
         self
     }
@@ -93,21 +103,26 @@ pub const VI_CHAR_SEARCH: u32 = 5;
 pub const VI_FIRST_PRINT: u32 = 6;
 pub const BACKWARD_CHAR: u32 = 7;
 pub const FORWARD_CHAR: u32 = 8;
+pub const WHOLE_BUFFER: u32 = 11;
 
-/// What a movement uses besides its code.
+/// The parameters of a movement besides its code, and which of them it uses.
+const MOVEMENT: [Param; 5] = [N, At, Word, Search, Ch];
+
 fn movement_uses(mvt: u32) -> &'static [Param] {
     match mvt {
-        3 => &[Mvt, N, Word],
-        4 => &[Mvt, N, At, Word],
-        VI_CHAR_SEARCH => &[Mvt, N, Search, Ch],
-        7..=10 => &[Mvt, N],
-        _ => &[Mvt],
+        3 => &[N, Word],
+        4 => &[N, At, Word],
+        VI_CHAR_SEARCH => &[N, Search, Ch],
+        7..=10 => &[N],
+        _ => &[],
     }
 }
 
 /// The parameters that a call with these uses when it is given these arguments.
-pub fn uses(takes: &'static [Param], args: &Args) -> &'static [Param] {
-    if takes.contains(&Mvt) { movement_uses(args.mvt) } else { takes }
+pub fn uses(takes: &[Param], args: &Args) -> Vec<Param> {
+    let moves = takes.contains(&Mvt);
+    let used = |param: &Param| !moves || !MOVEMENT.contains(param) || movement_uses(args.mvt).contains(param);
+    takes.iter().copied().filter(used).collect()
 }
 
 pub struct Entry {
@@ -120,7 +135,7 @@ pub struct Entry {
 
 impl Entry {
     /// The parameters that the call uses with these arguments.
-    pub fn uses(&self, args: &Args) -> &'static [Param] {
+    pub fn uses(&self, args: &Args) -> Vec<Param> {
         uses(self.takes, args)
     }
 }
@@ -260,7 +275,7 @@ pub struct Case {
 impl Case {
     pub fn new(buffer: &[u8], len: usize) -> Case {
         let text = buffer.get(..len).filter(|text| checks::is_text(text));
-        let rust = text.map(|text| oracle::line_buffer(std::str::from_utf8(text).expect("check 4"), 0));
+        let rust = text.map(|text| oracle::line_of(text, 0));
         Case { lent: Lent::new(buffer), len, rust }
     }
 }
@@ -276,7 +291,7 @@ pub struct Difference {
 fn expected(entry: &Entry, case: &mut Case, line: Line, args: &Args) -> Option<LineAnswer> {
     let Case { lent, len, rust } = case;
     let text = rust.as_ref().map(|_| &lent.bytes()[..*len]);
-    let input = checks::LineInput { size: lent.size(), line, text, uses: entry.uses(args), args };
+    let input = checks::LineInput { size: lent.size(), line, text, uses: &entry.uses(args), args };
     if let Some(number) = checks::line_call(&input, || oracle::first_print(rust.as_mut()?)) {
         return Some(LineAnswer { number, from: 0, to: 0, line });
     }

@@ -208,7 +208,7 @@ fn faults(runner: &mut Runner, rng: &mut Rng) -> Result<(), String> {
     let mut faults: Vec<usize> = (0..count).map(|_| rng.below(FAULTS.len())).collect();
     faults.sort_unstable();
     for fault in faults {
-        spoil(rng, &mut draft, uses, FAULTS[fault]);
+        spoil(rng, &mut draft, &uses, FAULTS[fault]);
     }
     let mut case = Case::new(&draft.buffer, draft.len);
     runner.step(row, &mut case, draft.cursor, &draft.args)

@@ -2,8 +2,9 @@
 use crate::ffi::{Log, Used};
 use crate::keymap::{At, CharSearch, Movement, Word};
 use crate::layout::{GraphemeClusterMode, Layout};
-use crate::line_buffer::{DeleteListener, Direction, LineBuffer, NoListener};
+use crate::line_buffer::{DeleteListener, Direction, LineBuffer, NoListener, WordAction};
 use crate::line_calls::Args;
+use crate::listeners::Witness;
 use crate::log_model::Bytes;
 use crate::undo::{Changeset, lists};
 
@@ -14,6 +15,11 @@ pub fn line_buffer(text: &str, cursor: usize) -> LineBuffer {
     let mut line = LineBuffer::with_capacity(crate::checks::MAX_TEXT).can_growth(true);
     line.update(text, cursor, &mut NoListener);
     line
+}
+
+/// The same of bytes that check 4 has passed.
+pub fn line_of(text: &[u8], cursor: usize) -> LineBuffer {
+    line_buffer(std::str::from_utf8(text).expect("check 4"), cursor)
 }
 
 /// The outcome of a call that answers no place.
@@ -29,8 +35,16 @@ pub fn at(code: u32) -> At {
     [At::Start, At::BeforeEnd, At::AfterEnd][code as usize]
 }
 
+pub fn action(code: u32) -> WordAction {
+    [WordAction::Capitalize, WordAction::Lowercase, WordAction::Uppercase][code as usize]
+}
+
+pub fn character(ch: u32) -> char {
+    char::from_u32(ch).expect("a character of the repertoire")
+}
+
 pub fn search(code: u32, ch: u32) -> CharSearch {
-    let ch = char::from_u32(ch).expect("a character of the repertoire");
+    let ch = character(ch);
     match code {
         0 => CharSearch::Forward(ch),
         1 => CharSearch::ForwardBefore(ch),
@@ -103,6 +117,14 @@ impl DeleteListener for Cut {
     fn delete(&mut self, from: usize, text: &str, _: Direction) {
         self.0 = Some((from, from + text.len()));
     }
+}
+
+/// Where the lines start that the Rust's indent touches with this movement: told by the spaces that it puts in front of
+/// them, each a byte further on than the line before it was.
+pub fn touched(text: &[u8], cursor: usize, a: &Args) -> Vec<usize> {
+    let mut witness = Witness::default();
+    line_of(text, cursor).indent(&movement(a), 1, false, &mut witness);
+    witness.0.iter().enumerate().map(|(before, heard)| heard.call.args.idx - before).collect()
 }
 
 /// A line move: `go` is the Rust's, its layout in Unicode mode with this prompt column.

@@ -3,3 +3,12 @@ pub mod Splice
 pub mod Made
 pub mod Once
 pub mod Answers
+pub mod Pieces
+pub mod Steps
+pub mod Held
+pub mod Left
+pub mod Rooms
+pub mod Pair
+pub mod Tests
+pub mod Cursor
+pub mod Suits

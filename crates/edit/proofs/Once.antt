@@ -1,5 +1,5 @@
 -- A plan of one piece is one change. Assumes nothing.
-use Prim.Native.Nat.{ℕ, _+_, _-_}
+use Prim.Native.Nat.{ℕ, _+_, _-_, _<_}
 use native.Mathlib.Omega.{arith}
 use mathlib.Core.Path.{_≡_, refl, sym, ap, ap₂, _∙_}
 use mathlib.Core.Bool.{Bool, true, false, cond, or-false}
@@ -8,16 +8,19 @@ use lib.Dec.{ltb}
 use lib.ListN.{length, drop, length-drop}
 use lib.Seq.{length-take-le}
 use Rattle.utf8.specs.Chars.{boundary}
+use Rattle.utf8.specs.Encode.{encode}
+use Rattle.utf8.proofs.Chars.{size-pos}
 use Rattle.utf8.proofs.Boundary.{boundary-drop}
+use Rattle.utf8.proofs.Encode.{size-encode}
 use Rattle.unicode.specs.Repertoire.{Repertoire}
 use Rattle.unicode.specs.Text.{isText}
 use Rattle.unicode.proofs.Text.{text-cut}
 use Rattle.cluster.specs.Clusters.{clustersOf}
 use Rattle.journal.specs.Change.{Edit, insert, delete, replace, Change}
 use Rattle.journal.specs.Layout.{Format}
-use Rattle.journal.specs.Recording.{isSingle, recordInsertStr, recordDelete, recordReplace}
+use Rattle.journal.specs.Recording.{isSingle, note, recordInsert, recordInsertStr, recordDelete, recordReplace}
 use Rattle.journal.specs.Undo.{Sizes, fits}
-use Rattle.edit.specs.Plan.{In, Outcome, Piece, State, answered, changeOut, changed, cutting, edited, listAfter, made, notedOr, once, part, pasted, recorded, refused, splice, swapping, textAfter, tooLong}
+use Rattle.edit.specs.Plan.{In, Outcome, Piece, State, answered, changeOut, changed, cutting, edited, listAfter, made, notedOr, once, part, pasted, recorded, refused, splice, swapping, textAfter, tooLong, typed}
 
 -- ---- a part between two characters
 module _ (R : Repertoire) (t : List ℕ) (a b : ℕ) (i : In t a b) where
@@ -42,15 +45,25 @@ one-piece R F z C y p s j x e f =
     behind : List ℕ → List Change → Outcome
     behind t u = cond (fits F z u) (answered 0 0 0 (record { text = t; cursor = p; log = record { undo = u; redo = []; level = s .log .level } })) (refused 10)
 
-noted-insert : (p : ℕ) (s : List ℕ) (u : List Change) → recordInsertStr p s u ≡ notedOr false (insert p s) u
+pub noted-insert : (p : ℕ) (s : List ℕ) (u : List Change) → recordInsertStr p s u ≡ notedOr false (insert p s) u
 unfolding recordInsertStr
 noted-insert p [] u = refl
 noted-insert p (b ∷ s) u = refl
 
-noted-delete : (R : Repertoire) (p : ℕ) (s : List ℕ) (u : List Change) → recordDelete R p s u ≡ notedOr (isSingle R (clustersOf R s)) (delete p s) u
+pub noted-delete : (R : Repertoire) (p : ℕ) (s : List ℕ) (u : List Change) → recordDelete R p s u ≡ notedOr (isSingle R (clustersOf R s)) (delete p s) u
 unfolding recordDelete
 noted-delete R p [] u = refl
 noted-delete R p (b ∷ s) u = refl
+
+noted-some : (j : Bool) (p : ℕ) (s : List ℕ) (u : List Change) → 0 < length s → note j (insert p s) u ≡ notedOr j (insert p s) u
+noted-some j p [] u h = absurd (omega arith)
+noted-some j p (b ∷ s) u h = refl
+
+-- a character has a byte at least
+noted-typed : (R : Repertoire) (p c : ℕ) (j : Bool) (s : List ℕ) (u : List Change) → j ≡ R .alnum c → s ≡ encode c → recordInsert R p c u ≡ notedOr j (insert p s) u
+unfolding recordInsert
+noted-typed R p c j s u e f =
+    ap₂ (λ (i : Bool) (t : List ℕ). note i (insert p t) u) (sym e) (sym f) ∙ noted-some j p s u (omega (arith, ap length f, size-encode c, size-pos c))
 
 module _ (R : Repertoire) (F : Format) (z : Sizes) (C p : ℕ) (s : State) where
   -- bytes cut out
@@ -74,3 +87,9 @@ module _ (R : Repertoire) (F : Format) (z : Sizes) (C p : ℕ) (s : State) where
   once-paste a n =
       let k : a ≡ a + 0 = omega arith in
       one-piece R F z C (pasted a n) p s false (insert a n) (ap (λ (m : ℕ). splice (s .text) a m n) k) (noted-insert a n (s .log .undo))
+
+  -- a character typed
+  pub once-typed : (a c : ℕ) (j : Bool) (n : List ℕ) → j ≡ R .alnum c → n ≡ encode c → changeOut F z C j (insert a n) p s ≡ edited R F z C (once (typed a c) p) s
+  once-typed a c j n e f =
+      let k : a ≡ a + 0 = omega arith in
+      one-piece R F z C (typed a c) p s j (insert a n) (ap₂ (λ (m : ℕ) (x : List ℕ). splice (s .text) a m x) k (sym f)) (noted-typed R a c j n (s .log .undo) e f)

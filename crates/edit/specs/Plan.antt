@@ -8,6 +8,7 @@ use lib.ListN.{length, take, drop}
 use Rattle.utf8.specs.Chars.{boundary}
 use Rattle.utf8.specs.Encode.{encode}
 use Rattle.unicode.specs.Repertoire.{Repertoire}
+use Rattle.unicode.specs.Text.{isText, isChar}
 use Rattle.journal.specs.Change.{Edit, insert, delete, replace, Change, place, old, new}
 use Rattle.journal.specs.Layout.{Format}
 use Rattle.journal.specs.Recording.{note, recordInsert, recordInsertStr, recordDelete, recordReplace}
@@ -47,6 +48,13 @@ recorded R (pasted p s) t u = recordInsertStr p s u
 recorded R (cutting a b) t u = recordDelete R a (part t a b) u
 recorded R (swapping a b s) t u = recordReplace a (part t a b) s u
 
+-- it suits the text that it is made in: its places stand between characters, and what it puts in is of the repertoire
+abbrev pub Suits : Repertoire → Piece → List ℕ → Type 0
+Suits R (typed p c) t = In t p p × (isChar R c ≡ true)
+Suits R (pasted p s) t = In t p p × (isText R s ≡ true)
+Suits R (cutting a b) t = In t a b
+Suits R (swapping a b s) t = In t a b × (isText R s ≡ true)
+
 -- what a call makes of a text and a cursor: its changes, the cursor afterwards, its number 0 or 1, and the places that it answers
 pub record Plan : Type 0 where
   pub pieces : List Piece
@@ -70,6 +78,11 @@ textAfter (x ∷ xs) t = textAfter xs (made x t)
 unfoldable pub listAfter : Repertoire → List Piece → List ℕ → List Change → List Change
 listAfter R [] t u = u
 listAfter R (x ∷ xs) t u = listAfter R xs (made x t) (recorded R x t u)
+
+-- each suits the text that those before it leave
+unfoldable pub AllSuit : Repertoire → List Piece → List ℕ → Type 0
+AllSuit R [] t = Unit {0}
+AllSuit R (x ∷ xs) t = Suits R x t × AllSuit R xs (made x t)
 
 -- each change drops the redo list
 abbrev pub redoAfter : List Piece → List Change → List Change

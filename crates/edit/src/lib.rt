@@ -1,17 +1,21 @@
 // What edits share: the checks of a lent text and log together, and one change made in the text and recorded in the log.
 ghost use mathlib.Core.Path.{_≡_};
-ghost use mathlib.Core.Bool.{true, false};
+ghost use mathlib.Core.Bool.{true, false, not};
+ghost use mathlib.Core.List.{[], _∷_};
 ghost use Prim.Native.Nat.{_≤_, _<_, _+_, _-_};
-ghost use lib.ListN.{length, take, drop};
+ghost use lib.ListN.{length, take};
+ghost use Rattle.utf8.specs.Chars.{valid, boundary};
 ghost use Rattle.unicode.specs.Repertoire.{catalogue};
 ghost use Rattle.unicode.specs.Text.{isText};
-ghost use Rattle.checks.specs.Checks.{Tests};
 ghost use Rattle.journal.specs.Change.{edit};
 ghost use Rattle.journal.specs.Layout.{top, okChange};
+ghost use Rattle.journal.specs.Undo.{fits};
 ghost use Rattle.records.specs.Formats.{asFormat, Fit};
-ghost use Rattle.changeset.specs.Calls.{editOf, Numbered};
-ghost use Rattle.edit.specs.Plan.{part, In, cutting, once, edited, changeOut};
-ghost use Rattle.edit.specs.Calls.{lent, sizesOf, textOf, stateOf, says as Calls·says, checked, own, Edited, Ready};
+ghost use Rattle.changeset.specs.Calls.{editOf, Numbered, lent as Log·lent, valueOf, Ready as Log·Ready};
+ghost use Rattle.recording.specs.Tails.{Narrow, tailOf};
+ghost use Rattle.edit.specs.Plan.{part, In, cutting, pasted, AllSuit, listAfter, once, edited, changeOut};
+ghost use Rattle.edit.specs.Room.{sizesBy, tailCut, tailPut, roomCut, roomPut};
+ghost use Rattle.edit.specs.Calls.{lent, sizesOf, stateOf, says as Calls·says, checked, own, Edited, Ready};
 use buffer::cut_bytes;
 use buffer::insert_bytes;
 use changeset::Log;
@@ -19,7 +23,10 @@ use changeset::is_damaged;
 use changeset::is_single;
 use changeset::over_sizes;
 use checks::Line;
+use recording::Tail;
+use recording::tail_of;
 use records::Format;
+use utf8::is_boundary;
 
 #[repr(C)]
 pub struct EditAnswer {
@@ -67,6 +74,12 @@ impl Own {
     }
 }
 
+// The dry run of a plan: the tail of the undo list after its changes so far, and whether the log has room for them.
+pub struct Room {
+    pub fits: bool,
+    pub tail: Tail,
+}
+
 // The number of the first of the checks 2 to 8 that a lent text, a lent log or the call's own tests meet, 0 where they pass.
 pub fn refusal(
     f: Format,
@@ -99,6 +112,16 @@ pub fn refusal(
         return 8;
     }
     0
+}
+
+// Does a place lie inside a character of the text's first len bytes?
+pub fn is_split(text: &[u8], len: usize, pos: usize) -> bool
+    ensures { λ r. ⌜ (len ≤ length (now (text .entry)) → valid (take len (now (text .entry))) ≡ true → r ≡ not (boundary (take len (now (text .entry))) pos)) ⌝ }
+{
+    if text.len() < len {
+        return false;
+    }
+    !is_boundary(&text[..len], pos)
 }
 
 // The bytes from a place up to another replaced by a text, and recorded: kind 3 Insert, 4 Delete, 5 Replace. The cursor goes to
@@ -187,4 +210,202 @@ pub fn cut_out(
         &none[..0],
         from,
     )
+}
+
+// A text put in at a place, and the cursor sent to another.
+pub fn put_in(
+    f: Format,
+    text: &mut [u8],
+    records: &mut [u8],
+    texts: &mut [u8],
+    line: Line,
+    log: Log,
+    at: usize,
+    new: &[u8],
+    cursor: usize,
+) -> EditAnswer
+    requires { ⌜ Fit f ⌝ }
+    requires { ⌜ Ready (asFormat f) (lent (now text) (now records) (now texts) line log) ⌝ }
+    requires { ⌜ In (take (line .len) (now text)) at at ⌝ }
+    requires { ⌜ isText catalogue (now new) ≡ true ⌝ }
+    ensures { λ r. ⌜ Edited (asFormat f) (lent (now (text .entry)) (now (records .entry)) (now (texts .entry)) line log)
+        (edited catalogue (asFormat f) (sizesOf (lent (now (text .entry)) (now (records .entry)) (now (texts .entry)) line log)) (length (now (text .entry))) (once (pasted at (now (new .entry))) cursor)
+        (stateOf catalogue (asFormat f) (lent (now (text .entry)) (now (records .entry)) (now (texts .entry)) line log)))
+        r (now (text .exit)) (now (records .exit)) (now (texts .exit)) ⌝ }
+{
+    change(
+        f,
+        text,
+        records,
+        texts,
+        line,
+        log,
+        false,
+        3,
+        at,
+        at,
+        new,
+        cursor,
+    )
+}
+
+// The dry run begins with the undo list as it is.
+pub fn room_now(f: Format, records: &[u8], texts: &[u8], log: Log) -> Room
+    requires { ⌜ Fit f ⌝ }
+    requires { ⌜ Log·Ready (asFormat f) (Log·lent (now records) (now texts) log) ⌝ }
+    ensures { λ r. ⌜ r ≡ record { fits = true; tail = tailOf (asFormat f) (valueOf catalogue (asFormat f) (Log·lent (now (records .entry)) (now (texts .entry)) log) .undo) } ⌝ }
+{
+    let u = log.undo;
+    let ur = u.records;
+    Room {
+        fits: true,
+        tail: tail_of(f, &records[..ur], u.texts),
+    }
+}
+
+// The tail after a cut.
+fn tail_cut(f: Format, t: Tail, joins: bool, from: usize, to: usize) -> Tail
+    requires { ⌜ Fit f ⌝ }
+    requires { ⌜ from ≤ to ⌝ }
+    requires { ⌜ Narrow t (to - from) 0 ⌝ }
+    ensures { λ r. ⌜ r ≡ tailCut (asFormat f) joins from to t ⌝ }
+{
+    if from == to {
+        return t;
+    }
+    let n = t.note(f, joins, 4, from, to - from, 0);
+    n.tail
+}
+
+// The tail after a text of so many bytes is put in.
+fn tail_put(f: Format, t: Tail, at: usize, size: usize) -> Tail
+    requires { ⌜ Fit f ⌝ }
+    requires { ⌜ Narrow t 0 size ⌝ }
+    ensures { λ r. ⌜ r ≡ tailPut (asFormat f) at size t ⌝ }
+{
+    if size == 0 {
+        return t;
+    }
+    let n = t.note(f, false, 3, at, 0, size);
+    n.tail
+}
+
+// The dry run of a cut.
+pub fn room_cut(
+    f: Format,
+    records: &[u8],
+    texts: &[u8],
+    r: Room,
+    joins: bool,
+    from: usize,
+    to: usize,
+) -> Room
+    requires { ⌜ Fit f ⌝ }
+    requires { ⌜ from ≤ to ⌝ }
+    requires { ⌜ (r .fits ≡ true → Narrow (r .tail) (to - from) 0) ⌝ }
+    ensures { λ q. ⌜ q ≡ roomCut (asFormat f) (sizesBy (now (records .entry)) (now (texts .entry))) joins from to r ⌝ }
+{
+    if !r.fits {
+        return r;
+    }
+    let t = r.tail;
+    let tail = tail_cut(f, t, joins, from, to);
+    Room {
+        fits: (tail.records <= records.len()) & (tail.texts <= texts.len()),
+        tail,
+    }
+}
+
+// The dry run of a text put in.
+pub fn room_put(f: Format, records: &[u8], texts: &[u8], r: Room, at: usize, size: usize) -> Room
+    requires { ⌜ Fit f ⌝ }
+    requires { ⌜ (r .fits ≡ true → Narrow (r .tail) 0 size) ⌝ }
+    ensures { λ q. ⌜ q ≡ roomPut (asFormat f) (sizesBy (now (records .entry)) (now (texts .entry))) at size r ⌝ }
+{
+    if !r.fits {
+        return r;
+    }
+    let t = r.tail;
+    let tail = tail_put(f, t, at, size);
+    Room {
+        fits: (tail.records <= records.len()) & (tail.texts <= texts.len()),
+        tail,
+    }
+}
+
+// Has the log room for a cut and then a text put in?
+fn pair_fits(
+    f: Format,
+    text: &[u8],
+    records: &[u8],
+    texts: &[u8],
+    line: Line,
+    log: Log,
+    from: usize,
+    to: usize,
+    at: usize,
+    new: &[u8],
+) -> bool
+    requires { ⌜ Fit f ⌝ }
+    requires { ⌜ Ready (asFormat f) (lent (now text) (now records) (now texts) line log) ⌝ }
+    requires { ⌜ AllSuit catalogue (cutting from to ∷ pasted at (now new) ∷ []) (take (line .len) (now text)) ⌝ }
+    requires { ⌜ length (now new) ≤ 4096 ⌝ }
+    ensures { λ r. ⌜ r ≡ fits (asFormat f) (sizesOf (lent (now (text .entry)) (now (records .entry)) (now (texts .entry)) line log))
+        (listAfter catalogue (cutting from to ∷ pasted at (now (new .entry)) ∷ []) (take (line .len) (now (text .entry))) (stateOf catalogue (asFormat f) (lent (now (text .entry)) (now (records .entry)) (now (texts .entry)) line log) .log .undo)) ⌝ }
+{
+    let joins = is_single(&text[from..to]);
+    let a = room_now(f, records, texts, log);
+    let b = room_cut(f, records, texts, a, joins, from, to);
+    let c = room_put(f, records, texts, b, at, new.len());
+    c.fits
+}
+
+// The bytes from a place up to another cut out, then a text put in at a place of what is left. 9 and 10 are decided over both
+// before a byte changes.
+pub fn cut_and_put(
+    f: Format,
+    text: &mut [u8],
+    records: &mut [u8],
+    texts: &mut [u8],
+    line: Line,
+    log: Log,
+    from: usize,
+    to: usize,
+    at: usize,
+    new: &[u8],
+    cursor: usize,
+    number: u32,
+) -> EditAnswer
+    requires { ⌜ Fit f ⌝ }
+    requires { ⌜ Ready (asFormat f) (lent (now text) (now records) (now texts) line log) ⌝ }
+    requires { ⌜ AllSuit catalogue (cutting from to ∷ pasted at (now new) ∷ []) (take (line .len) (now text)) ⌝ }
+    ensures { λ r. ⌜ Edited (asFormat f) (lent (now (text .entry)) (now (records .entry)) (now (texts .entry)) line log)
+        (edited catalogue (asFormat f) (sizesOf (lent (now (text .entry)) (now (records .entry)) (now (texts .entry)) line log)) (length (now (text .entry))) (record { pieces = cutting from to ∷ pasted at (now (new .entry)) ∷ []; cursor = cursor; number = number; from = 0; to = 0 })
+        (stateOf catalogue (asFormat f) (lent (now (text .entry)) (now (records .entry)) (now (texts .entry)) line log)))
+        r (now (text .exit)) (now (records .exit)) (now (texts .exit)) ⌝ }
+{
+    let left = line.len - (to - from);
+    if text.len() - left < new.len() {
+        return says(9, line, log);
+    }
+    if !pair_fits(f, text, records, texts, line, log, from, to, at, new) {
+        return says(10, line, log);
+    }
+    let a = cut_out(f, text, records, texts, line, log, from, to);
+    let cut = a.line;
+    let cut_log = a.log;
+    let b = put_in(f, text, records, texts, cut, cut_log, at, new, at);
+    let last = b.line;
+    let log = b.log;
+    let line = Line {
+        len: last.len,
+        cursor,
+    };
+    EditAnswer {
+        number,
+        from: 0,
+        to: 0,
+        line,
+        log,
+    }
 }

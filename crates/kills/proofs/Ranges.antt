@@ -21,19 +21,8 @@ use Rattle.lines.specs.declared.Range.the-variants.{Places, Nowhere}
 use Rattle.lines.proofs.Places.{start-of-line-place, end-of-line-place}
 use Rattle.copies.specs.Copy.{upTo, backTo, between, startsAfter}
 use Rattle.copies.proofs.Places.{copied-place}
-use Rattle.checks.specs.Checks.{both, lineTests, ownTests}
-use Rattle.checks.proofs.Fit.{refusal-passed}
-use Rattle.lists.proofs.Bools.{never, or-none}
-use Rattle.keymap.specs.declared.MovementCode.the-variants as code
-use Rattle.unicode.specs.Repertoire.{catalogue}
-use Rattle.journal.specs.Layout.{narrow}
-use Rattle.records.specs.Formats.{Fit}
-use Rattle.changeset.specs.Logs.{logTests}
-use Rattle.edit.specs.declared.EditAnswer.{EditAnswer}
 use Rattle.edit.specs.Plan.{In}
-use Rattle.edit.specs.Calls.{Lent, says, checked, Edited}
-use Rattle.edit.proofs.Answers.{refused-by}
-use Rattle.kills.specs.Kills.{orElse, killLine, discardLine, killRange, killBy}
+use Rattle.kills.specs.Kills.{orElse, killLine, discardLine, killRange}
 
 -- ---- the code's tests
 module _ (R : Repertoire) (s : List ℕ) (pos : ℕ) where
@@ -116,11 +105,3 @@ module _ (R : Repertoire) (s : List ℕ) (v : valid s ≡ true) (a b : ℕ) wher
     kill-in m.WholeBuffer e = copied-place R s pos m.WholeBuffer a b v k h refl e
     kill-in m.BeginningOfBuffer e = copied-place R s pos m.BeginningOfBuffer a b v k h refl e
     kill-in m.EndOfBuffer e = copied-place R s pos m.EndOfBuffer a b v k h refl e
-
--- ---- a movement that no number names
-pub unnamed : (l : Lent) (k : ℕ) (r : EditAnswer) → k ≡ checked catalogue narrow l (ownTests true false false) → r ≡ says k (l .line) (l .log)
-    → Edited narrow l (killBy catalogue narrow l code.Unknown) r (l .text) (l .records) (l .texts)
-unnamed l k r e q = refused-by narrow l k (checked catalogue narrow l (ownTests true false false)) _ r (sym e) (λ z. code-named (sym e ∙ z)) q
-  where
-    code-named : checked catalogue narrow l (ownTests true false false) ≡ 0 → ⊥
-    code-named z = never ⊥ true refl (or-none false true (refusal-passed (both (lineTests catalogue (l .text) (l .line)) (both (logTests catalogue narrow (l .log) (l .records) (l .texts)) (ownTests true false false))) z .code) .1)

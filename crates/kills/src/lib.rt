@@ -6,7 +6,6 @@ ghost use Prim.Native.Nat.{_≤_};
 ghost use lib.ListN.{length};
 ghost use Rattle.utf8.specs.Chars.{valid, boundary};
 ghost use Rattle.unicode.specs.Repertoire.{catalogue};
-ghost use Rattle.copies.specs.Copy.{movementIs};
 ghost use Rattle.journal.specs.Layout.{narrow};
 ghost use Rattle.edit.specs.Calls.{lent, Edited};
 ghost use Rattle.kills.specs.Kills.{killLine, discardLine, killRange, killOf, deleteCall, killCall, killLineCall, killBufferCall, discardLineCall, discardBufferCall, backspaceCall, deletePrevWordCall, deleteWordCall, deleteToCall};

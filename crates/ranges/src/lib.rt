@@ -1,10 +1,5 @@
 // The calls of LineBuffer with a range of places of their own. Any text, cursor, log and place may be handed over: what is unfit
 // is turned away by a number of document 01.
-ghost use mathlib.Core.Path.{_≡_};
-ghost use mathlib.Core.Bool.{true, not};
-ghost use Prim.Native.Nat.{_≤_};
-ghost use lib.ListN.{length, take};
-ghost use Rattle.utf8.specs.Chars.{valid, boundary};
 ghost use Rattle.unicode.specs.Repertoire.{catalogue};
 ghost use Rattle.journal.specs.Layout.{narrow};
 ghost use Rattle.edit.specs.Calls.{lent, Edited};
@@ -15,27 +10,17 @@ use edit::EditAnswer;
 use edit::Own;
 use edit::change;
 use edit::cut_out;
+use edit::is_split;
 use edit::refusal;
 use edit::says;
 use records::Format;
 use unicode::check_text;
-use utf8::is_boundary;
 
 // The format of the log's records: numbers of 2 bytes, kinds 1 to 5.
 const NARROW: Format = Format {
     width: 2,
     offset: 0,
 };
-
-// Does a place lie inside a character of the text's first len bytes?
-fn is_split(text: &[u8], len: usize, pos: usize) -> bool
-    ensures { λ r. ⌜ (len ≤ length (now (text .entry)) → valid (take len (now (text .entry))) ≡ true → r ≡ not (boundary (take len (now (text .entry))) pos)) ⌝ }
-{
-    if text.len() < len {
-        return false;
-    }
-    !is_boundary(&text[..len], pos)
-}
 
 // Wrong answers ruled out: the redo list kept for an empty range; the cursor left behind the cut.
 pub fn delete_range(

@@ -1,17 +1,20 @@
 -- Document 01's cases marked P, in one table, computed from the definitions that the contracts cite. Assumes nothing.
 use mathlib.Core.Path.{_≡_, refl}
-use mathlib.Core.List.{List, [], _∷_}
-use Prim.Native.Nat.{ℕ}
+use mathlib.Core.List.{List, [], _∷_, _++_}
+use Prim.Native.Nat.{ℕ, _-_}
+use lib.ListN.{length, replicate}
 use Rattle.utf8.specs.Utf8.{within, one, two, lead3, three, lead4, four, firstOf, first}
 use Rattle.utf8.specs.Chars.{charsFrom, validFrom, startBefore}
-use Rattle.utf8.specs.Encode.{scalar, size}
-use Rattle.unicode.specs.Repertoire.{catalogue, isMember, isControl, isMark, isAlnum, isWhite, widthOf}
+use Rattle.utf8.specs.Encode.{scalar, size, encode, encodeAll}
+use Rattle.unicode.specs.Repertoire.{catalogue, isMember, isControl, isMark, isAlnum, isWhite, isSmall, isCapital, upperOf, lowerOf, widthOf}
 use Rattle.unicode.specs.Text.{isText, isChar}
+use Rattle.unicode.specs.Case.{caseAll, cased}
 use Rattle.cluster.specs.Clusters.{joined, clusters}
 use Rattle.keymap.specs.Codes.{wordList, atList, searchList, movements}
 use Rattle.layout.specs.Width.{columnAfter, columnsAfter, width}
 use Rattle.motion.specs.Steps.{sizes, nextPos, prevPos}
 use Rattle.motion.specs.Search.{matches, nthMatch, afterCluster, matchForward, matchBackward}
+use Rattle.motion.specs.Trim.{firstAlnum, skipWhitespace}
 use Rattle.words.specs.Rules.{isStartOfWord, landsBehind}
 use Rattle.words.specs.Walk.{marks, graphemeIndices, scan, walk}
 use Rattle.words.specs.Words.{landsOn, nextWord, noWord, landed, nextWordPos, prevWord, prevWordPos}
@@ -22,6 +25,16 @@ use Rattle.checks.specs.Answers.{says, places}
 use Rattle.checks.specs.declared.Line.{Line}
 use Rattle.copies.specs.Copy.{copied, startsAfter, copyCall}
 use Rattle.movement.specs.Moves.{called, moveForward, moveToPrevWord, moveToNextWord, moveTo, moveToLineUp}
+use Rattle.journal.specs.Change.{Change, edit, insert, delete}
+use Rattle.journal.specs.Layout.{narrow, encodeRecords, encodeTexts, sizeOf, textsAt, changeAt, wholeAt, decodeAt}
+use Rattle.journal.specs.Recording.{note, recordInsert, recordInsertStr, recordDelete}
+use Rattle.journal.specs.Undo.{undoRecords, undoTexts, allSmall, fits}
+use Rattle.changeset.specs.Logs.{overSizes, damaged}
+use Rattle.changeset.specs.Calls.{undos, redos, row, logOf}
+use Rattle.edit.specs.Plan.{splice, textAfter, listAfter, tooLong, State, Outcome, refused, answered, edited}
+use Rattle.edit.specs.Calls.{Lent, lent}
+use Rattle.inserts.specs.Inserts.{copies, insertCall}
+use Rattle.rewrites.specs.Rewrites.{actionList, editWordCall, transposeWordsCall}
 
 -- a text of len bytes with the cursor at a place
 abbrev at : ℕ → ℕ → Line
@@ -51,7 +64,46 @@ lines = 0x61 ∷ 0x62 ∷ 0x0A ∷ 0x63 ∷ 0x0A ∷ 0x6C ∷ 0x6F ∷ 0x6E ∷ 
 abbrev abc : List ℕ
 abc = 0x61 ∷ 0x0A ∷ 0x62 ∷ 0x0A ∷ 0x63 ∷ []
 
--- codes: words Big 0, Emacs 1, Vi 2; stops Start 0, BeforeEnd 1, AfterEnd 2; search Forward 0; movement LineDown 10
+-- "straße"
+abbrev straße : List ℕ
+straße = 0x73 ∷ 0x74 ∷ 0x72 ∷ 0x61 ∷ 0xC3 ∷ 0x9F ∷ 0x65 ∷ []
+
+-- "STRASSE"
+abbrev STRASSE : List ℕ
+STRASSE = 0x53 ∷ 0x54 ∷ 0x52 ∷ 0x41 ∷ 0x53 ∷ 0x53 ∷ 0x45 ∷ []
+
+-- "box"
+abbrev box : List ℕ
+box = 0x62 ∷ 0x6F ∷ 0x78 ∷ []
+
+-- "parish"
+abbrev firstWord : List ℕ
+firstWord = 0x70 ∷ 0x61 ∷ 0x72 ∷ 0x69 ∷ 0x73 ∷ 0x68 ∷ []
+
+-- a text, a cursor and an undo list, newest first; nothing to redo and no group open
+abbrev state : List ℕ → ℕ → List Change → State
+state t p u = record { text = t; cursor = p; log = record { undo = u; redo = []; level = 0 } }
+
+-- a buffer of n bytes that begins with these
+abbrev buffer : ℕ → List ℕ → List ℕ
+buffer n s = s ++ replicate (n - length s) 0
+
+-- the bytes of a state, in buffers of 16, 32 and 32 bytes
+abbrev lending : State → Lent
+lending s =
+    lent (buffer 16 (s .text)) (buffer 32 (encodeRecords narrow (row narrow (s .log)))) (buffer 32 (encodeTexts (row narrow (s .log))))
+    (at (length (s .text)) (s .cursor)) (logOf narrow (s .log))
+
+-- what is lent next, after an answer; nothing after a refusal
+abbrev leaving : Outcome → Lent
+leaving (refused k) = lending (state [] 0 [])
+leaving (answered k a b s) = lending s
+
+-- a character typed
+abbrev typing : ℕ → Lent → Outcome
+typing c l = insertCall catalogue narrow l c 1
+
+-- codes: words Big 0, Emacs 1, Vi 2; stops Start 0, BeforeEnd 1, AfterEnd 2; search Forward 0; movement LineDown 10; case action Uppercase 2
 pub record Cases : Type 0 where
   -- forward 1 from 0: 3; forward 5: 4
   pub p1 : (moveForward catalogue marked (at 4 0) 1 ≡ says 0 (at 4 3)) × (moveForward catalogue marked (at 4 0) 5 ≡ says 0 (at 4 4))
@@ -77,9 +129,21 @@ pub record Cases : Type 0 where
   pub p7 : copyCall catalogue abc (at 5 2) 10 1 0 0 0 0 ≡ places 1 5 (at 5 2)
   -- at 9, prompt 0, line up 2: 4
   pub p8 : moveToLineUp catalogue lines (at 9 9) 2 0 ≡ says 0 (at 9 4)
+  -- at 0, upper: "STRASSE", cursor 7
+  pub p9 :
+      editWordCall catalogue narrow (lending (state straße 0 [])) 2
+      ≡ answered 0 0 0 (state STRASSE 7 (edit (insert 0 STRASSE) ∷ edit (delete 0 straße) ∷ []))
+  -- at 10, transpose_words 1: "parish box", cursor 10
+  pub p10 :
+      transposeWordsCall catalogue narrow (lending (state (box ++ (0x20 ∷ firstWord)) 10 [])) 1
+      ≡ answered 0 0 0 (state parish 10 (edit (insert 0 firstWord) ∷ edit (delete 0 box) ∷ edit (insert 4 box) ∷ edit (delete 4 firstWord) ∷ []))
+  -- type a, b, space, c: two records, "ab" and " c"
+  pub p11 :
+      typing 0x63 (leaving (typing 0x20 (leaving (typing 0x62 (leaving (typing 0x61 (lending (state [] 0 []))))))))
+      ≡ answered 0 0 0 (state (0x61 ∷ 0x62 ∷ 0x20 ∷ 0x63 ∷ []) 4 (edit (insert 2 (0x20 ∷ 0x63 ∷ [])) ∷ edit (insert 0 (0x61 ∷ 0x62 ∷ [])) ∷ []))
 
 pub cases : Cases
-unfolding within one two lead3 three lead4 four firstOf first charsFrom validFrom startBefore scalar size isMember isControl isMark isAlnum isWhite widthOf isText isChar joined clusters wordList atList searchList columnAfter columnsAfter width sizes nextPos prevPos matches nthMatch afterCluster matchForward matchBackward isStartOfWord landsBehind marks graphemeIndices scan walk landsOn nextWord noWord landed nextWordPos prevWord prevWordPos startOfLine beforeNewline endOfLine nthCluster lineAbove lineBelow lineUp lineDown linesDown nLinesDown movements copied startsAfter refusal called
+unfolding within one two lead3 three lead4 four firstOf first charsFrom validFrom startBefore scalar size isMember isControl isMark isAlnum isWhite widthOf isText isChar joined clusters wordList atList searchList columnAfter columnsAfter width sizes nextPos prevPos matches nthMatch afterCluster matchForward matchBackward isStartOfWord landsBehind marks graphemeIndices scan walk landsOn nextWord noWord landed nextWordPos prevWord prevWordPos startOfLine beforeNewline endOfLine nthCluster lineAbove lineBelow lineUp lineDown linesDown nLinesDown movements copied startsAfter refusal called isSmall isCapital upperOf lowerOf encode encodeAll caseAll cased firstAlnum skipWhitespace sizeOf textsAt changeAt wholeAt decodeAt note recordInsert recordInsertStr recordDelete undoRecords undoTexts allSmall fits overSizes damaged undos redos splice textAfter listAfter tooLong edited copies actionList
 cases =
     record {
       p1 = (refl, refl);
@@ -90,4 +154,7 @@ cases =
       p6 = (refl, refl, refl);
       p7 = refl;
       p8 = refl;
+      p9 = refl;
+      p10 = refl;
+      p11 = refl;
     }

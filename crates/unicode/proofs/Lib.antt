@@ -3,3 +3,4 @@ pub mod Plain
 pub mod Cased
 pub mod Catalogue
 pub mod Written
+pub mod Typed

@@ -6,7 +6,8 @@ use Rattle.journal.specs.Layout.{narrow}
 use Rattle.edit.specs.Calls.{lent}
 use Rattle.edit.proofs.Made.{outcome-as}
 use Rattle.kills.specs.Kills.{killOf, killBy}
-use Rattle.kills.proofs.Ranges.{unnamed}
+use Rattle.edit.proofs.Tests.{unnamed}
+use Rattle.edit.specs.Plan.{nothing}
 use borrow.Author.Needs.{needs}
 use Rattle.kills.proofs.kill.Statement.{statement}
 use Rattle.kills.proofs.kill.Tie as tie
@@ -36,7 +37,7 @@ same-length-3 : tie.Need-same-length-3
 same-length-3 c = search needs
 
 returns : tie.Need-returns
-returns c = outcome-as narrow (lent (now (c .before .before .before .before .before .before .before .before .before .before .before .args .text)) (now (c .before .before .before .before .before .before .before .before .before .before .before .args .records)) (now (c .before .before .before .before .before .before .before .before .before .before .before .args .texts)) (c .before .before .before .before .before .before .before .before .before .before .before .args .line) (c .before .before .before .before .before .before .before .before .before .before .before .args .log)) _ (killBy catalogue narrow (lent (now (c .before .before .before .before .before .before .before .before .before .before .before .args .text)) (now (c .before .before .before .before .before .before .before .before .before .before .before .args .records)) (now (c .before .before .before .before .before .before .before .before .before .before .before .args .texts)) (c .before .before .before .before .before .before .before .before .before .before .before .args .line) (c .before .before .before .before .before .before .before .before .before .before .before .args .log)) (movementOf (c .before .before .before .before .before .before .before .before .before .before .before .args .mvt) (c .before .before .before .before .before .before .before .before .before .before .before .args .n) (c .before .before .before .before .before .before .before .before .before .before .before .args .at) (c .before .before .before .before .before .before .before .before .before .before .before .args .word) (c .before .before .before .before .before .before .before .before .before .before .before .args .search) (c .before .before .before .before .before .before .before .before .before .before .before .args .ch))) _ _ _ _ (sym (ap (killBy catalogue narrow (lent (now (c .before .before .before .before .before .before .before .before .before .before .before .args .text)) (now (c .before .before .before .before .before .before .before .before .before .before .before .args .records)) (now (c .before .before .before .before .before .before .before .before .before .before .before .args .texts)) (c .before .before .before .before .before .before .before .before .before .before .before .args .line) (c .before .before .before .before .before .before .before .before .before .before .before .args .log))) (sym (c .before .before .before .before .before .before .before .from-codes .ensures) ∙ c .before .before .before .before .before .enum-told .given .1))) (unnamed (lent (now (c .before .before .before .before .before .before .before .before .before .before .before .args .text)) (now (c .before .before .before .before .before .before .before .before .before .before .before .args .records)) (now (c .before .before .before .before .before .before .before .before .before .before .before .args .texts)) (c .before .before .before .before .before .before .before .before .before .before .before .args .line) (c .before .before .before .before .before .before .before .before .before .before .before .args .log)) (c .before .refusal .result) _ (c .before .refusal .ensures .0) (c .says .ensures))
+returns c = outcome-as narrow (lent (now (c .before .before .before .before .before .before .before .before .before .before .before .args .text)) (now (c .before .before .before .before .before .before .before .before .before .before .before .args .records)) (now (c .before .before .before .before .before .before .before .before .before .before .before .args .texts)) (c .before .before .before .before .before .before .before .before .before .before .before .args .line) (c .before .before .before .before .before .before .before .before .before .before .before .args .log)) _ (killBy catalogue narrow (lent (now (c .before .before .before .before .before .before .before .before .before .before .before .args .text)) (now (c .before .before .before .before .before .before .before .before .before .before .before .args .records)) (now (c .before .before .before .before .before .before .before .before .before .before .before .args .texts)) (c .before .before .before .before .before .before .before .before .before .before .before .args .line) (c .before .before .before .before .before .before .before .before .before .before .before .args .log)) (movementOf (c .before .before .before .before .before .before .before .before .before .before .before .args .mvt) (c .before .before .before .before .before .before .before .before .before .before .before .args .n) (c .before .before .before .before .before .before .before .before .before .before .before .args .at) (c .before .before .before .before .before .before .before .before .before .before .before .args .word) (c .before .before .before .before .before .before .before .before .before .before .before .args .search) (c .before .before .before .before .before .before .before .before .before .before .before .args .ch))) _ _ _ _ (sym (ap (killBy catalogue narrow (lent (now (c .before .before .before .before .before .before .before .before .before .before .before .args .text)) (now (c .before .before .before .before .before .before .before .before .before .before .before .args .records)) (now (c .before .before .before .before .before .before .before .before .before .before .before .args .texts)) (c .before .before .before .before .before .before .before .before .before .before .before .args .line) (c .before .before .before .before .before .before .before .before .before .before .before .args .log))) (sym (c .before .before .before .before .before .before .before .from-codes .ensures) ∙ c .before .before .before .before .before .enum-told .given .1))) (unnamed (lent (now (c .before .before .before .before .before .before .before .before .before .before .before .args .text)) (now (c .before .before .before .before .before .before .before .before .before .before .before .args .records)) (now (c .before .before .before .before .before .before .before .before .before .before .before .args .texts)) (c .before .before .before .before .before .before .before .before .before .before .before .args .line) (c .before .before .before .before .before .before .before .before .before .before .before .args .log)) (nothing (c .before .before .before .before .before .before .before .before .before .before .before .args .line .cursor)) (c .before .refusal .result) _ (c .before .refusal .ensures .0) (c .says .ensures))
 
 kill-movement-requires : tie.Need-kill-movement-requires
 kill-movement-requires c κs = search needs

@@ -1,0 +1,107 @@
+-- What a call leaves in the buffers is what the next call finds there. Assumes nothing.
+use Prim.Native.Nat.{ℕ, zero, suc, _+_, _≤_, _<_}
+use native.Mathlib.Omega.{arith}
+use mathlib.Core.Path.{_≡_, refl, sym, ap, ap₂, subst, _∙_}
+use mathlib.Core.Bool.{true}
+use mathlib.Core.List.{List, [], _∷_, _++_, map, reverse, reverse-reverse}
+use lib.ListN.{length, take, length-append}
+use Rattle.utf8.specs.Chars.{boundary}
+use Rattle.unicode.specs.Repertoire.{catalogue}
+use Rattle.unicode.specs.Text.{isText}
+use Rattle.journal.specs.Change.{Change, turn}
+use Rattle.journal.specs.Layout.{Format, top, AllGood, Layout, decode, encodeRecords, encodeTexts}
+use Rattle.journal.specs.Hold.{Holds}
+use Rattle.journal.specs.Groups as groups
+use Rattle.journal.proofs.Decode.{decode-encode}
+use Rattle.journal.proofs.Groups.{turned-back}
+use Rattle.journal.proofs.Holds.{records-append, texts-append, good-append, front, behind}
+use Rattle.journal.proofs.Undo.{good-oldest}
+use Rattle.changeset.specs.Calls as log
+use Rattle.edit.specs.Plan.{In, State}
+use Rattle.edit.specs.Calls.{Lent, lent, stateOf, Stored, Ready}
+
+-- a list from which n bytes can be taken has as many
+pub take-within : (n : ℕ) (l : List ℕ) → length (take n l) ≡ n → n ≤ length l
+take-within zero l e = omega arith
+take-within (suc n) [] e = absurd (omega arith)
+take-within (suc n) (b ∷ l) e = let h = take-within n l (omega arith) in omega arith
+
+-- ---- the log
+module _ (F : Format) (g : groups.Log) (rb tb : List ℕ) (s : log.Stored F g rb tb) (gu : AllGood catalogue (F .width) (g .undo)) (gr : AllGood catalogue (F .width) (map turn (g .redo))) where
+  abbrev us : List Change
+  us = reverse (g .undo)
+
+  abbrev rs : List Change
+  rs = map turn (g .redo)
+
+  abbrev held : log.Lent
+  held = log.lent rb tb (log.logOf F g)
+
+  row-records : length (encodeRecords F us) + length (encodeRecords F rs) ≡ length (encodeRecords F (us ++ rs))
+  row-records = sym (ap length (records-append F us rs) ∙ length-append (encodeRecords F us) (encodeRecords F rs))
+
+  row-texts : length (encodeTexts us) + length (encodeTexts rs) ≡ length (encodeTexts (us ++ rs))
+  row-texts = sym (ap length (texts-append us rs) ∙ length-append (encodeTexts us) (encodeTexts rs))
+
+  stored-holds : Holds catalogue F rb tb (length (encodeRecords F us)) (length (encodeTexts us)) (length (encodeRecords F rs)) (length (encodeTexts rs)) us rs
+  stored-holds =
+      record {
+        both =
+            record {
+              records = ap (λ (n : ℕ). take n rb) row-records ∙ s .records;
+              texts = ap (λ (n : ℕ). take n tb) row-texts ∙ s .texts;
+              good = good-append catalogue (F .width) us rs (good-oldest catalogue (F .width) (g .undo) gu) gr;
+            };
+        records = refl;
+        texts = refl;
+        room = omega (arith, row-records, take-within (length (encodeRecords F (us ++ rs))) rb (ap length (s .records)));
+        space = omega (arith, row-texts, take-within (length (encodeTexts (us ++ rs))) tb (ap length (s .texts)));
+      }
+
+  read : (a b : List ℕ) (cs : List Change) → Layout catalogue F a b cs → log.orNil (decode catalogue F a b) ≡ cs
+  read a b cs x = ap₂ (λ (p q : List ℕ). log.orNil (decode catalogue F p q)) (x .records) (x .texts) ∙ ap log.orNil (decode-encode catalogue F cs (x .good))
+
+  undos-held : log.undos catalogue F held ≡ us
+  unfolding log.undos
+  undos-held = read _ _ us (front catalogue F rb tb (length (encodeRecords F us)) (length (encodeTexts us)) (length (encodeRecords F rs)) (length (encodeTexts rs)) us rs stored-holds)
+
+  redos-held : log.redos catalogue F held ≡ rs
+  unfolding log.redos
+  redos-held = read _ _ rs (behind catalogue F rb tb (length (encodeRecords F us)) (length (encodeTexts us)) (length (encodeRecords F rs)) (length (encodeTexts rs)) us rs stored-holds)
+
+  -- the log that the bytes hold
+  pub log-held : log.valueOf catalogue F held ≡ g
+  log-held =
+      ap₂ (λ (u r : List Change). record { undo = u; redo = r; level = g .level }) (ap reverse undos-held ∙ reverse-reverse (g .undo)) (ap (map turn) redos-held ∙ turned-back (g .redo))
+
+  -- which checks 2 and 8 pass
+  pub log-ready : length rb ≤ 32768 → length tb ≤ 65535 → 65535 < top (F .width) → g .level ≤ 255 → log.Ready F held
+  log-ready a b w v =
+      record {
+        records = a;
+        texts = b;
+        wide = w;
+        level = v;
+        hold =
+            subst (λ (x : List Change). Holds catalogue F rb tb (length (encodeRecords F us)) (length (encodeTexts us)) (length (encodeRecords F rs)) (length (encodeTexts rs)) x (log.redos catalogue F held)) (sym undos-held)
+            (subst (λ (x : List Change). Holds catalogue F rb tb (length (encodeRecords F us)) (length (encodeTexts us)) (length (encodeRecords F rs)) (length (encodeTexts rs)) us x) (sym redos-held) stored-holds);
+      }
+
+-- ---- text, cursor and log
+module _ (F : Format) (s : State) (t rb tb : List ℕ) (q : Stored F s t rb tb) (gu : AllGood catalogue (F .width) (s .log .undo)) (gr : AllGood catalogue (F .width) (map turn (s .log .redo))) where
+  abbrev pub lentNext : Lent
+  lentNext = lent t rb tb (record { len = length (s .text); cursor = s .cursor }) (log.logOf F (s .log))
+
+  pub state-held : stateOf catalogue F lentNext ≡ s
+  state-held = ap₂ (λ (x : List ℕ) (g : groups.Log). record { text = x; cursor = s .cursor; log = g }) (q .text) (log-held F (s .log) rb tb (q .log) gu gr)
+
+  pub state-ready : length t ≤ 4096 → length rb ≤ 32768 → length tb ≤ 65535 → 65535 < top (F .width) → s .log .level ≤ 255 → isText catalogue (s .text) ≡ true → In (s .text) (s .cursor) (s .cursor) → Ready F lentNext
+  state-ready a b c w v e i =
+      record {
+        small = a;
+        used = take-within (length (s .text)) t (ap length (q .text));
+        text = ap (isText catalogue) (q .text) ∙ e;
+        within = i .1;
+        edge = ap (λ (x : List ℕ). boundary x (s .cursor)) (q .text) ∙ i .2;
+        log = log-ready F (s .log) rb tb (q .log) gu gr b c w v;
+      }

@@ -1,0 +1,212 @@
+-- A piece as a part of a text replaced by another text, and as the change that the log notes. Assumes nothing.
+use Prim.Native.Nat.{ℕ, _+_, _≤_, _<_}
+use native.Mathlib.Omega.{arith}
+use mathlib.Core.Path.{_≡_, refl, sym, ap, _∙_}
+use mathlib.Core.Bool.{Bool, true, false, _&&_}
+use mathlib.Core.List.{List, [], _∷_, _++_, append-nil}
+use lib.Dec.{eqb}
+use lib.ListN.{length, take, drop}
+use lib.Seq.{length-take-le, take-at, drop-at}
+use Rattle.lists.specs.Lists.{all}
+use Rattle.lists.proofs.Bools.{by-test, and-both, never}
+use Rattle.utf8.specs.Chars.{boundary, valid, chars}
+use Rattle.utf8.specs.Encode.{encode, encodeAll, scalar}
+use Rattle.utf8.proofs.Chars.{size-pos}
+use Rattle.utf8.proofs.Boundary.{boundary-drop, boundary-take}
+use Rattle.utf8.proofs.Encode.{chars-encode, valid-encode, size-encode}
+use Rattle.unicode.specs.Repertoire.{Repertoire}
+use Rattle.unicode.specs.Text.{isText, isChar}
+use Rattle.unicode.proofs.Text.{text-append, text-cut, text-nil}
+use Rattle.cluster.specs.Clusters.{clustersOf}
+use Rattle.journal.specs.Change.{Edit, insert, delete, replace, Change, edit, place, old, new}
+use Rattle.journal.specs.Layout.{Format, top, okChange, AllGood}
+use Rattle.journal.specs.Recording.{isSingle, note, recordInsert, recordReplace}
+use Rattle.journal.specs.Undo.{undoRecords, undoTexts}
+use Rattle.recording.specs.Tails.{kindNumber, tailOf, noted}
+use Rattle.recording.specs.declared.Tail.{Tail}
+use Rattle.recording.proofs.Numbers.{tail-records, tail-texts, tail-place}
+use Rattle.recording.proofs.Put.{put, put-records, put-texts, put-good}
+use Rattle.edit.specs.Plan.{Piece, typed, pasted, cutting, swapping, Suits, In, part, splice, made, recorded, blank, notedOr}
+use Rattle.edit.proofs.Once.{part-text, noted-insert, noted-delete}
+
+-- ---- a character's bytes are a text
+pub char-text : (R : Repertoire) (c : ℕ) → isChar R c ≡ true → isText R (encode c) ≡ true
+unfolding isChar isText encodeAll
+char-text R c e =
+    let s = and-both (scalar c) (R .member c) e in
+    let one : all scalar (c ∷ []) ≡ true = rw (s .0) in
+    let flat : encodeAll (c ∷ []) ≡ encode c = append-nil (encode c) in
+    let v = ap valid (sym flat) ∙ valid-encode (c ∷ []) one in
+    let k : chars (encode c) ≡ c ∷ [] = ap chars (sym flat) ∙ chars-encode (c ∷ []) one in
+    let m : all (R .member) (c ∷ []) ≡ true = rw (s .1) in
+    rw (v, k) m
+
+-- ---- a piece puts a text in the place of the bytes from its start up to its end
+abbrev pub startOf : Piece → ℕ
+startOf (typed p c) = p
+startOf (pasted p s) = p
+startOf (cutting a b) = a
+startOf (swapping a b s) = a
+
+abbrev pub endOf : Piece → ℕ
+endOf (typed p c) = p
+endOf (pasted p s) = p
+endOf (cutting a b) = b
+endOf (swapping a b s) = b
+
+abbrev pub textIn : Piece → List ℕ
+textIn (typed p c) = encode c
+textIn (pasted p s) = s
+textIn (cutting a b) = []
+textIn (swapping a b s) = s
+
+pub made-is : (x : Piece) (t : List ℕ) → made x t ≡ splice t (startOf x) (endOf x) (textIn x)
+made-is (typed p c) t = refl
+made-is (pasted p s) t = refl
+made-is (cutting a b) t = refl
+made-is (swapping a b s) t = refl
+
+module _ (R : Repertoire) where
+  pub suits-in : (x : Piece) (t : List ℕ) → Suits R x t → In t (startOf x) (endOf x)
+  suits-in (typed p c) t h = h .0
+  suits-in (pasted p s) t h = h .0
+  suits-in (cutting a b) t h = h
+  suits-in (swapping a b s) t h = h .0
+
+  pub suits-text : (x : Piece) (t : List ℕ) → Suits R x t → isText R (textIn x) ≡ true
+  suits-text (typed p c) t h = char-text R c (h .1)
+  suits-text (pasted p s) t h = h .1
+  suits-text (cutting a b) t h = text-nil R
+  suits-text (swapping a b s) t h = h .1
+
+-- ---- a text with a part replaced
+module _ (t : List ℕ) (a b : ℕ) (s : List ℕ) (i : In t a b) where
+  long : length (take a t) ≡ a
+  long = let h = i .0 in let k = i .1 in length-take-le a t (omega arith)
+
+  -- it is a text
+  pub splice-text : (R : Repertoire) → isText R t ≡ true → isText R s ≡ true → isText R (splice t a b s) ≡ true
+  unfolding splice
+  splice-text R v e =
+      text-append R (take a t) (s ++ drop b t) (text-cut R t a v (i .2) .0) ∙ text-append R s (drop b t) e ∙ text-cut R t b v (i .3) .1
+
+  -- the places up to its start are as they were
+  pub splice-before : (p : ℕ) → p ≤ a → boundary (splice t a b s) p ≡ boundary t p
+  unfolding splice
+  splice-before p h =
+      boundary-take (take a t ++ (s ++ drop b t)) a p h ∙ ap (λ (l : List ℕ). boundary l p) (take-at (take a t) (s ++ drop b t) a long) ∙ sym (boundary-take t a p h)
+
+  -- those behind it have moved
+  pub splice-behind : valid s ≡ true → (p : ℕ) → boundary (splice t a b s) (a + length s + p) ≡ boundary t (b + p)
+  unfolding splice
+  splice-behind v p =
+      let e : a + length s + p ≡ a + (length s + p) = omega arith in
+      ap (boundary (take a t ++ (s ++ drop b t))) e
+      ∙ boundary-drop (take a t ++ (s ++ drop b t)) a (length s + p) (splice-before a (omega arith) ∙ i .2)
+      ∙ ap (λ (l : List ℕ). boundary l (length s + p)) (drop-at (take a t) (s ++ drop b t) a long)
+      ∙ boundary-drop (s ++ drop b t) (length s) p (ap valid (take-at s (drop b t) (length s) refl) ∙ v)
+      ∙ ap (λ (l : List ℕ). boundary l p) (drop-at s (drop b t) (length s) refl)
+      ∙ sym (boundary-drop t b p (i .3))
+
+module _ (R : Repertoire) (x : Piece) (t : List ℕ) (h : Suits R x t) where
+  pub made-text : isText R t ≡ true → isText R (made x t) ≡ true
+  made-text v = ap (isText R) (made-is x t) ∙ splice-text t (startOf x) (endOf x) (textIn x) (suits-in R x t h) R v (suits-text R x t h)
+
+  -- its start is a place between characters afterwards too
+  pub start-in : startOf x ≤ length (made x t) → In (made x t) (startOf x) (startOf x)
+  start-in k =
+      let e = ap (λ (l : List ℕ). boundary l (startOf x)) (made-is x t) ∙ splice-before t (startOf x) (endOf x) (textIn x) (suits-in R x t h) (startOf x) (omega arith) ∙ suits-in R x t h .2 in
+      (omega arith, k, e, e)
+
+-- ---- the change that the log notes
+abbrev pub editAt : Piece → List ℕ → Edit
+editAt (typed p c) t = insert p (encode c)
+editAt (pasted p s) t = insert p s
+editAt (cutting a b) t = delete a (part t a b)
+editAt (swapping a b s) t = replace a (part t a b) s
+
+abbrev pub joinsAt : Repertoire → Piece → List ℕ → Bool
+joinsAt R (typed p c) t = R .alnum c
+joinsAt R (pasted p s) t = false
+joinsAt R (cutting a b) t = isSingle R (clustersOf R (part t a b))
+joinsAt R (swapping a b s) t = true
+
+pub place-at : (x : Piece) (t : List ℕ) → place (editAt x t) ≡ startOf x
+place-at (typed p c) t = refl
+place-at (pasted p s) t = refl
+place-at (cutting a b) t = refl
+place-at (swapping a b s) t = refl
+
+some-bytes : (s : List ℕ) (p : ℕ) → 0 < length s → blank (insert p s) ≡ false
+some-bytes [] p h = absurd (omega arith)
+some-bytes (b ∷ s) p h = refl
+
+module _ (R : Repertoire) where
+  pub recorded-as : (x : Piece) (t : List ℕ) (u : List Change) → recorded R x t u ≡ notedOr (joinsAt R x t) (editAt x t) u
+  unfolding recordInsert recordReplace
+  recorded-as (typed p c) t u = sym (rw (some-bytes (encode c) p (omega (arith, size-encode c, size-pos c))))
+  recorded-as (pasted p s) t u = noted-insert p s u
+  recorded-as (cutting a b) t u = noted-delete R a (part t a b) u
+  recorded-as (swapping a b s) t u = refl
+
+  -- its texts are of the repertoire
+  pub ok-at : (x : Piece) (t : List ℕ) → isText R t ≡ true → Suits R x t → okChange R (edit (editAt x t)) ≡ true
+  ok-at (typed p c) t v h = char-text R c (h .1)
+  ok-at (pasted p s) t v h = h .1
+  ok-at (cutting a b) t v h = part-text R t a b h v
+  ok-at (swapping a b s) t v h = rw (part-text R t a b (h .0) v, h .1)
+
+-- ---- what noting a change makes of a list
+module _ (F : Format) (j : Bool) (k p o n : ℕ) (t : Tail) where
+  pub noted-grows : t .records ≤ noted F j k p o n t .tail .records
+  unfolding noted
+  noted-grows =
+      by-test _ (j && eqb (t .kind) k)
+      (λ e. by-test _ (eqb (t .place + t .new) p) (λ f. rw (e, f) (omega arith))
+      (λ f. by-test _ (eqb k 4 && eqb (t .place) (p + o)) (λ g. rw (e, f, g) (omega arith)) (λ g. rw (e, f, g) (omega arith))))
+      (λ e. rw e (omega arith))
+
+  pub noted-place : (m : ℕ) → t .place < m → p < m → noted F j k p o n t .tail .place < m
+  unfolding noted
+  noted-place m a b =
+      by-test _ (j && eqb (t .kind) k)
+      (λ e. by-test _ (eqb (t .place + t .new) p) (λ f. rw (e, f) a)
+      (λ f. by-test _ (eqb k 4 && eqb (t .place) (p + o)) (λ g. rw (e, f, g) b) (λ g. rw (e, f, g) b)))
+      (λ e. rw e b)
+
+module _ (F : Format) (j : Bool) (x : Edit) (u : List Change) where
+  abbrev there : Tail
+  there = noted F j (kindNumber x) (place x) (length (old x)) (length (new x)) (tailOf F u) .tail
+
+  abbrev after : List Change
+  after = note j x u
+
+  note-records : length (undoRecords F u) ≤ length (undoRecords F after)
+  note-records = omega (arith, noted-grows F j (kindNumber x) (place x) (length (old x)) (length (new x)) (tailOf F u), tail-records F u, put-records F x u after _ (put F j x u))
+
+  note-texts : length (undoTexts after) ≡ length (undoTexts u) + length (old x) + length (new x)
+  note-texts = sym (tail-texts F after) ∙ ap (λ (t : Tail). t .texts) (sym (put F j x u .tail)) ∙ put-texts F x u after _ (put F j x u)
+
+  note-good : (R : Repertoire) → AllGood R (F .width) u → okChange R (edit x) ≡ true → 0 < top (F .width) → place x < top (F .width) → length (undoTexts after) < top (F .width) → AllGood R (F .width) after
+  note-good R g o w p t =
+      put-good F x u after _ (put F j x u) R g o
+      (noted-place F j (kindNumber x) (place x) (length (old x)) (length (new x)) (tailOf F u) (top (F .width)) (tail-place F R u g w) p)
+      (omega (arith, tail-texts F after, ap (λ (t : Tail). t .texts) (put F j x u .tail)))
+
+blank-none : (x : Edit) → blank x ≡ true → length (old x) + length (new x) ≡ 0
+blank-none (insert p []) e = refl
+blank-none (insert p (b ∷ s)) e = never _ false e refl
+blank-none (delete p []) e = refl
+blank-none (delete p (b ∷ s)) e = never _ false e refl
+blank-none (replace p o n) e = never _ false e refl
+
+module _ (F : Format) (j : Bool) (x : Edit) (u : List Change) where
+  pub more-records : length (undoRecords F u) ≤ length (undoRecords F (notedOr j x u))
+  more-records = by-test _ (blank x) (λ e. rw e (omega arith)) (λ e. rw e (note-records F j x u))
+
+  pub more-texts : length (undoTexts (notedOr j x u)) ≡ length (undoTexts u) + (length (old x) + length (new x))
+  more-texts = by-test _ (blank x) (λ e. rw (e, blank-none x e) (omega arith)) (λ e. rw e (note-texts F j x u ∙ omega arith))
+
+  pub more-good : (R : Repertoire) → AllGood R (F .width) u → okChange R (edit x) ≡ true → 0 < top (F .width) → place x < top (F .width) → length (undoTexts (notedOr j x u)) < top (F .width) → AllGood R (F .width) (notedOr j x u)
+  more-good R g o w p t =
+      by-test (AllGood R (F .width) (notedOr j x u)) (blank x) (λ e. rw e g) (λ e. rw e (note-good F j x u R g o w p (rw e at t)))

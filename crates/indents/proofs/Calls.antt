@@ -1,0 +1,113 @@
+-- The call by its parts: its tests, and what it does where they pass. Assumes nothing.
+use mathlib.Core.Path.{_≡_, sym, ap, subst, _∙_}
+use mathlib.Core.Bool.{Bool, true, false, cond}
+use mathlib.Core.List.{List}
+use Prim.Native.Nat.{ℕ, _-_, _≤_}
+use native.Mathlib.Omega.{arith}
+use lib.ListN.{length, take, drop}
+use lib.Seq.{length-take-le}
+use Rattle.utf8.specs.Chars.{valid, boundary}
+use Rattle.unicode.specs.Repertoire.{catalogue}
+use Rattle.unicode.proofs.Text.{text-valid}
+use Rattle.keymap.specs.declared.Movement.{Movement}
+use Rattle.checks.specs.Checks.{Tests, both, refusal, lineTests, ownTests}
+use Rattle.checks.specs.declared.Line.{Line}
+use Rattle.checks.proofs.Fit.{Fit, fit, fit-valid}
+use Rattle.copies.specs.Copy.{isForeign}
+use Rattle.journal.specs.Layout.{narrow}
+use Rattle.edit.specs.declared.EditAnswer.{EditAnswer}
+use Rattle.edit.specs.Plan.{part, In, edited}
+use Rattle.edit.specs.Calls.{Lent, textOf, sizesOf, stateOf, says, own, checked, Edited, Ready}
+use Rattle.edit.proofs.Made.{raw-part}
+use Rattle.edit.proofs.Answers.{refused-by, passed-by}
+use Rattle.edit.proofs.Tests.{split-within, own-passed}
+use Rattle.indents.specs.declared.Span.{Span}
+use Rattle.indents.specs.Indents.{split, splits, touched, linesIn, indentTests, indentPlan, indentOf}
+use Rattle.indents.proofs.Ranges.{Inside, touched-in}
+use Rattle.indents.proofs.Suits.{part-valid}
+
+-- ---- check 6, of a text and a cursor that pass 2, 4, 5 and 6
+module _ (text : List ℕ) (line : Line) (mvt : Movement) (amount : ℕ) where
+  abbrev first : ℕ
+  first = refusal (both (lineTests catalogue text line) (ownTests false false false))
+
+  abbrev t : List ℕ
+  t = take (line .len) text
+
+  pub untried : (dedent : Bool) → dedent ≡ false → false ≡ cond dedent (splits catalogue amount (linesIn t (touched catalogue t (line .cursor) mvt))) false
+  untried dedent e = sym (ap (λ (c : Bool). cond c (splits catalogue amount (linesIn t (touched catalogue t (line .cursor) mvt))) false) e)
+
+  module _ (z : first ≡ 0) where
+    fits : Fit catalogue text line
+    fits = fit catalogue text line (ownTests false false false) z .0
+
+    pub text-used : line .len ≤ length text
+    text-used = fits .used
+
+    pub text-fit : (valid t ≡ true) × (boundary t (line .cursor) ≡ true) × (line .cursor ≤ length t)
+    text-fit = let w = fits .within in (fit-valid catalogue text line fits, fits .edge, omega (arith, length-take-le (line .len) text (fits .used)))
+
+    module _ (r : Span) (e : r ≡ touched catalogue t (line .cursor) mvt) where
+      pub lines-in : In t (r .from) (r .to)
+      lines-in = let v = text-fit in subst (Inside t) (sym e) (touched-in catalogue t (line .cursor) (v .0) (v .1) (v .2) mvt)
+
+      pub lines-end : r .to ≤ length text
+      lines-end = let i = lines-in in let j = i .1 in omega (arith, length-take-le (line .len) text (fits .used), fits .used)
+
+      raw : take (r .to - r .from) (drop (r .from) text) ≡ part t (r .from) (r .to)
+      raw = let i = lines-in in let j = i .1 in sym (raw-part text (line .len) (r .from) (r .to) (omega (arith, length-take-le (line .len) text (fits .used))))
+
+      pub raw-valid : valid (take (r .to - r .from) (drop (r .from) text)) ≡ true
+      raw-valid = ap valid raw ∙ part-valid t (r .from) (r .to) (text-fit .0) lines-in
+
+      pub tried : (b dedent : Bool) → dedent ≡ true → b ≡ splits catalogue amount (split (take (r .to - r .from) (drop (r .from) text))) → b ≡ cond dedent (splits catalogue amount (linesIn t (touched catalogue t (line .cursor) mvt))) false
+      tried b dedent d f =
+          f ∙ ap (λ (x : List ℕ). splits catalogue amount (split x)) raw ∙ ap (λ (q : Span). splits catalogue amount (linesIn t q)) e
+          ∙ sym (ap (λ (c : Bool). cond c (splits catalogue amount (linesIn t (touched catalogue t (line .cursor) mvt))) false) d)
+
+-- the four tests are all of the first
+passes : (l : Lent) → lineTests catalogue (l .text) (l .line) .sizes ≡ false → lineTests catalogue (l .text) (l .line) .foreign ≡ false → lineTests catalogue (l .text) (l .line) .place ≡ false → lineTests catalogue (l .text) (l .line) .split ≡ false
+    → refusal (both (lineTests catalogue (l .text) (l .line)) (ownTests false false false)) ≡ 0
+unfolding refusal
+passes l s f p x = rw (s, f, p, x)
+
+pub ready-text : (l : Lent) → Ready narrow l → (valid (textOf l) ≡ true) × (boundary (textOf l) (l .line .cursor) ≡ true) × (l .line .cursor ≤ length (textOf l))
+ready-text l h = let w = h .within in (text-valid catalogue (textOf l) (h .text), h .edge, omega (arith, length-take-le (l .line .len) (l .text) (h .used)))
+
+-- ---- the call
+module _ (l : Lent) (mvt : Movement) (amount : ℕ) (dedent : Bool) where
+  abbrev tests : Tests
+  tests = indentTests catalogue (textOf l) (l .line .cursor) mvt amount dedent
+
+  abbrev mine : Bool
+  mine = cond dedent (splits catalogue amount (linesIn (textOf l) (touched catalogue (textOf l) (l .line .cursor) mvt))) false
+
+  module _ (f b : Bool) (fq : f ≡ isForeign catalogue mvt) (bq : refusal (both (lineTests catalogue (l .text) (l .line)) (ownTests false false false)) ≡ 0 → b ≡ mine)
+      (k : ℕ) (kq : k ≡ checked catalogue narrow l (own (record { sizes = false; code = false; foreign = f; place = false; split = b }))) where
+    number : checked catalogue narrow l tests ≡ k
+    number =
+        sym (kq ∙ ap (λ (g : Bool). checked catalogue narrow l (own (record { sizes = false; code = false; foreign = g; place = false; split = b }))) fq
+        ∙ split-within l tests b mine (λ s g p x. bq (passes l s g p x)))
+
+    pub indent-refused : (k ≡ 0 → ⊥) → (r : EditAnswer) → r ≡ says k (l .line) (l .log) → Edited narrow l (indentOf catalogue narrow l amount dedent mvt) r (l .text) (l .records) (l .texts)
+    indent-refused h r q = refused-by narrow l k (checked catalogue narrow l tests) _ r number h q
+
+    module _ (z : k ≡ 0) (h : Ready narrow l) (s : Span) (e : s ≡ touched catalogue (textOf l) (l .line .cursor) mvt) where
+      pub indent-in : In (textOf l) (s .from) (s .to)
+      indent-in =
+          let v = ready-text l h in
+          subst (Inside (textOf l)) (sym e) (touched-in catalogue (textOf l) (l .line .cursor) (v .0) (v .1) (v .2) mvt)
+
+      pub indent-whole : dedent ≡ true → splits catalogue amount (split (part (textOf l) (s .from) (s .to))) ≡ false
+      indent-whole d =
+          ap (λ (q : Span). splits catalogue amount (linesIn (textOf l) q)) e
+          ∙ sym (ap (λ (c : Bool). cond c (splits catalogue amount (linesIn (textOf l) (touched catalogue (textOf l) (l .line .cursor) mvt))) false) d)
+          ∙ own-passed l tests (number ∙ z) .1
+
+      pub indent-passed : (d : Bool) → dedent ≡ d → (r : EditAnswer) (tn rb tb : List ℕ)
+          → Edited narrow l (edited catalogue narrow (sizesOf l) (length (l .text)) (indentPlan catalogue amount d (l .line .cursor) (s .from) (split (part (textOf l) (s .from) (s .to)))) (stateOf catalogue narrow l)) r tn rb tb
+          → Edited narrow l (indentOf catalogue narrow l amount dedent mvt) r tn rb tb
+      indent-passed d y r tn rb tb q =
+          passed-by narrow l k (checked catalogue narrow l tests) _ r tn rb tb number z
+          (subst (λ (c : Bool). Edited narrow l (edited catalogue narrow (sizesOf l) (length (l .text)) (indentPlan catalogue amount c (l .line .cursor) (touched catalogue (textOf l) (l .line .cursor) mvt .from) (linesIn (textOf l) (touched catalogue (textOf l) (l .line .cursor) mvt))) (stateOf catalogue narrow l)) r tn rb tb) (sym y)
+          (subst (λ (x : Span). Edited narrow l (edited catalogue narrow (sizesOf l) (length (l .text)) (indentPlan catalogue amount d (l .line .cursor) (x .from) (linesIn (textOf l) x)) (stateOf catalogue narrow l)) r tn rb tb) e q))

@@ -1,0 +1,119 @@
+-- The cursor that indenting and dedenting leave lies in the text that they leave, between two characters; over any repertoire. Assumes nothing.
+use mathlib.Core.Path.{_≡_, refl, ap, subst, _∙_}
+use mathlib.Core.Bool.{Bool, true, false}
+use mathlib.Core.List.{List, [], _∷_, _++_}
+use Prim.Native.Nat.{ℕ, zero, suc, _+_, _-_, _*_, _≤_}
+use native.Mathlib.Omega.{arith}
+use lib.Dec.{eqb, ltb}
+use lib.ListN.{length, length-replicate}
+use borrow.Author.Tests.{eqb-true, eqb-false, lt-ltb, le-ltb}
+use Rattle.lists.proofs.Bools.{by-less, by-test}
+use Rattle.utf8.specs.Chars.{validFrom, valid, boundary}
+use Rattle.unicode.specs.Repertoire.{Repertoire}
+use Rattle.unicode.specs.Text.{isText}
+use Rattle.keymap.specs.declared.Movement.{Movement}
+use Rattle.edit.specs.Plan.{In, Piece, splice, AllSuit, textAfter}
+use Rattle.edit.proofs.Pieces.{splice-before, splice-behind}
+use Rattle.edit.proofs.Splice.{splice-length}
+use Rattle.indents.specs.Indents.{spaces, indentPieces, indentLines, indentCursor, deleting, dedentLines, dedented, dedentCursor, splits, touched, linesIn, indentPlan}
+use Rattle.indents.specs.Counts.{pieceOf, indented}
+use Rattle.indents.proofs.Suits.{spaces-valid, piece-in, indent-suits}
+
+-- a place of a text
+abbrev pub At : List ℕ → ℕ → Type 0
+At t p = In t p p
+
+none-valid : valid [] ≡ true
+unfolding validFrom
+none-valid = refl
+
+module _ (t : List ℕ) (a b : ℕ) (s : List ℕ) (i : In t a b) (v : valid s ≡ true) where
+  size : length (splice t a b s) ≡ length t - (b - a) + length s
+  size = splice-length t a b s (i .0) (i .1)
+
+  -- a place up to the start of what is replaced stays, one from its end on moves with the text behind it
+  stays : (p : ℕ) → p ≤ a → At t p → At (splice t a b s) p
+  stays p h j =
+      let h₀ = i .0 in
+      let h₁ = i .1 in
+      let e = splice-before t a b s i p h ∙ j .2 in
+      (omega arith, omega (arith, size), e, e)
+
+  follows : (p q : ℕ) → b ≤ p → q ≡ a + length s + (p - b) → At t p → At (splice t a b s) q
+  follows p q h e j =
+      let h₀ = i .0 in
+      let h₁ = i .1 in
+      let k = j .1 in
+      let z : b + (p - b) ≡ p = omega arith in
+      let f = ap (boundary (splice t a b s)) e ∙ splice-behind t a b s i v (p - b) ∙ ap (boundary t) z ∙ j .2 in
+      (omega arith, omega (arith, size), f, f)
+
+-- ---- dedenting
+cut-place : (t : List ℕ) (at d pos : ℕ) → In t at (at + d) → At t pos → At (splice t at (at + d) []) (dedented at d pos)
+cut-place t at d pos i j =
+    by-less _ pos at
+    (λ h. rw (lt-ltb pos at h) (stays t at (at + d) [] i none-valid pos (omega arith) j))
+    (λ h. by-less _ (pos - at) d
+    (λ k. rw (le-ltb pos at h, lt-ltb (pos - at) d k) (stays t at (at + d) [] i none-valid at (omega arith) (let x = i .0 in let y = i .1 in (omega arith, omega arith, i .2, i .2))))
+    (λ k. rw (le-ltb pos at h, le-ltb (pos - at) d k) (follows t at (at + d) [] i none-valid pos (pos - d) (omega arith) (omega arith) j)))
+
+module _ (R : Repertoire) (m : ℕ) where
+  pub dedent-cursor : (xs : List (List ℕ)) (at : ℕ) (t : List ℕ) (pos : ℕ) → AllSuit R (dedentLines R m at xs) t → At t pos → At (textAfter (dedentLines R m at xs) t) (dedentCursor R m at xs pos)
+  unfolding AllSuit textAfter dedentLines dedentCursor
+  dedent-cursor [] at t pos s j = j
+  dedent-cursor (x ∷ xs) at t pos s j =
+      dedent-cursor xs (at + (length x - deleting R m x) + 1) (splice t at (at + deleting R m x) []) (dedented at (deleting R m x) pos) (s .1) (cut-place t at (deleting R m x) pos (s .0) j)
+
+-- ---- indenting
+put-place : (t : List ℕ) (at n pos : ℕ) → In t at at → At t pos → At (splice t at at (spaces n)) (indented at n pos)
+put-place t at n pos i j =
+    by-less _ pos at
+    (λ h. rw (lt-ltb pos at h) (stays t at at (spaces n) i (spaces-valid n) pos (omega arith) j))
+    (λ h. rw (le-ltb pos at h) (follows t at at (spaces n) i (spaces-valid n) pos (pos + n) h (omega (arith, length-replicate {A = ℕ} n 0x20)) j))
+
+none-indented : (at m pos : ℕ) → m ≡ 0 → pos ≡ indented at m pos
+none-indented at m pos e = by-test _ (ltb pos at) (λ z. rw z) (λ z. rw z (omega arith))
+
+more-indented : (at m pos : ℕ) → (m ≡ 0 → ⊥) → indented at (m - 32) (indented at (pieceOf m) pos) ≡ indented at m pos
+more-indented at m pos h =
+    let w = piece-in m h in
+    by-less _ pos at (λ l. rw (lt-ltb pos at l, lt-ltb pos at l))
+    (λ l. rw (le-ltb pos at l, le-ltb (pos + pieceOf m) at (omega arith)) (omega (arith, w .2)))
+
+none-after : (t : List ℕ) (pos : ℕ) → At t pos → At (textAfter [] t) pos
+unfolding textAfter
+none-after t pos j = j
+
+module _ (R : Repertoire) where
+  -- what holds of what comes behind a line's pieces, from where they leave text and cursor
+  pieces-cursor : (k at m : ℕ) (t : List ℕ) (pos : ℕ) (ys : List Piece) → m ≤ 32 * k → AllSuit R (indentPieces k at m ++ ys) t → At t pos
+      → (C : List ℕ → Type 0) → ((u : List ℕ) → AllSuit R ys u → At u (indented at m pos) → C (textAfter ys u)) → C (textAfter (indentPieces k at m ++ ys) t)
+  unfolding AllSuit textAfter indentPieces
+  pieces-cursor zero at m t pos ys h s j C g = g t s (subst (At t) (none-indented at m pos (omega arith)) j)
+  pieces-cursor (suc k) at m t pos ys h s j C g =
+      by-test _ (eqb m 0)
+      (λ z. rw z (g t (rw z at s) (subst (At t) (none-indented at m pos (eqb-true m 0 z)) j)))
+      (λ z.
+      let n = eqb-false m 0 z in
+      let w : (In t at at × (isText R (spaces (pieceOf m)) ≡ true)) × AllSuit R (indentPieces k at (m - 32) ++ ys) (splice t at at (spaces (pieceOf m))) = rw z at s in
+      rw z
+      (pieces-cursor k at (m - 32) (splice t at at (spaces (pieceOf m))) (indented at (pieceOf m) pos) ys (omega arith) (w .1) (put-place t at (pieceOf m) pos (w .0 .0) j) C
+      (λ u x y. g u x (subst (At u) (more-indented at m pos n) y))))
+
+  module _ (m : ℕ) (small : m ≤ 256) where
+    pub indent-cursor : (xs : List (List ℕ)) (at : ℕ) (t : List ℕ) (pos : ℕ) → AllSuit R (indentLines m at xs) t → At t pos → At (textAfter (indentLines m at xs) t) (indentCursor m at xs pos)
+    unfolding indentLines indentCursor
+    indent-cursor [] at t pos s j = none-after t pos j
+    indent-cursor (x ∷ xs) at t pos s j =
+        pieces-cursor 8 at m t pos (indentLines m (at + m + length x + 1) xs) small s j (λ u. At u (indentCursor m (at + m + length x + 1) xs (indented at m pos)))
+        (λ u y z. indent-cursor xs (at + m + length x + 1) u (indented at m pos) y z)
+
+-- ---- the call's plan
+module _ (R : Repertoire) (mem : R .member 0x20 ≡ true) (m : ℕ) (small : m ≤ 256) (t : List ℕ) (pos : ℕ) (v : isText R t ≡ true) (k : boundary t pos ≡ true) (h : pos ≤ length t) (mvt : Movement) where
+  abbrev lines : List (List ℕ)
+  lines = linesIn t (touched R t pos mvt)
+
+  pub plan-cursor : (dedent : Bool) → (dedent ≡ true → splits R m lines ≡ false)
+      → At (textAfter (indentPlan R m dedent pos (touched R t pos mvt .from) lines .pieces) t) (indentPlan R m dedent pos (touched R t pos mvt .from) lines .cursor)
+  plan-cursor true s = dedent-cursor R m lines (touched R t pos mvt .from) t pos (indent-suits R mem m small t pos v k h mvt true s) (omega arith, h, k, k)
+  plan-cursor false s = indent-cursor R m small lines (touched R t pos mvt .from) t pos (indent-suits R mem m small t pos v k h mvt false s) (omega arith, h, k, k)

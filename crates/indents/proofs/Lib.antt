@@ -1,0 +1,12 @@
+pub mod Newlines
+pub mod White
+pub mod Ranges
+pub mod Walks
+pub mod Joined
+pub mod Suits
+pub mod Cursors
+pub mod Counted
+pub mod Turns
+pub mod Spaces
+pub mod Rooms
+pub mod Calls

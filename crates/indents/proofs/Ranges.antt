@@ -1,0 +1,103 @@
+-- The lines that a movement touches: of a text and a boundary in it, they begin and end at boundaries. Assumes nothing.
+use mathlib.Core.Path.{_≡_, refl, sym, ap, subst, _∙_}
+use mathlib.Core.Bool.{true}
+use mathlib.Core.List.{List}
+use Prim.Native.Nat.{ℕ, _+_, _≤_}
+use native.Mathlib.Omega.{arith}
+use lib.ListN.{length}
+use Rattle.utf8.specs.Chars.{valid, boundary}
+use Rattle.utf8.proofs.Boundary.{boundary-zero, boundary-end}
+use Rattle.unicode.specs.Repertoire.{Repertoire}
+use Rattle.keymap.specs.declared.Movement.{Movement}
+use Rattle.keymap.specs.declared.Movement.the-variants as m
+use Rattle.motion.specs.declared.Found.{Found}
+use Rattle.motion.specs.declared.Found.the-variants as found
+use Rattle.words.specs.Words.{prevWordPos, nextWordPos}
+use Rattle.words.proofs.Places.{next-word-place, prev-word-place}
+use Rattle.lines.specs.Lines.{startOfLine, nLinesUp, nLinesDown}
+use Rattle.lines.specs.declared.Range.{Range}
+use Rattle.lines.specs.declared.Range.the-variants.{Places, Nowhere}
+use Rattle.lines.proofs.Places.{start-of-line-place, lines-up-place, lines-down-place}
+use Rattle.copies.specs.Copy.{upTo, backTo}
+use Rattle.edit.specs.Plan.{In}
+use Rattle.indents.specs.declared.Span.{Span}
+use Rattle.indents.specs.Indents.{span, orCursor, rangeOf, lastNewline, touched}
+use Rattle.indents.specs.Counts.{orAt}
+use Rattle.indents.proofs.Newlines.{last-in, last-place}
+
+-- ---- the range of a word, by the place that is found
+no-more : (p : ℕ) → p ≡ p + 0
+no-more p = omega arith
+
+found-back : (pos : ℕ) (f : Found) → span (orAt pos f) pos ≡ orCursor pos (backTo pos 0 f)
+found-back pos (found.At p) = ap (λ (i : ℕ). span i pos) (no-more p)
+found-back pos found.Nothing = refl
+
+found-on : (pos : ℕ) (f : Found) → span pos (orAt pos f) ≡ orCursor pos (upTo pos 0 f)
+found-on pos (found.At p) = ap (span pos) (no-more p)
+found-on pos found.Nothing = refl
+
+module _ (pos r : ℕ) (f g : Found) (e : r ≡ orAt pos f) (q : f ≡ g) where
+  pub word-back : span r pos ≡ orCursor pos (backTo pos 0 g)
+  word-back = ap (λ (i : ℕ). span i pos) (e ∙ ap (orAt pos) q) ∙ found-back pos g
+
+  pub word-on : span pos r ≡ orCursor pos (upTo pos 0 g)
+  word-on = ap (span pos) (e ∙ ap (orAt pos) q) ∙ found-on pos g
+
+-- ---- both places of a range lie in the text and are boundaries
+abbrev pub Inside : List ℕ → Span → Type 0
+Inside s r = In s (r .from) (r .to)
+
+module _ (R : Repertoire) (s : List ℕ) (pos : ℕ) (v : valid s ≡ true) (k : boundary s pos ≡ true) (h : pos ≤ length s) where
+  here : Inside s (span pos pos)
+  here = (omega arith, h, k, k)
+
+  places-in : (r : Range) → ((a b : ℕ) → r ≡ Places a b → In s a b) → Inside s (orCursor pos r)
+  places-in (Places a b) g = g a b refl
+  places-in Nowhere g = here
+
+  back-in : (f : Found) → ((p : ℕ) → f ≡ found.At p → (p ≤ pos) × (boundary s p ≡ true)) → Inside s (orCursor pos (backTo pos 0 f))
+  back-in (found.At p) g = let z = g p refl in subst (λ (i : ℕ). In s i pos) (no-more p) (z .0, h, z .1, k)
+  back-in found.Nothing g = here
+
+  on-in : (f : Found) → ((p : ℕ) → f ≡ found.At p → (pos ≤ p) × (p ≤ length s) × (boundary s p ≡ true)) → Inside s (orCursor pos (upTo pos 0 f))
+  on-in (found.At p) g = let z = g p refl in subst (λ (i : ℕ). In s pos i) (no-more p) (z .0, z .1, k, z .2)
+  on-in found.Nothing g = here
+
+  pub range-in : (mvt : Movement) → Inside s (rangeOf R s pos mvt)
+  range-in m.WholeLine = here
+  range-in m.BeginningOfLine = here
+  range-in m.EndOfLine = here
+  range-in (m.BackwardWord n w) = back-in (prevWordPos R s pos w n) (λ p q. prev-word-place R s pos w n p v k h q)
+  range-in (m.ForwardWord n at w) = on-in (nextWordPos R s pos at w n) (λ p q. next-word-place R s pos at w n p v k h q)
+  range-in (m.ViCharSearch n cs) = here
+  range-in m.ViFirstPrint = here
+  range-in (m.BackwardChar n) = here
+  range-in (m.ForwardChar n) = here
+  range-in (m.LineUp n) = places-in (nLinesUp s pos n) (λ a b q. lines-up-place s pos n a b v k h q)
+  range-in (m.LineDown n) = places-in (nLinesDown s pos n) (λ a b q. lines-down-place s pos n a b v k h q)
+  range-in m.WholeBuffer = (omega arith, omega arith, boundary-zero s, boundary-end s v)
+  range-in m.BeginningOfBuffer = (omega arith, h, boundary-zero s, k)
+  range-in m.EndOfBuffer = (h, omega arith, k, boundary-end s v)
+
+  pub touched-in : (mvt : Movement) → Inside s (touched R s pos mvt)
+  touched-in mvt =
+      let r = range-in mvt in
+      let a = rangeOf R s pos mvt .from in
+      let b = rangeOf R s pos mvt .to in
+      let r0 = r .0 in
+      let r1 = r .1 in
+      let x = start-of-line-place s a v (omega arith) in
+      let y = last-in s b r1 in
+      (omega arith, y .1, x .1, last-place s b v r1)
+
+-- the code's span, from the range that it found
+pub touched-as : (R : Repertoire) (s : List ℕ) (pos : ℕ) (mvt : Movement) (q : Span) (a b : ℕ) → q ≡ rangeOf R s pos mvt → a ≡ startOfLine s (q .from) → b ≡ lastNewline s (q .to) → span a b ≡ touched R s pos mvt
+touched-as R s pos mvt q a b e f g =
+    let x : a ≡ touched R s pos mvt .from = f ∙ ap (λ (z : Span). startOfLine s (z .from)) e in
+    let y : b ≡ touched R s pos mvt .to = g ∙ ap (λ (z : Span). lastNewline s (z .to)) e in
+    ap (λ (i : ℕ). span i b) x ∙ ap (span (touched R s pos mvt .from)) y
+
+-- where the code looks
+pub range-as : (R : Repertoire) (s : List ℕ) (pos : ℕ) (mvt : Movement) (q : Span) → valid s ≡ true → boundary s pos ≡ true → pos ≤ length s → q ≡ rangeOf R s pos mvt → Inside s q
+range-as R s pos mvt q v k h e = subst (Inside s) (sym e) (range-in R s pos v k h mvt)

@@ -1,0 +1,175 @@
+-- The lines dedented one after the other in the text as it changes. Assumes nothing.
+use mathlib.Core.Path.{_≡_, refl, sym, ap, ap₂, subst, _∙_}
+use mathlib.Core.Bool.{true, false}
+use mathlib.Core.List.{List, [], _∷_, _++_}
+use Prim.Native.Nat.{ℕ, _+_, _-_, _<_, _≤_}
+use native.Mathlib.Omega.{arith}
+use lib.ListN.{length, take, drop, length-drop}
+use lib.Seq.{drop-drop, drop-append-add, length-take-le, take-take}
+use Rattle.lists.proofs.Bools.{by-less}
+use Rattle.lists.proofs.Parts.{drop-take}
+use Rattle.unicode.specs.Repertoire.{catalogue}
+use Rattle.lines.specs.Lines.{endOfLine}
+use Rattle.lines.proofs.Lines.{end-le}
+use Rattle.journal.specs.Layout.{narrow}
+use Rattle.journal.specs.Undo.{fits}
+use Rattle.edit.specs.declared.EditAnswer.{EditAnswer}
+use Rattle.edit.specs.Plan.{part, splice, Piece, cutting, In, once, Plan, AllSuit, tooLong, listAfter, edited}
+use Rattle.edit.specs.Calls.{Lent, lent, textOf, sizesOf, stateOf, Edited, Ready}
+use Rattle.edit.proofs.Made.{raw-part}
+use Rattle.edit.proofs.Splice.{splice-length}
+use Rattle.edit.proofs.Left.{Left, begins, next-suits, goes-on, ends, text-now}
+use Rattle.indents.specs.Indents.{split, deleting, dedentLines, dedented, dedentCursor, indentPlan}
+use Rattle.indents.proofs.White.{deleting-in}
+use Rattle.indents.proofs.Newlines.{line-last, line-more}
+
+-- ---- what stands behind a part that is replaced
+pub drop-splice : (t : List ℕ) (a b : ℕ) (s : List ℕ) (j : ℕ) → a ≤ length t → drop (a + length s + j) (splice t a b s) ≡ drop (b + j) t
+unfolding splice
+drop-splice t a b s j h =
+    let l = length-take-le a t h in
+    let e : a + length s + j ≡ length (take a t) + (length s + j) = omega arith in
+    ap (λ (n : ℕ). drop n (take a t ++ (s ++ drop b t))) e ∙ drop-append-add (take a t) (s ++ drop b t) (length s + j) ∙ drop-append-add s (drop b t) j ∙ drop-drop j b t
+
+-- ---- the lines from at up to end; the first ends at e
+module _ (t : List ℕ) (at end e : ℕ) (h : at ≤ end) (k : end ≤ length t) (q : e ≡ endOfLine (take end t) at) where
+  size : length (take end t) ≡ end
+  size = length-take-le end t k
+
+  pub first-in : (at ≤ e) × (e ≤ end)
+  first-in = let z = end-le (take end t) at (omega (arith, size)) in omega (arith, size)
+
+  whole : drop at (take end t) ≡ part t at end
+  whole = drop-take at end t
+
+  line : take (e - at) (drop at (take end t)) ≡ part t at e
+  line = let z = first-in in ap (take (e - at)) whole ∙ take-take (e - at) (end - at) (drop at t) (omega arith)
+
+  pub lines-last : e ≡ end → split (part t at end) ≡ part t at e ∷ []
+  lines-last z = ap split (sym whole) ∙ line-last (take end t) at e (omega (arith, size)) q (omega (arith, size)) ∙ ap (λ (x : List ℕ). x ∷ []) line
+
+  pub lines-more : e < end → split (part t at end) ≡ part t at e ∷ split (part t (e + 1) end)
+  lines-more z =
+      ap split (sym whole) ∙ line-more (take end t) at e (omega (arith, size)) q (omega (arith, size)) ∙ ap₂ (λ (x : List ℕ) (y : List ℕ). x ∷ split y) line (drop-take (e + 1) end t)
+
+  pub first-width : length (part t at e) ≡ e - at
+  first-width = let z = first-in in length-take-le (e - at) (drop at t) (omega (arith, length-drop at t))
+
+  -- ---- dedented by d
+  module _ (m d : ℕ) (f : d ≡ deleting catalogue m (part t at e)) where
+    pub cut-in : at + d ≤ e
+    cut-in = let z = first-in in omega (arith, deleting-in catalogue m (part t at e), first-width)
+
+    next-at : at + (length (part t at e) - deleting catalogue m (part t at e)) + 1 ≡ e - d + 1
+    next-at = let z = cut-in in omega (arith, first-width)
+
+    pub dedent-last : e ≡ end → dedentLines catalogue m at (split (part t at end)) ≡ cutting at (at + d) ∷ []
+    unfolding dedentLines
+    dedent-last z = ap (dedentLines catalogue m at) (lines-last z) ∙ ap (λ (n : ℕ). cutting at (at + n) ∷ []) (sym f)
+
+    pub cursor-last : (pos : ℕ) → e ≡ end → dedentCursor catalogue m at (split (part t at end)) pos ≡ dedented at d pos
+    unfolding dedentCursor
+    cursor-last pos z = ap (λ (xs : List (List ℕ)). dedentCursor catalogue m at xs pos) (lines-last z) ∙ ap (λ (n : ℕ). dedented at n pos) (sym f)
+
+    module _ (u : List ℕ) (g : u ≡ splice t at (at + d) []) (l : e < end) where
+      same-part : part u (e - d + 1) (end - d) ≡ part t (e + 1) end
+      same-part =
+          let z = cut-in in
+          let w : end - d - (e - d + 1) ≡ end - (e + 1) = omega arith in
+          let a : e - d + 1 ≡ at + 0 + (e - d + 1 - at) = omega arith in
+          let b : at + d + (e - d + 1 - at) ≡ e + 1 = omega arith in
+          ap (λ (x : List ℕ). part x (e - d + 1) (end - d)) g
+          ∙ ap (λ (n : ℕ). take n (drop (e - d + 1) (splice t at (at + d) []))) w
+          ∙ ap (take (end - (e + 1))) (ap (λ (n : ℕ). drop n (splice t at (at + d) [])) a ∙ drop-splice t at (at + d) [] (e - d + 1 - at) (omega arith) ∙ ap (λ (n : ℕ). drop n t) b)
+
+      pub dedent-more : dedentLines catalogue m at (split (part t at end)) ≡ cutting at (at + d) ∷ dedentLines catalogue m (e - d + 1) (split (part u (e - d + 1) (end - d)))
+      unfolding dedentLines
+      dedent-more =
+          ap (dedentLines catalogue m at) (lines-more l)
+          ∙ ap₂ (λ (n i : ℕ). cutting at (at + n) ∷ dedentLines catalogue m i (split (part t (e + 1) end))) (sym f) next-at
+          ∙ ap (λ (x : List ℕ). cutting at (at + d) ∷ dedentLines catalogue m (e - d + 1) (split x)) (sym same-part)
+
+      pub cursor-more : (pos : ℕ) → dedentCursor catalogue m at (split (part t at end)) pos ≡ dedentCursor catalogue m (e - d + 1) (split (part u (e - d + 1) (end - d))) (dedented at d pos)
+      unfolding dedentCursor
+      cursor-more pos =
+          ap (λ (xs : List (List ℕ)). dedentCursor catalogue m at xs pos) (lines-more l)
+          ∙ ap₂ (λ (n i : ℕ). dedentCursor catalogue m i (split (part t (e + 1) end)) (dedented at n pos)) (sym f) next-at
+          ∙ ap (λ (x : List ℕ). dedentCursor catalogue m (e - d + 1) (split x) (dedented at d pos)) (sym same-part)
+
+-- ---- the loop
+abbrev pub dedentPlan : Lent → ℕ → ℕ → ℕ → Plan
+dedentPlan l m from to = indentPlan catalogue m true (l .line .cursor) from (split (part (textOf l) from to))
+
+-- what is left is to dedent the lines from at up to end
+pub record Dedenting (l₀ : Lent) (m from to : ℕ) (l : Lent) (cursor at end : ℕ) : Type 0 where
+  pub order : at ≤ end
+  pub within : end ≤ l .line .len
+  pub left : Left narrow l₀ (dedentPlan l₀ m from to) (dedentLines catalogue m at (split (part (textOf l) at end))) l
+  pub moves : dedentCursor catalogue m at (split (part (textOf l) at end)) cursor ≡ dedentPlan l₀ m from to .cursor
+
+module _ (l₀ : Lent) (m from to : ℕ) where
+  pub dedent-begins : Ready narrow l₀ → from ≤ to → to ≤ l₀ .line .len → AllSuit catalogue (dedentPlan l₀ m from to .pieces) (textOf l₀) → tooLong (length (l₀ .text)) (dedentPlan l₀ m from to .pieces) (textOf l₀) ≡ false
+      → fits narrow (sizesOf l₀) (listAfter catalogue (dedentPlan l₀ m from to .pieces) (textOf l₀) (stateOf catalogue narrow l₀ .log .undo)) ≡ true → Dedenting l₀ m from to l₀ (l₀ .line .cursor) from to
+  dedent-begins h a b s n r = record { order = a; within = b; left = begins narrow l₀ (dedentPlan l₀ m from to) h s n r; moves = refl }
+
+  module _ (l : Lent) (cursor at end : ℕ) (k : Dedenting l₀ m from to l cursor at end) (e : ℕ) (q : e ≡ endOfLine (take end (l .text)) at) where
+    abbrev t : List ℕ
+    t = textOf l
+
+    long : length t ≡ l .line .len
+    long = length-take-le (l .line .len) (l .text) (k .left .ready .used)
+
+    fit : end ≤ length t
+    fit = let z = k .within in omega (arith, long)
+
+    q′ : e ≡ endOfLine (take end t) at
+    q′ = q ∙ ap (λ (x : List ℕ). endOfLine x at) (sym (take-take end (l .line .len) (l .text) (k .within)))
+
+    pub line-within : (at ≤ e) × (e ≤ end)
+    line-within = first-in t at end e (k .order) fit q′
+
+    module _ (d : ℕ) (f : d ≡ deleting catalogue m (take (e - at) (drop at (l .text)))) where
+      f′ : d ≡ deleting catalogue m (part t at e)
+      f′ = let z = line-within in let y = k .within in f ∙ ap (deleting catalogue m) (sym (raw-part (l .text) (l .line .len) at e (omega arith)))
+
+      pub cut-within : at + d ≤ e
+      cut-within = cut-in t at end e (k .order) fit q′ m d f′
+
+      as-left : (ys : List Piece) → dedentLines catalogue m at (split (part t at end)) ≡ cutting at (at + d) ∷ ys → Left narrow l₀ (dedentPlan l₀ m from to) (cutting at (at + d) ∷ ys) l
+      as-left ys z = subst (λ (xs : List Piece). Left narrow l₀ (dedentPlan l₀ m from to) xs l) z (k .left)
+
+      first-suits : (ys : List Piece) → dedentLines catalogue m at (split (part t at end)) ≡ cutting at (at + d) ∷ ys → In t at (at + d)
+      first-suits ys z = next-suits narrow l₀ (dedentPlan l₀ m from to) (cutting at (at + d)) ys l (as-left ys z)
+
+      pub cut-suits : In t at (at + d)
+      cut-suits =
+          by-less _ e end
+          (λ h. first-suits _ (dedent-more t at end e (k .order) fit q′ m d f′ (splice t at (at + d) []) refl h))
+          (λ h. first-suits [] (dedent-last t at end e (k .order) fit q′ m d f′ (let z = line-within in omega arith)))
+
+      module _ (r : EditAnswer) (tn rb tb : List ℕ) (o : Edited narrow l (edited catalogue narrow (sizesOf l) (length (l .text)) (once (cutting at (at + d)) at) (stateOf catalogue narrow l)) r tn rb tb)
+          (lt : length tn ≡ length (l .text)) (lr : length rb ≡ length (l .records)) (ls : length tb ≡ length (l .texts)) (c : ℕ) (cq : c ≡ dedented at d cursor) where
+        pub dedent-ends : e ≡ end → Edited narrow l₀ (edited catalogue narrow (sizesOf l₀) (length (l₀ .text)) (dedentPlan l₀ m from to) (stateOf catalogue narrow l₀)) (record { number = 0; from = 0; to = 0; line = record { len = r .line .len; cursor = c }; log = r .log }) tn rb tb
+        dedent-ends z =
+            let y = dedent-last t at end e (k .order) fit q′ m d f′ z in
+            let x = goes-on narrow l₀ (dedentPlan l₀ m from to) (cutting at (at + d)) [] l (as-left [] y) r tn rb tb o lt lr ls in
+            let w : c ≡ dedentPlan l₀ m from to .cursor = cq ∙ sym (cursor-last t at end e (k .order) fit q′ m d f′ cursor z) ∙ k .moves in
+            subst (λ (i : ℕ). Edited narrow l₀ (edited catalogue narrow (sizesOf l₀) (length (l₀ .text)) (dedentPlan l₀ m from to) (stateOf catalogue narrow l₀)) (record { number = 0; from = 0; to = 0; line = record { len = r .line .len; cursor = i }; log = r .log }) tn rb tb) (sym w)
+            (ends narrow l₀ (dedentPlan l₀ m from to) (lent tn rb tb (r .line) (r .log)) x)
+
+        pub dedent-goes-on : e < end → Dedenting l₀ m from to (lent tn rb tb (r .line) (r .log)) c (e - d + 1) (end - d)
+        dedent-goes-on h =
+            let w = cut-within in
+            let y₀ = dedent-more t at end e (k .order) fit q′ m d f′ (splice t at (at + d) []) refl h in
+            let u : take (r .line .len) tn ≡ splice t at (at + d) [] = text-now narrow l₀ (dedentPlan l₀ m from to) (cutting at (at + d)) _ l (as-left _ y₀) r tn rb tb o lt lr ls in
+            let y = dedent-more t at end e (k .order) fit q′ m d f′ (take (r .line .len) tn) u h in
+            let x = goes-on narrow l₀ (dedentPlan l₀ m from to) (cutting at (at + d)) _ l (as-left _ y) r tn rb tb o lt lr ls in
+            let n = length-take-le (r .line .len) tn (x .ready .used) in
+            let i = splice-length t at (at + d) [] (omega arith) (let z = fit in omega arith) in
+            let j = ap length u in
+            record {
+              order = omega arith;
+              within = omega (arith, fit);
+              left = x;
+              moves = ap (dedentCursor catalogue m (e - d + 1) (split (part (take (r .line .len) tn) (e - d + 1) (end - d)))) cq ∙ sym (cursor-more t at end e (k .order) fit q′ m d f′ (take (r .line .len) tn) u h cursor) ∙ k .moves;
+            }

@@ -1,0 +1,52 @@
+use Prim.Native.Nat.{_≤_, _-_, _+_}
+use mathlib.Core.Path.{_≡_, refl, _∙_}
+use mathlib.Core.Logic.{⊎-elim}
+use native.Mathlib.Omega.{arith}
+use lib.ListN.{length, drop}
+use Rattle.lists.proofs.Parts.{getD-any}
+use Rattle.indents.specs.Indents.{split}
+use Rattle.indents.proofs.Newlines.{count-newline, count-other, count-end}
+use borrow.Author.Needs.{needs}
+use Rattle.indents.proofs.count_lines.Statement.{statement}
+use Rattle.indents.proofs.count_lines.Tie as tie
+
+abbrev Inv-loop : tie.InvT-loop
+Inv-loop p n₀ i₀ n i = (i ≤ length p) × (n ≤ i + 1) × (n + length (split (drop i p)) ≡ 1 + length (split p))
+
+abbrev μ-loop : tie.MeasureT-loop
+μ-loop p n₀ i₀ n i = length p - i
+
+loop-holds : tie.Need-loop-holds Inv-loop μ-loop
+loop-holds c = (omega arith, omega arith, refl)
+
+shared-slice-read-if1 : tie.Need-shared-slice-read-if1 Inv-loop μ-loop
+shared-slice-read-if1 c = search needs
+
+add-n : tie.Need-add-n Inv-loop μ-loop
+add-n c = omega (arith, c .before .before .before .loop .inv .1, c .before .before .loop-test .taken)
+
+add-i : tie.Need-add-i Inv-loop μ-loop
+add-i c = search needs
+
+loop-less : tie.Need-loop-less Inv-loop μ-loop
+loop-less c = search needs
+
+loop-again : tie.Need-loop-again Inv-loop μ-loop
+loop-again c = ⊎-elim (λ w. (omega (arith, c .before .before .loop-test .taken), omega (arith, c .before .before .before .loop .inv .1), omega (arith, c .before .before .before .loop .inv .2, count-newline (c .before .before .before .before .args .p .now) (c .before .before .before .loop .i) (c .before .before .loop-test .taken) (getD-any (c .before .before .before .before .args .p .now) (c .before .before .before .loop .i) 256 0 (c .before .before .loop-test .taken) ∙ w .0 .taken)))) (λ w. (omega (arith, c .before .before .loop-test .taken), omega (arith, c .before .before .before .loop .inv .1), omega (arith, c .before .before .before .loop .inv .2, count-other (c .before .before .before .before .args .p .now) (c .before .before .before .loop .i) (c .before .before .loop-test .taken) (λ x. w .0 .left (getD-any (c .before .before .before .before .args .p .now) (c .before .before .before .loop .i) 0 256 (c .before .before .loop-test .taken) ∙ x))))) (c .if1 .came)
+
+returns : tie.Need-returns Inv-loop μ-loop
+returns c = omega (arith, c .before .loop .inv .2, count-end (c .before .before .args .p .now) (c .before .loop .i) (c .loop-test .left))
+
+pub count-lines-spec : {M : Type 1} → statement M
+count-lines-spec =
+    tie.close
+    (tie.spec
+    Inv-loop
+    μ-loop
+    loop-holds
+    shared-slice-read-if1
+    add-n
+    add-i
+    loop-less
+    loop-again
+    returns)

@@ -1,0 +1,70 @@
+use Prim.Native.Nat.{_≤_, _-_, _+_}
+use mathlib.Core.Path.{_≡_, sym, ap, _∙_}
+use native.Mathlib.Omega.{arith}
+use lib.ListN.{length, drop}
+use borrow.Author.Tests.{not-true, not-false}
+use Rattle.utf8.specs.Chars.{chars}
+use Rattle.utf8.specs.Answer.{asFirst}
+use Rattle.unicode.specs.Repertoire.{catalogue}
+use Rattle.indents.specs.Indents.{leading}
+use Rattle.indents.proofs.White.{white-on, stops-other, stops-bad, stops-enough}
+use borrow.Author.Needs.{needs}
+use Rattle.indents.proofs.deleting.Statement.{statement}
+use Rattle.indents.proofs.deleting.Tie as tie
+
+abbrev Inv-loop : tie.InvT-loop
+Inv-loop x m i₀ i = (i ≤ length x) × (i + leading catalogue (chars (drop i x)) ≡ leading catalogue (chars x))
+
+abbrev μ-loop : tie.MeasureT-loop
+μ-loop x m i₀ i = m - i
+
+loop-holds : tie.Need-loop-holds Inv-loop μ-loop
+loop-holds c = (omega arith, omega arith)
+
+decode-at-requires : tie.Need-decode-at-requires Inv-loop μ-loop
+decode-at-requires c κs = search needs
+
+enum-known-d : tie.Need-enum-known-d Inv-loop μ-loop
+enum-known-d c = search needs
+
+enum-told : tie.Need-enum-told Inv-loop μ-loop
+enum-told c = search needs
+
+returns : tie.Need-returns Inv-loop μ-loop
+returns c = (stops-bad catalogue (c .before .before .before .before .before .before .args .x .now) (c .before .before .before .before .loop .i) (c .before .before .before .before .before .before .args .m) (c .before .before .before .before .loop .inv .1) (c .before .before .before .loop-test .taken) (sym (c .before .before .decode-at .ensures) ∙ ap asFirst (c .enum-told .given .1)), c .before .before .before .before .loop .inv .0)
+
+is-white-requires : tie.Need-is-white-requires Inv-loop μ-loop
+is-white-requires c κs = search needs
+
+returns-2 : tie.Need-returns-2 Inv-loop μ-loop
+returns-2 c = (stops-other catalogue (c .before .before .before .before .before .before .before .before .before .args .x .now) (c .before .before .before .before .before .before .before .loop .i) (c .before .before .before .before .before .before .before .before .before .args .m) (c .before .before .before .before .before .before .before .loop .inv .1) (c .before .before .before .d .given .0 .0) (c .before .before .before .d .given .0 .1 .0) (c .before .before .before .before .before .before .loop-test .taken) (sym (c .before .before .before .before .before .decode-at .ensures) ∙ ap asFirst (c .before .before .before .d .given .1)) (sym (c .before .is-white .ensures) ∙ not-true _ (c .if1 .taken)), c .before .before .before .before .before .before .before .loop .inv .0)
+
+add-i : tie.Need-add-i Inv-loop μ-loop
+add-i c = omega (arith, white-on catalogue (c .before .before .before .before .before .before .before .before .before .args .x .now) (c .before .before .before .before .before .before .before .loop .i) (c .before .before .before .d .given .0 .0) (c .before .before .before .d .given .0 .1 .0) (c .before .before .before .before .before .before .before .loop .inv .0) (sym (c .before .before .before .before .before .decode-at .ensures) ∙ ap asFirst (c .before .before .before .d .given .1)) (sym (c .before .is-white .ensures) ∙ not-false _ (c .if1 .left)) .1)
+
+loop-less : tie.Need-loop-less Inv-loop μ-loop
+loop-less c = omega (arith, white-on catalogue (c .before .before .before .before .before .before .before .before .before .args .x .now) (c .before .before .before .before .before .before .before .loop .i) (c .before .before .before .d .given .0 .0) (c .before .before .before .d .given .0 .1 .0) (c .before .before .before .before .before .before .before .loop .inv .0) (sym (c .before .before .before .before .before .decode-at .ensures) ∙ ap asFirst (c .before .before .before .d .given .1)) (sym (c .before .is-white .ensures) ∙ not-false _ (c .if1 .left)) .0, c .before .before .before .before .before .before .loop-test .taken)
+
+loop-again : tie.Need-loop-again Inv-loop μ-loop
+loop-again c = (white-on catalogue (c .before .before .before .before .before .before .before .before .before .args .x .now) (c .before .before .before .before .before .before .before .loop .i) (c .before .before .before .d .given .0 .0) (c .before .before .before .d .given .0 .1 .0) (c .before .before .before .before .before .before .before .loop .inv .0) (sym (c .before .before .before .before .before .decode-at .ensures) ∙ ap asFirst (c .before .before .before .d .given .1)) (sym (c .before .is-white .ensures) ∙ not-false _ (c .if1 .left)) .1, sym (white-on catalogue (c .before .before .before .before .before .before .before .before .before .args .x .now) (c .before .before .before .before .before .before .before .loop .i) (c .before .before .before .d .given .0 .0) (c .before .before .before .d .given .0 .1 .0) (c .before .before .before .before .before .before .before .loop .inv .0) (sym (c .before .before .before .before .before .decode-at .ensures) ∙ ap asFirst (c .before .before .before .d .given .1)) (sym (c .before .is-white .ensures) ∙ not-false _ (c .if1 .left)) .2) ∙ c .before .before .before .before .before .before .before .loop .inv .1)
+
+returns-3 : tie.Need-returns-3 Inv-loop μ-loop
+returns-3 c = (stops-enough catalogue (c .before .before .before .args .x .now) (c .before .loop .i) (c .before .before .before .args .m) (c .before .loop .inv .1) (c .loop-test .left), omega (arith, c .before .loop .inv .0, c .loop-test .left))
+
+pub deleting-spec : {M : Type 1} → statement M
+deleting-spec =
+    tie.close
+    (tie.spec
+    Inv-loop
+    μ-loop
+    loop-holds
+    decode-at-requires
+    enum-known-d
+    enum-told
+    returns
+    is-white-requires
+    returns-2
+    add-i
+    loop-less
+    loop-again
+    returns-3)

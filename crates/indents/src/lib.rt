@@ -1,0 +1,515 @@
+// The lines that a movement touches, indented and dedented: indent of line_buffer.rs. Any text, cursor, log, code and number may be
+// handed over: what is unfit is turned away by a number of document 01.
+ghost use mathlib.Core.Path.{_≡_};
+ghost use mathlib.Core.Bool.{true, false, cond, _&&_};
+ghost use Prim.Native.Nat.{_+_, _*_, _≤_, _<_};
+ghost use lib.Dec.{leb};
+ghost use lib.ListN.{length, take};
+ghost use Rattle.utf8.specs.Chars.{valid, boundary};
+ghost use Rattle.unicode.specs.Repertoire.{catalogue};
+ghost use Rattle.checks.specs.Checks.{refusal as Checks·refusal, both, lineTests, ownTests};
+ghost use Rattle.journal.specs.Layout.{narrow};
+ghost use Rattle.journal.specs.Undo.{fits};
+ghost use Rattle.edit.specs.Plan.{part, In, AllSuit, tooLong, listAfter, edited};
+ghost use Rattle.edit.specs.Calls.{lent, sizesOf, stateOf, Edited, Ready};
+ghost use Rattle.indents.specs.Indents.{orCursor, rangeOf, lastNewline, touched as Indents·touched, split, deleting as Indents·deleting, splits as Indents·splits, dedented as Indents·dedented, indentLines, dedentLines, indentPlan, linesIn, indentOf, indentCall};
+ghost use Rattle.indents.specs.Counts.{orAt, cutsIn, bytesIn, pieceOf, indented as Counts·indented};
+use changeset::Log;
+use checks::Line;
+use copies::is_foreign;
+use edit::EditAnswer;
+use edit::Own;
+use edit::cut_out;
+use edit::put_in;
+use edit::refusal;
+use edit::says;
+use keymap::Movement;
+use keymap::MovementCode;
+use keymap::RepeatCount;
+use lines::Range;
+use lines::end_of_line;
+use lines::n_lines_down;
+use lines::n_lines_up;
+use lines::start_of_line;
+use motion::Found;
+use records::Format;
+use unicode::is_white;
+use utf8::Decoded;
+use utf8::decode_at;
+use utf8::is_boundary;
+use words::next_word_pos;
+use words::prev_word_pos;
+
+// The format of the log's records: numbers of 2 bytes, kinds 1 to 5.
+const NARROW: Format = Format {
+    width: 2,
+    offset: 0,
+};
+
+// Two places of a text.
+pub struct Span {
+    pub from: usize,
+    pub to: usize,
+}
+
+// At the last \n at or after a place, the text's end where there is none.
+fn last_newline(s: &[u8], pos: usize) -> usize
+    requires { ⌜ pos ≤ length (now s) ⌝ }
+    ensures { λ r. ⌜ r ≡ lastNewline (now (s .entry)) pos ⌝ }
+{
+    let mut last = s.len();
+    let mut i = pos;
+    while i < s.len() {
+        if s[i] == 0x0A {
+            last = i;
+        }
+        i += 1;
+    }
+    last
+}
+
+// A place that is found, the cursor where there is none.
+fn or_at(pos: usize, f: Found) -> usize
+    ensures { λ r. ⌜ r ≡ orAt pos f ⌝ }
+{
+    match f {
+        Found::At(p) => p,
+        Found::Nothing => pos,
+    }
+}
+
+// A range, the cursor twice where it is nowhere.
+fn or_cursor(pos: usize, r: Range) -> Span
+    ensures { λ r0. ⌜ r0 ≡ orCursor pos r ⌝ }
+{
+    match r {
+        Range::Places(a, b) => Span { from: a, to: b },
+        Range::Nowhere => Span { from: pos, to: pos },
+    }
+}
+
+// The range of a movement.
+fn range_of(s: &[u8], pos: usize, m: Movement) -> Span
+    requires { ⌜ (valid (now s) ≡ true) × (boundary (now s) pos ≡ true) × (pos ≤ length (now s)) ⌝ }
+    ensures { λ r. ⌜ r ≡ rangeOf catalogue (now (s .entry)) pos m ⌝ }
+{
+    match m {
+        Movement::WholeLine => Span { from: pos, to: pos },
+        Movement::BeginningOfLine => Span { from: pos, to: pos },
+        Movement::EndOfLine => Span { from: pos, to: pos },
+        Movement::BackwardWord(n, w) => Span {
+            from: or_at(pos, prev_word_pos(s, pos, w, n)),
+            to: pos,
+        },
+        Movement::ForwardWord(n, at, w) => Span {
+            from: pos,
+            to: or_at(pos, next_word_pos(s, pos, at, w, n)),
+        },
+        Movement::ViCharSearch(_, _) => Span { from: pos, to: pos },
+        Movement::ViFirstPrint => Span { from: pos, to: pos },
+        Movement::BackwardChar(_) => Span { from: pos, to: pos },
+        Movement::ForwardChar(_) => Span { from: pos, to: pos },
+        Movement::LineUp(n) => or_cursor(pos, n_lines_up(s, pos, n)),
+        Movement::LineDown(n) => or_cursor(pos, n_lines_down(s, pos, n)),
+        Movement::WholeBuffer => Span {
+            from: 0,
+            to: s.len(),
+        },
+        Movement::BeginningOfBuffer => Span { from: 0, to: pos },
+        Movement::EndOfBuffer => Span {
+            from: pos,
+            to: s.len(),
+        },
+    }
+}
+
+// The lines that a movement touches: where they begin and end.
+fn touched(s: &[u8], pos: usize, m: Movement) -> Span
+    requires { ⌜ (valid (now s) ≡ true) × (boundary (now s) pos ≡ true) × (pos ≤ length (now s)) ⌝ }
+    ensures { λ r. ⌜ r ≡ Indents·touched catalogue (now (s .entry)) pos m ⌝ }
+{
+    let r = range_of(s, pos, m);
+    let from = r.from;
+    let to = r.to;
+    Span {
+        from: start_of_line(s, from),
+        to: last_newline(s, to),
+    }
+}
+
+// The bytes that a dedent by m cuts from a line.
+fn deleting(x: &[u8], m: usize) -> usize
+    ensures { λ r. ⌜ (r ≡ Indents·deleting catalogue m (now (x .entry))) × (r ≤ length (now (x .entry))) ⌝ }
+{
+    let mut i = 0;
+    while i < m {
+        let d = decode_at(x, i);
+        let Decoded::Char { cp, len } = d else {
+            return i;
+        };
+        if !is_white(cp) {
+            return i;
+        }
+        i += len;
+    }
+    m
+}
+
+// Check 6: does a dedent's cut of one of a part's lines end inside a character?
+fn splits(p: &[u8], m: usize) -> bool
+    requires { ⌜ valid (now p) ≡ true ⌝ }
+    ensures { λ r. ⌜ r ≡ Indents·splits catalogue m (split (now (p .entry))) ⌝ }
+{
+    let mut i = 0;
+    loop {
+        let e = end_of_line(p, i);
+        let d = deleting(&p[i..e], m);
+        if !is_boundary(&p[i..e], d) {
+            return true;
+        }
+        if e == p.len() {
+            return false;
+        }
+        i = e + 1;
+    }
+}
+
+// How many lines a part has.
+fn count_lines(p: &[u8]) -> usize
+    ensures { λ r. ⌜ r ≡ length (split (now (p .entry))) ⌝ }
+{
+    let mut n = 1;
+    let mut i = 0;
+    while i < p.len() {
+        if p[i] == 0x0A {
+            n += 1;
+        }
+        i += 1;
+    }
+    n
+}
+
+// What is recorded: how many records, and the bytes of their texts.
+struct Counts {
+    records: usize,
+    bytes: usize,
+}
+
+// What a dedent of a part's lines by m records.
+fn count_cuts(p: &[u8], m: usize) -> Counts
+    ensures { λ r. ⌜ (r .records ≡ cutsIn catalogue m (split (now (p .entry)))) × (r .bytes ≡ bytesIn catalogue m (split (now (p .entry)))) ⌝ }
+{
+    let mut records = 0;
+    let mut bytes = 0;
+    let mut i = 0;
+    loop {
+        let e = end_of_line(p, i);
+        let d = deleting(&p[i..e], m);
+        if 0 < d {
+            records += 1;
+        }
+        bytes += d;
+        if e == p.len() {
+            return Counts { records, bytes };
+        }
+        i = e + 1;
+    }
+}
+
+// Is there room in the log for n more records of 5 bytes, with so many bytes of text?
+fn has_room(records: &[u8], texts: &[u8], log: Log, n: usize, bytes: usize) -> bool
+    requires { ⌜ (log .undo .records ≤ length (now records)) × (log .undo .texts ≤ length (now texts)) × (n ≤ 65536) ⌝ }
+    ensures { λ r. ⌜ r ≡ (leb (log .undo .records + 5 * n) (length (now (records .entry))) && leb (log .undo .texts + bytes) (length (now (texts .entry)))) ⌝ }
+{
+    let u = log.undo;
+    (5 * n <= records.len() - u.records) & (bytes <= texts.len() - u.texts)
+}
+
+// Where a cursor goes as d bytes are cut from the line that begins at a place.
+fn dedented(at: usize, d: usize, pos: usize) -> usize
+    ensures { λ r. ⌜ r ≡ Indents·dedented at d pos ⌝ }
+{
+    if pos < at {
+        return pos;
+    }
+    if pos - at < d { at } else { pos - d }
+}
+
+// The lines of a part dedented by m, one after the other.
+fn dedent_lines(
+    text: &mut [u8],
+    records: &mut [u8],
+    texts: &mut [u8],
+    line: Line,
+    log: Log,
+    m: usize,
+    from: usize,
+    to: usize,
+) -> EditAnswer
+    requires { ⌜ Ready narrow (lent (now text) (now records) (now texts) line log) ⌝ }
+    requires { ⌜ (from ≤ to) × (to ≤ line .len) ⌝ }
+    requires { ⌜ AllSuit catalogue (dedentLines catalogue m from (split (part (take (line .len) (now text)) from to))) (take (line .len) (now text)) ⌝ }
+    requires { ⌜ tooLong (length (now text)) (dedentLines catalogue m from (split (part (take (line .len) (now text)) from to))) (take (line .len) (now text)) ≡ false ⌝ }
+    requires { ⌜ fits narrow (sizesOf (lent (now text) (now records) (now texts) line log)) (listAfter catalogue (dedentLines catalogue m from (split (part (take (line .len) (now text)) from to))) (take (line .len) (now text)) (stateOf catalogue narrow (lent (now text) (now records) (now texts) line log) .log .undo)) ≡ true ⌝ }
+    ensures { λ r. ⌜ Edited narrow (lent (now (text .entry)) (now (records .entry)) (now (texts .entry)) line log)
+        (edited catalogue narrow (sizesOf (lent (now (text .entry)) (now (records .entry)) (now (texts .entry)) line log)) (length (now (text .entry)))
+        (indentPlan catalogue m true (line .cursor) from (split (part (take (line .len) (now (text .entry))) from to)))
+        (stateOf catalogue narrow (lent (now (text .entry)) (now (records .entry)) (now (texts .entry)) line log)))
+        r (now (text .exit)) (now (records .exit)) (now (texts .exit)) ⌝ }
+{
+    let mut line_now = line;
+    let mut log_now = log;
+    let mut cursor = line.cursor;
+    let mut at = from;
+    let mut end = to;
+    loop {
+        let e = end_of_line(&text[..end], at);
+        let d = deleting(&text[at..e], m);
+        let a = cut_out(NARROW, text, records, texts, line_now, log_now, at, at + d);
+        line_now = a.line;
+        log_now = a.log;
+        cursor = dedented(at, d, cursor);
+        if e == end {
+            let len = line_now.len;
+            return EditAnswer {
+                number: 0,
+                from: 0,
+                to: 0,
+                line: Line { len, cursor },
+                log: log_now,
+            };
+        }
+        at = e - d + 1;
+        end -= d;
+    }
+}
+
+// Where a cursor goes as a line that begins at a place is indented by m.
+fn indented(at: usize, m: usize, pos: usize) -> usize
+    requires { ⌜ pos + m < 65536 ⌝ }
+    ensures { λ r. ⌜ r ≡ Counts·indented at m pos ⌝ }
+{
+    if pos < at { pos } else { pos + m }
+}
+
+// The spaces of a line's next piece, where m are left.
+fn piece(m: usize) -> usize
+    ensures { λ r. ⌜ r ≡ pieceOf m ⌝ }
+{
+    if m < 32 { m } else { 32 }
+}
+
+// The lines of a part indented by m, one after the other. A turn puts a piece in, or goes to the next line.
+fn indent_lines(
+    text: &mut [u8],
+    records: &mut [u8],
+    texts: &mut [u8],
+    line: Line,
+    log: Log,
+    m: usize,
+    from: usize,
+    to: usize,
+) -> EditAnswer
+    requires { ⌜ m ≤ 256 ⌝ }
+    requires { ⌜ Ready narrow (lent (now text) (now records) (now texts) line log) ⌝ }
+    requires { ⌜ (from ≤ to) × (to ≤ line .len) ⌝ }
+    requires { ⌜ AllSuit catalogue (indentLines m from (split (part (take (line .len) (now text)) from to))) (take (line .len) (now text)) ⌝ }
+    requires { ⌜ tooLong (length (now text)) (indentLines m from (split (part (take (line .len) (now text)) from to))) (take (line .len) (now text)) ≡ false ⌝ }
+    requires { ⌜ fits narrow (sizesOf (lent (now text) (now records) (now texts) line log)) (listAfter catalogue (indentLines m from (split (part (take (line .len) (now text)) from to))) (take (line .len) (now text)) (stateOf catalogue narrow (lent (now text) (now records) (now texts) line log) .log .undo)) ≡ true ⌝ }
+    ensures { λ r. ⌜ Edited narrow (lent (now (text .entry)) (now (records .entry)) (now (texts .entry)) line log)
+        (edited catalogue narrow (sizesOf (lent (now (text .entry)) (now (records .entry)) (now (texts .entry)) line log)) (length (now (text .entry)))
+        (indentPlan catalogue m false (line .cursor) from (split (part (take (line .len) (now (text .entry))) from to)))
+        (stateOf catalogue narrow (lent (now (text .entry)) (now (records .entry)) (now (texts .entry)) line log)))
+        r (now (text .exit)) (now (records .exit)) (now (texts .exit)) ⌝ }
+{
+    let spaces = [0x20u8; 32];
+    let mut line_now = line;
+    let mut log_now = log;
+    let mut cursor = indented(from, m, line.cursor);
+    let mut at = from;
+    let mut end = to;
+    let mut left = m;
+    loop {
+        if left == 0 {
+            let e = end_of_line(&text[..end], at + m);
+            if e == end {
+                let len = line_now.len;
+                return EditAnswer {
+                    number: 0,
+                    from: 0,
+                    to: 0,
+                    line: Line { len, cursor },
+                    log: log_now,
+                };
+            }
+            at = e + 1;
+            left = m;
+            cursor = indented(at, m, cursor);
+            continue;
+        }
+        let n = piece(left);
+        let a = put_in(
+            NARROW,
+            text,
+            records,
+            texts,
+            line_now,
+            log_now,
+            at,
+            &spaces[..n],
+            at,
+        );
+        line_now = a.line;
+        log_now = a.log;
+        end += n;
+        left -= n;
+    }
+}
+
+// Checks 9 and 10 of dedenting the lines of a part, and then the lines themselves.
+fn dedent_range(
+    text: &mut [u8],
+    records: &mut [u8],
+    texts: &mut [u8],
+    line: Line,
+    log: Log,
+    m: usize,
+    from: usize,
+    to: usize,
+) -> EditAnswer
+    requires { ⌜ Ready narrow (lent (now text) (now records) (now texts) line log) ⌝ }
+    requires { ⌜ In (take (line .len) (now text)) from to ⌝ }
+    requires { ⌜ Indents·splits catalogue m (split (part (take (line .len) (now text)) from to)) ≡ false ⌝ }
+    ensures { λ r. ⌜ Edited narrow (lent (now (text .entry)) (now (records .entry)) (now (texts .entry)) line log)
+        (edited catalogue narrow (sizesOf (lent (now (text .entry)) (now (records .entry)) (now (texts .entry)) line log)) (length (now (text .entry)))
+        (indentPlan catalogue m true (line .cursor) from (split (part (take (line .len) (now (text .entry))) from to)))
+        (stateOf catalogue narrow (lent (now (text .entry)) (now (records .entry)) (now (texts .entry)) line log)))
+        r (now (text .exit)) (now (records .exit)) (now (texts .exit)) ⌝ }
+{
+    let n = count_cuts(&text[from..to], m);
+    if !has_room(records, texts, log, n.records, n.bytes) {
+        return says(10, line, log);
+    }
+    dedent_lines(text, records, texts, line, log, m, from, to)
+}
+
+// Checks 9 and 10 of indenting the lines of a part, and then the lines themselves.
+fn indent_range(
+    text: &mut [u8],
+    records: &mut [u8],
+    texts: &mut [u8],
+    line: Line,
+    log: Log,
+    m: usize,
+    from: usize,
+    to: usize,
+) -> EditAnswer
+    requires { ⌜ m ≤ 256 ⌝ }
+    requires { ⌜ Ready narrow (lent (now text) (now records) (now texts) line log) ⌝ }
+    requires { ⌜ In (take (line .len) (now text)) from to ⌝ }
+    ensures { λ r. ⌜ Edited narrow (lent (now (text .entry)) (now (records .entry)) (now (texts .entry)) line log)
+        (edited catalogue narrow (sizesOf (lent (now (text .entry)) (now (records .entry)) (now (texts .entry)) line log)) (length (now (text .entry)))
+        (indentPlan catalogue m false (line .cursor) from (split (part (take (line .len) (now (text .entry))) from to)))
+        (stateOf catalogue narrow (lent (now (text .entry)) (now (records .entry)) (now (texts .entry)) line log)))
+        r (now (text .exit)) (now (records .exit)) (now (texts .exit)) ⌝ }
+{
+    let k = count_lines(&text[from..to]);
+    if text.len() - line.len < k * m {
+        return says(9, line, log);
+    }
+    if !has_room(records, texts, log, k * ((m + 31) / 32), k * m) {
+        return says(10, line, log);
+    }
+    indent_lines(text, records, texts, line, log, m, from, to)
+}
+
+// Check 6: does a cut of the dedent end inside a character? It is asked of a text and a cursor that pass the checks before it.
+fn is_split(text: &[u8], line: Line, m: Movement, amount: usize, dedent: bool) -> bool
+    ensures { λ r. ⌜ (Checks·refusal (both (lineTests catalogue (now (text .entry)) line) (ownTests false false false)) ≡ 0
+        → r ≡ cond dedent (Indents·splits catalogue amount (linesIn (take (line .len) (now (text .entry))) (Indents·touched catalogue (take (line .len) (now (text .entry))) (line .cursor) m))) false) ⌝ }
+{
+    if !dedent {
+        return false;
+    }
+    if checks::refusal(text, line, false, false, false) != 0 {
+        return false;
+    }
+    let len = line.len;
+    let r = touched(&text[..len], line.cursor, m);
+    let from = r.from;
+    let to = r.to;
+    splits(&text[from..to], amount)
+}
+
+// indent of a movement.
+fn indent_movement(
+    text: &mut [u8],
+    records: &mut [u8],
+    texts: &mut [u8],
+    line: Line,
+    log: Log,
+    m: Movement,
+    amount: usize,
+    dedent: bool,
+) -> EditAnswer
+    requires { ⌜ amount ≤ 256 ⌝ }
+    ensures { λ r. ⌜ Edited narrow (lent (now (text .entry)) (now (records .entry)) (now (texts .entry)) line log)
+        (indentOf catalogue narrow (lent (now (text .entry)) (now (records .entry)) (now (texts .entry)) line log) amount dedent m)
+        r (now (text .exit)) (now (records .exit)) (now (texts .exit)) ⌝ }
+{
+    let own = Own {
+        sizes: false,
+        code: false,
+        foreign: is_foreign(m),
+        place: false,
+        split: is_split(text, line, m, amount, dedent),
+    };
+    let k = refusal(NARROW, text, records, texts, line, log, own);
+    if k != 0 {
+        return says(k, line, log);
+    }
+    let len = line.len;
+    let r = touched(&text[..len], line.cursor, m);
+    if dedent {
+        return dedent_range(text, records, texts, line, log, amount, r.from, r.to);
+    }
+    indent_range(text, records, texts, line, log, amount, r.from, r.to)
+}
+
+// Wrong answers ruled out: the lines ended at the next \n; a dedent that takes more than the white space.
+pub fn indent(
+    text: &mut [u8],
+    records: &mut [u8],
+    texts: &mut [u8],
+    line: Line,
+    log: Log,
+    mvt: u32,
+    n: RepeatCount,
+    at: u32,
+    word: u32,
+    search: u32,
+    ch: u32,
+    amount: u8,
+    dedent: bool,
+) -> EditAnswer
+    ensures { λ r. ⌜ Edited narrow (lent (now (text .entry)) (now (records .entry)) (now (texts .entry)) line log)
+        (indentCall catalogue narrow (lent (now (text .entry)) (now (records .entry)) (now (texts .entry)) line log) amount dedent mvt n at word search ch)
+        r (now (text .exit)) (now (records .exit)) (now (texts .exit)) ⌝ }
+{
+    let code = Movement::from_codes(mvt, n, at, word, search, ch);
+    let MovementCode::Is(m) = code else {
+        let own = Own {
+            sizes: false,
+            code: true,
+            foreign: false,
+            place: false,
+            split: false,
+        };
+        return says(
+            refusal(NARROW, text, records, texts, line, log, own),
+            line,
+            log,
+        );
+    };
+    indent_movement(text, records, texts, line, log, m, amount as usize, dedent)
+}

@@ -1,0 +1,87 @@
+-- The calls by their checks and their plans. Assumes nothing.
+use Prim.Native.Nat.{ℕ, _+_, _≤_}
+use native.Mathlib.Omega.{arith}
+use mathlib.Core.Path.{_≡_, refl, sym, ap, subst, _∙_}
+use mathlib.Core.Bool.{Bool, true, false, not}
+use mathlib.Core.List.{List, [], _∷_}
+use lib.Dec.{ltb}
+use lib.ListN.{length}
+use borrow.Author.Tests.{eq-eqb, ne-eqb, ltb-false, not-false}
+use Rattle.utf8.specs.Encode.{encode}
+use Rattle.unicode.specs.Repertoire.{catalogue}
+use Rattle.unicode.specs.Text.{isText, isChar}
+use Rattle.checks.specs.Checks.{Tests, ownTests}
+use Rattle.journal.specs.Layout.{narrow}
+use Rattle.edit.specs.declared.EditAnswer.{EditAnswer}
+use Rattle.edit.specs.Plan.{Plan, typed, pasted, once}
+use Rattle.edit.specs.Calls.{Lent, says, checked, Edited, Ready, editCall}
+use Rattle.edit.proofs.Answers.{refused-by, passed-by, stays}
+use Rattle.edit.proofs.Tests.{sizes-passed, foreign-passed}
+use Rattle.inserts.specs.Inserts.{copies, insertPlan, yankPlan, textTests, insertCall, yankCall}
+use Rattle.inserts.proofs.Puts.{carried}
+
+module _ (l : Lent) (t : Tests) (p : Plan) (k : ℕ) (r : EditAnswer) where
+  pub by-check : checked catalogue narrow l t ≡ k → (k ≡ 0 → ⊥) → r ≡ says k (l .line) (l .log) → Edited narrow l (editCall catalogue narrow l t p) r (l .text) (l .records) (l .texts)
+  by-check e h q = refused-by narrow l k (checked catalogue narrow l t) (carried l p) r e h q
+
+  pub by-plan : checked catalogue narrow l t ≡ k → k ≡ 0 → (p′ : Plan) → p′ ≡ p → (x rb tb : List ℕ) → Edited narrow l (carried l p′) r x rb tb → Edited narrow l (editCall catalogue narrow l t p) r x rb tb
+  by-plan e h p′ f x rb tb q = passed-by narrow l k (checked catalogue narrow l t) (carried l p) r x rb tb e h (subst (λ (y : Plan). Edited narrow l (carried l y) r x rb tb) f q)
+
+-- ---- insert
+module _ (l : Lent) (ch n k : ℕ) (b : Bool) (q : k ≡ checked catalogue narrow l (ownTests false (not b) false)) (e : b ≡ isChar catalogue ch) where
+  abbrev pos : ℕ
+  pos = l .line .cursor
+
+  abbrev tests : Tests
+  tests = ownTests false (not (isChar catalogue ch)) false
+
+  as-char : checked catalogue narrow l tests ≡ k
+  as-char = sym (q ∙ ap (λ (x : Bool). checked catalogue narrow l (ownTests false (not x) false)) e)
+
+  pub insert-char : k ≡ 0 → isChar catalogue ch ≡ true
+  insert-char z = not-false (isChar catalogue ch) (foreign-passed l tests (as-char ∙ z))
+
+  pub insert-refused : (k ≡ 0 → ⊥) → (r : EditAnswer) → r ≡ says k (l .line) (l .log) → Edited narrow l (insertCall catalogue narrow l ch n) r (l .text) (l .records) (l .texts)
+  insert-refused h r f = by-check l tests (insertPlan pos ch n) k r as-char h f
+
+  module _ (z : k ≡ 0) (r : EditAnswer) (t rb tb : List ℕ) where
+    pub insert-one : n ≡ 1 → Edited narrow l (carried l (once (typed pos ch) (pos + length (encode ch)))) r t rb tb → Edited narrow l (insertCall catalogue narrow l ch n) r t rb tb
+    insert-one h f = by-plan l tests (insertPlan pos ch n) k r as-char z (once (typed pos ch) (pos + length (encode ch))) (rw (eq-eqb n 1 h)) t rb tb f
+
+    pub insert-many : (n ≡ 1 → ⊥) → (s : List ℕ) → s ≡ encode ch → Edited narrow l (carried l (once (pasted pos (copies n s)) (pos + length (copies n s)))) r t rb tb → Edited narrow l (insertCall catalogue narrow l ch n) r t rb tb
+    insert-many h s g f =
+        by-plan l tests (insertPlan pos ch n) k r as-char z (once (pasted pos (copies n s)) (pos + length (copies n s))) (rw (ne-eqb n 1 h, g)) t rb tb f
+
+-- ---- the tests of a text that is put in, as the code makes them: b says whether s is a text
+abbrev pub madeTests : Lent → List ℕ → Bool → Bool → Bool → Tests
+madeTests l s b place split = record { sizes = ltb (length (l .text)) (length s); code = false; foreign = not b; place = place; split = split; prompt = false; damaged = false }
+
+module _ (l : Lent) (s : List ℕ) (place split : Bool) (k : ℕ) (b : Bool) (q : k ≡ checked catalogue narrow l (madeTests l s b place split)) (e : b ≡ isText catalogue s) where
+  pub as-text : checked catalogue narrow l (textTests catalogue narrow l s place split) ≡ k
+  as-text = sym (q ∙ ap (λ (x : Bool). checked catalogue narrow l (madeTests l s x place split)) e)
+
+  pub text-passed : k ≡ 0 → (isText catalogue s ≡ true) × (length s ≤ length (l .text))
+  text-passed z =
+      let t = textTests catalogue narrow l s place split in
+      (not-false (isText catalogue s) (foreign-passed l t (as-text ∙ z)), ltb-false (length (l .text)) (length s) (sizes-passed l t (as-text ∙ z)))
+
+-- ---- yank
+plan-empty : (pos : ℕ) (s : List ℕ) (n : ℕ) → length s ≡ 0 → yankPlan pos [] n ≡ yankPlan pos s n
+plan-empty pos [] n e = refl
+plan-empty pos (b ∷ s) n e = absurd (omega arith)
+
+plan-some : (pos : ℕ) (s : List ℕ) (n : ℕ) → (length s ≡ 0 → ⊥) → once (pasted pos (copies n s)) (pos + length (copies n s)) ≡ yankPlan pos s n
+plan-some pos [] n h = absurd (h refl)
+plan-some pos (b ∷ s) n h = refl
+
+module _ (l : Lent) (s : List ℕ) (n k : ℕ) (e : checked catalogue narrow l (textTests catalogue narrow l s false false) ≡ k) (r : EditAnswer) where
+  pub yank-refused : (k ≡ 0 → ⊥) → r ≡ says k (l .line) (l .log) → Edited narrow l (yankCall catalogue narrow l s n) r (l .text) (l .records) (l .texts)
+  yank-refused h f = by-check l (textTests catalogue narrow l s false false) (yankPlan (l .line .cursor) s n) k r e h f
+
+  pub yank-none : k ≡ 0 → Ready narrow l → length s ≡ 0 → r ≡ says 1 (l .line) (l .log) → Edited narrow l (yankCall catalogue narrow l s n) r (l .text) (l .records) (l .texts)
+  yank-none z h i f =
+      by-plan l (textTests catalogue narrow l s false false) (yankPlan (l .line .cursor) s n) k r e z (yankPlan (l .line .cursor) [] n) (plan-empty (l .line .cursor) s n i) (l .text) (l .records) (l .texts) (stays narrow l h r f)
+
+  pub yank-some : k ≡ 0 → (length s ≡ 0 → ⊥) → (t rb tb : List ℕ) → Edited narrow l (carried l (once (pasted (l .line .cursor) (copies n s)) (l .line .cursor + length (copies n s)))) r t rb tb → Edited narrow l (yankCall catalogue narrow l s n) r t rb tb
+  yank-some z h t rb tb f =
+      by-plan l (textTests catalogue narrow l s false false) (yankPlan (l .line .cursor) s n) k r e z (once (pasted (l .line .cursor) (copies n s)) (l .line .cursor + length (copies n s))) (plan-some (l .line .cursor) s n h) t rb tb f

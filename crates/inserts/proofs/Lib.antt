@@ -1,0 +1,5 @@
+pub mod Copied
+pub mod Puts
+pub mod Calls
+pub mod Suits
+pub mod Twice

@@ -1,0 +1,62 @@
+-- A text put in at the cursor, as the change that it is. Assumes nothing.
+use Prim.Native.Nat.{ℕ, _+_, _-_, _*_, _<_}
+use native.Mathlib.Omega.{arith}
+use mathlib.Core.Path.{_≡_, refl, sym, ap, ap₂, subst, _∙_}
+use mathlib.Core.Bool.{Bool, false}
+use mathlib.Core.List.{List, []}
+use lib.ListN.{length, take, drop}
+use lib.Seq.{length-take-le}
+use Rattle.unicode.specs.Repertoire.{catalogue}
+use Rattle.journal.specs.Change.{insert}
+use Rattle.journal.specs.Layout.{narrow}
+use Rattle.changeset.specs.Calls.{Numbered}
+use Rattle.edit.specs.declared.EditAnswer.{EditAnswer}
+use Rattle.edit.specs.Plan.{Plan, Outcome, In, part, typed, pasted, once, edited, changeOut}
+use Rattle.edit.specs.Calls.{Lent, textOf, sizesOf, stateOf, says, Edited, Ready}
+use Rattle.edit.proofs.Made.{too-long, edited-as, outcome-as}
+use Rattle.edit.proofs.Once.{once-paste, once-typed}
+use Rattle.utf8.specs.Encode.{encode}
+use Rattle.inserts.specs.Inserts.{copies}
+use Rattle.inserts.proofs.Copied.{copies-length}
+
+-- nothing lies between a place and itself
+no-part : (t : List ℕ) (p : ℕ) → part t p p ≡ []
+no-part t p = let e : p - p ≡ 0 = omega arith in ap (λ (n : ℕ). take n (drop p t)) e
+
+pub an-insert : (t : List ℕ) (p : ℕ) (s : List ℕ) → Numbered (insert p s) 3 p (part t p p) s
+an-insert t p s = record { kind = refl; place = refl; old = rw (no-part t p); new = refl }
+
+-- a plan on what is lent
+abbrev pub carried : Lent → Plan → Outcome
+carried l p = edited catalogue narrow (sizesOf l) (length (l .text)) p (stateOf catalogue narrow l)
+
+module _ (l : Lent) where
+  abbrev pos : ℕ
+  pos = l .line .cursor
+
+  pub cursor-in : Ready narrow l → In (textOf l) pos pos
+  cursor-in h = (omega arith, omega (arith, length-take-le (l .line .len) (l .text) (h .used), h .within), h .edge, h .edge)
+
+  -- 9, by the length alone
+  pub copies-long : Ready narrow l → (s : List ℕ) (n : ℕ) (r : EditAnswer) → length (l .text) - l .line .len < length s * n → r ≡ says 9 (l .line) (l .log)
+      → Edited narrow l (carried l (once (pasted pos (copies n s)) (pos + length (copies n s)))) r (l .text) (l .records) (l .texts)
+  copies-long h s n r i e =
+      let w : length (l .text) - (l .line .len - (pos - pos)) < length (copies n s) = omega (arith, copies-length n s) in
+      let p = pos + length (copies n s) in
+      let q = too-long narrow l h false (insert pos (copies n s)) 3 pos pos (copies n s) p (an-insert (textOf l) pos (copies n s)) (omega arith) (h .within) w in
+      outcome-as narrow l (changeOut narrow (sizesOf l) (length (l .text)) false (insert pos (copies n s)) p (stateOf catalogue narrow l)) _ r (l .text) (l .records) (l .texts)
+      (once-paste catalogue narrow (sizesOf l) (length (l .text)) p (stateOf catalogue narrow l) pos (copies n s)) (edited-as narrow l _ r _ (l .text) (l .records) (l .texts) e q)
+
+  module _ (x : List ℕ) (m : ℕ) (r : EditAnswer) (t rb tb : List ℕ) where
+    -- copies put in
+    pub copies-put : (s : List ℕ) (n : ℕ) → x ≡ copies n s → m ≡ length s * n → Edited narrow l (carried l (once (pasted pos x) (pos + m))) r t rb tb
+        → Edited narrow l (carried l (once (pasted pos (copies n s)) (pos + length (copies n s)))) r t rb tb
+    copies-put s n e f q =
+        subst (λ (p : Plan). Edited narrow l (carried l p) r t rb tb) (ap₂ (λ (y : List ℕ) (i : ℕ). once (pasted pos y) (pos + i)) e (f ∙ sym (copies-length n s))) q
+
+    -- a character put in as one that was typed
+    pub char-put : (c : ℕ) (j : Bool) → j ≡ catalogue .alnum c → x ≡ encode c → m ≡ length x → Edited narrow l (changeOut narrow (sizesOf l) (length (l .text)) j (insert pos x) (pos + m) (stateOf catalogue narrow l)) r t rb tb
+        → Edited narrow l (carried l (once (typed pos c) (pos + length (encode c)))) r t rb tb
+    char-put c j e f g q =
+        subst (λ (i : ℕ). Edited narrow l (carried l (once (typed pos c) (pos + i))) r t rb tb) (g ∙ ap length f)
+        (outcome-as narrow l _ _ r t rb tb (once-typed catalogue narrow (sizesOf l) (length (l .text)) (pos + m) (stateOf catalogue narrow l) pos c j x e f) q)

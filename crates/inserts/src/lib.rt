@@ -1,0 +1,299 @@
+// The calls of LineBuffer that put a text in. Any text, cursor, log and place may be handed over: what is unfit is turned away by a
+// number of document 01.
+ghost use mathlib.Core.Path.{_≡_};
+ghost use mathlib.Core.Bool.{true};
+ghost use Prim.Native.Nat.{_+_, _-_, _*_, _≤_};
+ghost use lib.ListN.{length, take};
+ghost use Rattle.utf8.specs.Encode.{encode};
+ghost use Rattle.unicode.specs.Repertoire.{catalogue};
+ghost use Rattle.unicode.specs.Text.{isText, isChar};
+ghost use Rattle.journal.specs.Layout.{narrow};
+ghost use Rattle.edit.specs.Plan.{typed, pasted, once, edited};
+ghost use Rattle.edit.specs.Calls.{lent, sizesOf, stateOf, Edited, Ready};
+ghost use Rattle.inserts.specs.Inserts.{copies as Inserts·copies, emptyIs, insertCall, yankCall, yankPopCall, updateCall};
+use buffer::insert_bytes;
+use changeset::Log;
+use checks::Line;
+use edit::EditAnswer;
+use edit::Own;
+use edit::change;
+use edit::cut_and_put;
+use edit::is_split;
+use edit::put_in;
+use edit::refusal;
+use edit::says;
+use keymap::RepeatCount;
+use records::Format;
+use unicode::check_char;
+use unicode::check_text;
+use unicode::is_alnum;
+use utf8::encode_at;
+use utf8::is_boundary;
+
+// The format of the log's records: numbers of 2 bytes, kinds 1 to 5.
+const NARROW: Format = Format {
+    width: 2,
+    offset: 0,
+};
+
+// Writes n copies of s to the front of out.
+fn repeat(out: &mut [u8], s: &[u8], n: usize)
+    requires { ⌜ length (now s) * n ≤ length (now out) ⌝ }
+    ensures { λ _. ⌜ take (length (now (s .entry)) * n) (now (out .exit)) ≡ Inserts·copies n (now (s .entry)) ⌝ }
+{
+    let mut at = 0;
+    let mut left = n;
+    while 0 < left {
+        insert_bytes(out, at, at, s);
+        at += s.len();
+        left -= 1;
+    }
+}
+
+// A character typed at the cursor, which goes behind it; s are its bytes.
+fn type_char(
+    text: &mut [u8],
+    records: &mut [u8],
+    texts: &mut [u8],
+    line: Line,
+    log: Log,
+    ch: u32,
+    s: &[u8],
+) -> EditAnswer
+    requires { ⌜ Ready narrow (lent (now text) (now records) (now texts) line log) ⌝ }
+    requires { ⌜ isChar catalogue ch ≡ true ⌝ }
+    requires { ⌜ now s ≡ encode ch ⌝ }
+    ensures { λ r. ⌜ Edited narrow (lent (now (text .entry)) (now (records .entry)) (now (texts .entry)) line log)
+        (edited catalogue narrow (sizesOf (lent (now (text .entry)) (now (records .entry)) (now (texts .entry)) line log)) (length (now (text .entry)))
+        (once (typed (line .cursor) ch) (line .cursor + length (encode ch)))
+        (stateOf catalogue narrow (lent (now (text .entry)) (now (records .entry)) (now (texts .entry)) line log)))
+        r (now (text .exit)) (now (records .exit)) (now (texts .exit)) ⌝ }
+{
+    let pos = line.cursor;
+    change(
+        NARROW,
+        text,
+        records,
+        texts,
+        line,
+        log,
+        is_alnum(ch),
+        3,
+        pos,
+        pos,
+        s,
+        pos + s.len(),
+    )
+}
+
+// n copies of a text put in at the cursor: 9 is answered before one is made.
+fn put_copies(
+    text: &mut [u8],
+    records: &mut [u8],
+    texts: &mut [u8],
+    line: Line,
+    log: Log,
+    s: &[u8],
+    n: usize,
+) -> EditAnswer
+    requires { ⌜ Ready narrow (lent (now text) (now records) (now texts) line log) ⌝ }
+    requires { ⌜ isText catalogue (now s) ≡ true ⌝ }
+    requires { ⌜ (length (now s) ≤ 4096) × (n ≤ 65535) ⌝ }
+    ensures { λ r. ⌜ Edited narrow (lent (now (text .entry)) (now (records .entry)) (now (texts .entry)) line log)
+        (edited catalogue narrow (sizesOf (lent (now (text .entry)) (now (records .entry)) (now (texts .entry)) line log)) (length (now (text .entry)))
+        (once (pasted (line .cursor) (Inserts·copies n (now (s .entry)))) (line .cursor + length (Inserts·copies n (now (s .entry)))))
+        (stateOf catalogue narrow (lent (now (text .entry)) (now (records .entry)) (now (texts .entry)) line log)))
+        r (now (text .exit)) (now (records .exit)) (now (texts .exit)) ⌝ }
+{
+    let size = s.len() * n;
+    if text.len() - line.len < size {
+        return says(9, line, log);
+    }
+    let mut all = [0u8; 4096];
+    repeat(&mut all, s, n);
+    let pos = line.cursor;
+    put_in(
+        NARROW,
+        text,
+        records,
+        texts,
+        line,
+        log,
+        pos,
+        &all[..size],
+        pos + size,
+    )
+}
+
+// Wrong answers ruled out: n = 0 that keeps the redo list; two characters merged as if they were typed.
+pub fn insert(
+    text: &mut [u8],
+    records: &mut [u8],
+    texts: &mut [u8],
+    line: Line,
+    log: Log,
+    ch: u32,
+    n: RepeatCount,
+) -> EditAnswer
+    ensures { λ r. ⌜ Edited narrow (lent (now (text .entry)) (now (records .entry)) (now (texts .entry)) line log)
+        (insertCall catalogue narrow (lent (now (text .entry)) (now (records .entry)) (now (texts .entry)) line log) ch n)
+        r (now (text .exit)) (now (records .exit)) (now (texts .exit)) ⌝ }
+{
+    let own = Own {
+        sizes: false,
+        code: false,
+        foreign: !check_char(ch),
+        place: false,
+        split: false,
+    };
+    let k = refusal(NARROW, text, records, texts, line, log, own);
+    if k != 0 {
+        return says(k, line, log);
+    }
+    let mut buf = [0u8; 4];
+    let size = encode_at(&mut buf, 0, ch);
+    let s = &buf[..size];
+    if n == 1 {
+        return type_char(text, records, texts, line, log, ch, s);
+    }
+    put_copies(text, records, texts, line, log, s, n as usize)
+}
+
+// Wrong answers ruled out: an empty text answered 0; 10 where n copies pass the text's room (9).
+pub fn yank(
+    text: &mut [u8],
+    records: &mut [u8],
+    texts: &mut [u8],
+    line: Line,
+    log: Log,
+    buf: &[u8],
+    n: RepeatCount,
+) -> EditAnswer
+    ensures { λ r. ⌜ Edited narrow (lent (now (text .entry)) (now (records .entry)) (now (texts .entry)) line log)
+        (yankCall catalogue narrow (lent (now (text .entry)) (now (records .entry)) (now (texts .entry)) line log) (now (buf .entry)) n)
+        r (now (text .exit)) (now (records .exit)) (now (texts .exit)) ⌝ }
+{
+    let own = Own {
+        sizes: text.len() < buf.len(),
+        code: false,
+        foreign: !check_text(buf),
+        place: false,
+        split: false,
+    };
+    let k = refusal(NARROW, text, records, texts, line, log, own);
+    if k != 0 {
+        return says(k, line, log);
+    }
+    if buf.len() == 0 {
+        return says(1, line, log);
+    }
+    put_copies(text, records, texts, line, log, buf, n as usize)
+}
+
+// The place so many bytes before another, 0 where there are not so many.
+fn back(pos: usize, size: usize) -> usize
+    ensures { λ r. ⌜ r ≡ pos - size ⌝ }
+{
+    if pos < size {
+        return 0;
+    }
+    pos - size
+}
+
+// The number of a call whose text may be empty.
+fn empty_is(s: &[u8]) -> u32
+    ensures { λ r. ⌜ r ≡ emptyIs (now (s .entry)) ⌝ }
+{
+    if s.len() == 0 {
+        return 1;
+    }
+    0
+}
+
+// Wrong answers ruled out: an empty text that leaves the old one; a size over the cursor held at 0.
+pub fn yank_pop(
+    text: &mut [u8],
+    records: &mut [u8],
+    texts: &mut [u8],
+    line: Line,
+    log: Log,
+    size: usize,
+    buf: &[u8],
+) -> EditAnswer
+    ensures { λ r. ⌜ Edited narrow (lent (now (text .entry)) (now (records .entry)) (now (texts .entry)) line log)
+        (yankPopCall catalogue narrow (lent (now (text .entry)) (now (records .entry)) (now (texts .entry)) line log) size (now (buf .entry)))
+        r (now (text .exit)) (now (records .exit)) (now (texts .exit)) ⌝ }
+{
+    let len = line.len;
+    let pos = line.cursor;
+    let at = back(pos, size);
+    let split = is_split(text, len, at);
+    let own = Own {
+        sizes: text.len() < buf.len(),
+        code: false,
+        foreign: !check_text(buf),
+        place: pos < size,
+        split,
+    };
+    let k = refusal(NARROW, text, records, texts, line, log, own);
+    if k != 0 {
+        return says(k, line, log);
+    }
+    let number = empty_is(buf);
+    cut_and_put(
+        NARROW,
+        text,
+        records,
+        texts,
+        line,
+        log,
+        at,
+        pos,
+        at,
+        buf,
+        at + buf.len(),
+        number,
+    )
+}
+
+// Wrong answers ruled out: the new cursor tried against the old text; the old text and the new one in one Replace record.
+pub fn update(
+    text: &mut [u8],
+    records: &mut [u8],
+    texts: &mut [u8],
+    line: Line,
+    log: Log,
+    buf: &[u8],
+    pos: usize,
+) -> EditAnswer
+    ensures { λ r. ⌜ Edited narrow (lent (now (text .entry)) (now (records .entry)) (now (texts .entry)) line log)
+        (updateCall catalogue narrow (lent (now (text .entry)) (now (records .entry)) (now (texts .entry)) line log) (now (buf .entry)) pos)
+        r (now (text .exit)) (now (records .exit)) (now (texts .exit)) ⌝ }
+{
+    let own = Own {
+        sizes: text.len() < buf.len(),
+        code: false,
+        foreign: !check_text(buf),
+        place: buf.len() < pos,
+        split: !is_boundary(buf, pos),
+    };
+    let k = refusal(NARROW, text, records, texts, line, log, own);
+    if k != 0 {
+        return says(k, line, log);
+    }
+    let len = line.len;
+    cut_and_put(
+        NARROW,
+        text,
+        records,
+        texts,
+        line,
+        log,
+        0,
+        len,
+        0,
+        buf,
+        pos,
+        0,
+    )
+}

@@ -1,0 +1,77 @@
+-- Where a call begins: the cursor, and the place from which transpose_chars cuts. Assumes nothing.
+use Prim.Native.Nat.{ℕ, _≤_}
+use native.Mathlib.Omega.{arith}
+use mathlib.Core.Path.{_≡_, sym, ap, subst, _∙_}
+use mathlib.Core.Bool.{true, false, _||_}
+use mathlib.Core.List.{List}
+use lib.Dec.{eqb, ltb}
+use lib.ListN.{length}
+use borrow.Author.Tests.{ltb-false}
+use Rattle.lists.proofs.Bools.{by-test, or-none}
+use Rattle.utf8.specs.Chars.{valid}
+use Rattle.unicode.specs.Repertoire.{Repertoire}
+use Rattle.unicode.specs.Text.{isText}
+use Rattle.unicode.proofs.Text.{text-valid}
+use Rattle.cluster.specs.Clusters.{clustersOf}
+use Rattle.motion.specs.declared.Found.{Found}
+use Rattle.motion.specs.declared.Found.the-variants.{At, Nothing}
+use Rattle.motion.specs.Trim.{skipWhitespace}
+use Rattle.motion.proofs.Places.{skip-place}
+use Rattle.journal.specs.Layout.{Format}
+use Rattle.edit.specs.Plan.{In, nothing}
+use Rattle.edit.specs.Calls.{Lent, textOf, Ready}
+use Rattle.edit.proofs.Answers.{length-kept}
+use Rattle.rewrites.specs.declared.WordAction.{WordAction}
+use Rattle.rewrites.specs.declared.Words.{Words}
+use Rattle.rewrites.specs.Rewrites.{orStay, backFrom, wordsOn, startsAt, exchange, exchangeAt, casePlan, casedFrom, editWordPlan, wordsAround, wordsPlan, isOne, wordsOr, transposeWordsPlan, Apart}
+use Rattle.rewrites.proofs.Stays.{back-place}
+use Rattle.rewrites.proofs.Four.{around-apart}
+
+-- the lent cursor
+pub cursor-in : (F : Format) (l : Lent) → Ready F l → In (textOf l) (l .line .cursor) (l .line .cursor)
+cursor-in F l h = (omega arith, omega (arith, length-kept F l h, h .within), h .edge, h .edge)
+
+module _ (R : Repertoire) (t : List ℕ) (v : valid t ≡ true) (pos : ℕ) (i : In t pos pos) where
+  start-in : In t (orStay pos (startsAt R t pos)) (orStay pos (startsAt R t pos))
+  unfolding startsAt
+  start-in =
+      by-test (In t (orStay pos (startsAt R t pos)) (orStay pos (startsAt R t pos))) (eqb pos 0 || ltb (length (clustersOf R t)) 2) (λ e. rw e i)
+      (λ e. by-test (In t (orStay pos (startsAt R t pos)) (orStay pos (startsAt R t pos))) (eqb pos (length t)) (λ f. rw (e, f) back) (λ f. rw (e, f) i))
+    where
+      back : In t (backFrom R t pos) (backFrom R t pos)
+      back = let b = back-place R t v pos (i .2) (i .1) in let c = b .0 in let d = i .1 in (omega arith, omega arith, b .1, b .1)
+
+  pub starts-in : (f : Found) (p : ℕ) → f ≡ startsAt R t pos → f ≡ At p → In t p p
+  starts-in f p e g = subst (λ (x : Found). In t (orStay pos x) (orStay pos x)) (sym e ∙ g) start-in
+
+-- the plan by what was found
+module _ (R : Repertoire) (t : List ℕ) (pos : ℕ) (f : Found) (e : f ≡ startsAt R t pos) where
+  pub plan-at : (p : ℕ) → f ≡ At p → exchange R t p ≡ exchangeAt R t pos (startsAt R t pos)
+  plan-at p g = sym (ap (exchangeAt R t pos) (sym e ∙ g))
+
+  pub plan-none : f ≡ Nothing → nothing pos ≡ exchangeAt R t pos (startsAt R t pos)
+  plan-none g = sym (ap (exchangeAt R t pos) (sym e ∙ g))
+
+module _ (R : Repertoire) (t : List ℕ) (w : WordAction) (pos : ℕ) (f : Found) (e : f ≡ skipWhitespace R t pos) where
+  pub case-at : (p : ℕ) → f ≡ At p → casePlan R t w p (wordsOn R t 1 p) ≡ editWordPlan R t w pos
+  case-at p g = sym (ap (casedFrom R t w pos) (sym e ∙ g))
+
+  pub case-none : f ≡ Nothing → nothing pos ≡ editWordPlan R t w pos
+  case-none g = sym (ap (casedFrom R t w pos) (sym e ∙ g))
+
+  pub skip-in : isText R t ≡ true → In t pos pos → (p : ℕ) → f ≡ At p → In t p p
+  skip-in is i p g = let k = skip-place R t pos p (text-valid R t is) (i .2) (i .1) (sym e ∙ g) in (omega arith, k .1, k .2, k .2)
+
+-- the words that transpose_words found
+module _ (R : Repertoire) (t : List ℕ) (n pos : ℕ) (w : Words) (e : w ≡ wordsAround R t n pos) where
+  pub words-one : isOne w ≡ true → nothing (w .end1) ≡ transposeWordsPlan R t n pos
+  words-one h = sym (rw h) ∙ ap (wordsOr t) e
+
+  pub words-two : isOne w ≡ false → wordsPlan t w ≡ transposeWordsPlan R t n pos
+  words-two h = sym (rw h) ∙ ap (wordsOr t) e
+
+  pub words-apart : valid t ≡ true → In t pos pos → isOne w ≡ false → Apart t w
+  words-apart v i h =
+      subst (Apart t) (sym e)
+      (around-apart R t v n pos i
+      (subst (λ (x : Words). x .end1 ≤ x .beg2) e (ltb-false (w .beg2) (w .end1) (or-none (eqb (w .beg1) (w .beg2)) (ltb (w .beg2) (w .end1)) h .1))))

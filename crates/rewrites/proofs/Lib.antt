@@ -1,0 +1,10 @@
+pub mod Stays
+pub mod Cased
+pub mod Suits
+pub mod Copied
+pub mod Exchange
+pub mod Recased
+pub mod Four
+pub mod FourRoom
+pub mod Begins
+pub mod Plans

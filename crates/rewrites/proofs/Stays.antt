@@ -1,0 +1,124 @@
+-- A movement's place, or the place where it began: where they stand in the text. Assumes nothing.
+use Prim.Native.Nat.{ℕ, _≤_, _<_}
+use native.Mathlib.Omega.{arith}
+use mathlib.Core.Path.{_≡_, refl, sym, ap, _∙_}
+use mathlib.Core.Bool.{Bool, true, false, cond, _||_}
+use mathlib.Core.List.{List, [], _∷_}
+use lib.Dec.{eqb, ltb, leb}
+use lib.ListN.{length, drop, length-drop, drop-of-length-le}
+use borrow.Author.Tests.{lt-leb, le-leb, le-ltb}
+use Rattle.lists.specs.Lists.{headOr}
+use Rattle.lists.proofs.Bools.{by-less}
+use Rattle.utf8.specs.Chars.{valid, boundary, charsFrom}
+use Rattle.utf8.proofs.Append.{valid-cut}
+use Rattle.unicode.specs.Repertoire.{Repertoire}
+use Rattle.cluster.specs.Clusters.{clusters, clustersOf, bytes}
+use Rattle.cluster.specs.Facts.{facts}
+use Rattle.cluster.specs.declared.Cluster.{Cluster}
+use Rattle.cluster.proofs.Parts.{first-cut}
+use Rattle.cluster.proofs.Steps.{firstCluster, step-some, step-none}
+use Rattle.keymap.specs.declared.Word.the-variants.{Emacs}
+use Rattle.keymap.specs.declared.At.the-variants.{AfterEnd}
+use Rattle.motion.specs.Steps.{nextPos, prevPos}
+use Rattle.motion.specs.declared.Found.{Found}
+use Rattle.motion.specs.declared.Found.the-variants.{At, Nothing}
+use Rattle.motion.proofs.Places.{next-pos-place, prev-pos-place}
+use Rattle.words.specs.Words.{prevWordPos, nextWordPos}
+use Rattle.words.proofs.Places.{next-word-place, prev-word-place}
+use Rattle.rewrites.specs.Rewrites.{orStay, onFrom, backFrom, wordsOn, wordsBack, startsAt}
+
+-- ---- found, or not
+module _ (pos : ℕ) (f g : Found) (e : f ≡ g) where
+  pub stay-at : (p : ℕ) → f ≡ At p → p ≡ orStay pos g
+  stay-at p h = sym (ap (orStay pos) (sym e ∙ h))
+
+  pub stay-none : f ≡ Nothing → pos ≡ orStay pos g
+  stay-none h = sym (ap (orStay pos) (sym e ∙ h))
+
+-- ---- places of a text
+module _ (R : Repertoire) (t : List ℕ) (v : valid t ≡ true) (pos : ℕ) (b : boundary t pos ≡ true) (h : pos ≤ length t) where
+  -- at or after where it began
+  abbrev After : ℕ → Type 0
+  After p = (pos ≤ p) × (p ≤ length t) × (boundary t p ≡ true)
+
+  abbrev Before : ℕ → Type 0
+  Before p = (p ≤ pos) × (boundary t p ≡ true)
+
+  after : (f : Found) → ((p : ℕ) → f ≡ At p → After p) → After (orStay pos f)
+  after (At p) k = k p refl
+  after Nothing k = (omega arith, h, b)
+
+  before : (f : Found) → ((p : ℕ) → f ≡ At p → Before p) → Before (orStay pos f)
+  before (At p) k = k p refl
+  before Nothing k = (omega arith, b)
+
+  pub on-place : After (onFrom R t pos)
+  on-place = after (nextPos R t pos 1) (λ p e. next-pos-place R t pos 1 p v b h e)
+
+  pub back-place : Before (backFrom R t pos)
+  back-place = before (prevPos R t pos 1) (λ p e. prev-pos-place R t pos 1 p v b h e)
+
+  pub words-on-place : (n : ℕ) → After (wordsOn R t n pos)
+  words-on-place n = after (nextWordPos R t pos AfterEnd Emacs n) (λ p e. next-word-place R t pos AfterEnd Emacs n p v b h e)
+
+  pub words-back-place : (n : ℕ) → Before (wordsBack R t n pos)
+  words-back-place n = before (prevWordPos R t pos Emacs n) (λ p e. prev-word-place R t pos Emacs n p v b h e)
+
+-- ---- fewer than two clusters: the first one is the whole text
+module _ (R : Repertoire) (t : List ℕ) where
+  abbrev m : ℕ
+  m = bytes (firstCluster R t)
+
+  nothing-left : clustersOf R [] ≡ []
+  unfolding clusters charsFrom
+  nothing-left = refl
+
+  none-two : m ≡ 0 → length t ≤ m → leb (length t) m ≡ ltb (length (clustersOf R t)) 2
+  none-two z l = le-leb (length t) m l ∙ sym (ap (λ (ks : List (List ℕ)). ltb (length ks) 2) (step-none R t z))
+
+  one-two : 0 < m → length t ≤ m → leb (length t) m ≡ ltb (length (clustersOf R t)) 2
+  one-two h l =
+      let d : drop m t ≡ [] = drop-of-length-le t {i = m} l in
+      le-leb (length t) m l
+      ∙ sym (ap (λ (ks : List (List ℕ)). ltb (length ks) 2) (step-some R t h ∙ ap (λ (x : List ℕ). firstCluster R t ∷ clustersOf R x) d ∙ ap (λ (ks : List (List ℕ)). firstCluster R t ∷ ks) nothing-left))
+
+  more-two : valid t ≡ true → m < length t → leb (length t) m ≡ ltb (length (clustersOf R t)) 2
+  more-two v l = go (clustersOf R (drop m t)) refl
+    where
+      some : 0 < m
+      some = first-cut R t v (omega arith) .some
+
+      next : 0 < bytes (firstCluster R (drop m t))
+      next =
+          let c = first-cut R t v (omega arith) .cut in
+          first-cut R (drop m t) (sym (valid-cut t m (c .edge)) ∙ v) (simp length-drop (omega arith)) .some
+
+      go : (ks : List (List ℕ)) → clustersOf R (drop m t) ≡ ks → leb (length t) m ≡ ltb (length (clustersOf R t)) 2
+      go [] e = absurd (omega (arith, next, ap (λ (x : List (List ℕ)). bytes (headOr [] x)) e))
+      go (k ∷ ks) e =
+          let s : clustersOf R t ≡ firstCluster R t ∷ (k ∷ ks) = step-some R t some ∙ ap (λ (x : List (List ℕ)). firstCluster R t ∷ x) e in
+          let n : 2 ≤ length (firstCluster R t ∷ (k ∷ ks)) = omega arith in
+          lt-leb (length t) m l ∙ sym (ap (λ (x : List (List ℕ)). ltb (length x) 2) s ∙ le-ltb (length (firstCluster R t ∷ (k ∷ ks))) 2 n)
+
+  pub under-two : valid t ≡ true → (k : Cluster) → k ≡ facts R (firstCluster R t) → leb (length t) (k .len) ≡ ltb (length (clustersOf R t)) 2
+  under-two v k e =
+      ap (λ (x : Cluster). leb (length t) (x .len)) e
+      ∙ by-less (leb (length t) m ≡ ltb (length (clustersOf R t)) 2) m (length t) (λ l. more-two v l)
+      (λ l. by-less (leb (length t) m ≡ ltb (length (clustersOf R t)) 2) 0 m (λ h. one-two h l) (λ h. none-two (omega arith) l))
+
+-- ---- where transpose_chars begins
+module _ (R : Repertoire) (t : List ℕ) (pos : ℕ) where
+  pub starts-nowhere : (x : Bool) → x ≡ ltb (length (clustersOf R t)) 2 → (eqb pos 0 || x) ≡ true → Nothing ≡ startsAt R t pos
+  unfolding startsAt
+  starts-nowhere x e h = sym (ap (λ (y : Bool). cond (eqb pos 0 || y) Nothing (At (cond (eqb pos (length t)) (backFrom R t pos) pos))) (sym e) ∙ rw h)
+
+  module _ (x : Bool) (e : x ≡ ltb (length (clustersOf R t)) 2) (h : (eqb pos 0 || x) ≡ false) where
+    rest : startsAt R t pos ≡ At (cond (eqb pos (length t)) (backFrom R t pos) pos)
+    unfolding startsAt
+    rest = ap (λ (y : Bool). cond (eqb pos 0 || y) Nothing (At (cond (eqb pos (length t)) (backFrom R t pos) pos))) (sym e) ∙ rw h
+
+    pub starts-back : eqb pos (length t) ≡ true → (p : ℕ) → p ≡ backFrom R t pos → At p ≡ startsAt R t pos
+    starts-back f p g = sym (rest ∙ rw (f, g))
+
+    pub starts-here : eqb pos (length t) ≡ false → At pos ≡ startsAt R t pos
+    starts-here f = sym (rest ∙ rw f)

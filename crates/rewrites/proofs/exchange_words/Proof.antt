@@ -1,0 +1,149 @@
+use native.Mathlib.Omega.{arith}
+use mathlib.Core.Path.{sym, ap, _∙_}
+use Prim.Native.Nat.{_≤_}
+use lib.ListN.{length, take}
+use lib.Seq.{length-take-le}
+use denote.Ref.{now}
+use borrow.Author.Tests.{not-true, not-false}
+use Rattle.unicode.specs.Repertoire.{catalogue}
+use Rattle.journal.specs.Layout.{narrow}
+use Rattle.edit.specs.Calls.{lent}
+use Rattle.edit.proofs.Answers.{length-kept, nine, ten}
+use Rattle.edit.proofs.Made.{raw-part}
+use Rattle.edit.proofs.Once.{part-length}
+use Rattle.rewrites.specs.Rewrites.{wordsPlan}
+use Rattle.rewrites.proofs.Copied.{copied}
+use Rattle.rewrites.proofs.Four.{words-long, words-short}
+use Rattle.rewrites.proofs.FourRoom.{text-within, small1, small2}
+use borrow.Author.Needs.{needs}
+use Rattle.rewrites.proofs.exchange_words.Statement.{statement}
+use Rattle.rewrites.proofs.exchange_words.Tie as tie
+
+sub-n1 : tie.Need-sub-n1
+sub-n1 c = search needs
+
+sub-n2 : tie.Need-sub-n2
+sub-n2 c = search needs
+
+sub-left : tie.Need-sub-left
+sub-left c = omega (arith, ((let z : ((c .before .before .before .before .args .w)) .end2 ≤ ((c .before .before .before .before .args .line .len)) = omega (arith, ((c .before .before .before .before .pre .1)) .second .1, ((length-kept narrow (lent (now (c .before .before .before .before .args .text)) (now (c .before .before .before .before .args .records)) (now (c .before .before .before .before .args .texts)) (c .before .before .before .before .args .line) (c .before .before .before .before .args .log)) ((c .before .before .before .before .pre .0))))) in z)))
+
+sub-if1 : tie.Need-sub-if1
+sub-if1 c = search needs
+
+says-requires : tie.Need-says-requires
+says-requires c κs = search needs
+
+returns : tie.Need-returns
+returns c = nine narrow (lent (now (c .before .before .before .before .before .before .args .text)) (now (c .before .before .before .before .before .before .args .records)) (now (c .before .before .before .before .before .before .args .texts)) (c .before .before .before .before .before .before .args .line) (c .before .before .before .before .before .before .args .log)) ((wordsPlan ((take ((c .before .before .before .before .before .before .args .line .len)) (now (c .before .before .before .before .before .before .args .text)))) ((c .before .before .before .before .before .before .args .w)))) _ ((words-long catalogue ((take ((c .before .before .before .before .before .before .args .line .len)) (now (c .before .before .before .before .before .before .args .text)))) (((c .before .before .before .before .before .before .pre .0)) .text) ((c .before .before .before .before .before .before .args .w)) ((c .before .before .before .before .before .before .pre .1)) (length (now (c .before .before .before .before .before .before .args .text))) ((text-within (lent (now (c .before .before .before .before .before .before .args .text)) (now (c .before .before .before .before .before .before .args .records)) (now (c .before .before .before .before .before .before .args .texts)) (c .before .before .before .before .before .before .args .line) (c .before .before .before .before .before .before .args .log)) ((c .before .before .before .before .before .before .pre .0)) ((c .before .before .before .before .before .before .args .w)) ((c .before .before .before .before .before .before .pre .1)))) (omega (arith, c .before .if1 .taken, ((length-kept narrow (lent (now (c .before .before .before .before .before .before .args .text)) (now (c .before .before .before .before .before .before .args .records)) (now (c .before .before .before .before .before .before .args .texts)) (c .before .before .before .before .before .before .args .line) (c .before .before .before .before .before .before .args .log)) ((c .before .before .before .before .before .before .pre .0)))), ((c .before .before .before .before .before .before .pre .0)) .used)))) (c .says .ensures)
+
+words-fit-requires : tie.Need-words-fit-requires
+words-fit-requires c κs = (((c .before .before .before .before .before .before .before .before .pre .0)), (((c .before .before .before .before .before .before .before .before .pre .1)), ((words-short catalogue ((take ((c .before .before .before .before .before .before .before .before .args .line .len)) (now (c .before .before .before .before .before .before .before .before .args .text)))) (((c .before .before .before .before .before .before .before .before .pre .0)) .text) ((c .before .before .before .before .before .before .before .before .args .w)) ((c .before .before .before .before .before .before .before .before .pre .1)) (length (now (c .before .before .before .before .before .before .before .before .args .text))) ((text-within (lent (now (c .before .before .before .before .before .before .before .before .args .text)) (now (c .before .before .before .before .before .before .before .before .args .records)) (now (c .before .before .before .before .before .before .before .before .args .texts)) (c .before .before .before .before .before .before .before .before .args .line) (c .before .before .before .before .before .before .before .before .args .log)) ((c .before .before .before .before .before .before .before .before .pre .0)) ((c .before .before .before .before .before .before .before .before .args .w)) ((c .before .before .before .before .before .before .before .before .pre .1)))) (omega (arith, c .before .before .before .if1 .left, ((length-kept narrow (lent (now (c .before .before .before .before .before .before .before .before .args .text)) (now (c .before .before .before .before .before .before .before .before .args .records)) (now (c .before .before .before .before .before .before .before .before .args .texts)) (c .before .before .before .before .before .before .before .before .args .line) (c .before .before .before .before .before .before .before .before .args .log)) ((c .before .before .before .before .before .before .before .before .pre .0)))), ((c .before .before .before .before .before .before .before .before .pre .0)) .used))))))
+
+says-requires-2 : tie.Need-says-requires-2
+says-requires-2 c κs = search needs
+
+same-length : tie.Need-same-length
+same-length c = search needs
+
+same-length-2 : tie.Need-same-length-2
+same-length-2 c = search needs
+
+same-length-3 : tie.Need-same-length-3
+same-length-3 c = search needs
+
+returns-2 : tie.Need-returns-2
+returns-2 c = ten narrow (lent (now (c .before .before .before .before .before .before .before .before .before .before .before .args .text)) (now (c .before .before .before .before .before .before .before .before .before .before .before .args .records)) (now (c .before .before .before .before .before .before .before .before .before .before .before .args .texts)) (c .before .before .before .before .before .before .before .before .before .before .before .args .line) (c .before .before .before .before .before .before .before .before .before .before .before .args .log)) ((wordsPlan ((take ((c .before .before .before .before .before .before .before .before .before .before .before .args .line .len)) (now (c .before .before .before .before .before .before .before .before .before .before .before .args .text)))) ((c .before .before .before .before .before .before .before .before .before .before .before .args .w)))) _ ((words-short catalogue ((take ((c .before .before .before .before .before .before .before .before .before .before .before .args .line .len)) (now (c .before .before .before .before .before .before .before .before .before .before .before .args .text)))) (((c .before .before .before .before .before .before .before .before .before .before .before .pre .0)) .text) ((c .before .before .before .before .before .before .before .before .before .before .before .args .w)) ((c .before .before .before .before .before .before .before .before .before .before .before .pre .1)) (length (now (c .before .before .before .before .before .before .before .before .before .before .before .args .text))) ((text-within (lent (now (c .before .before .before .before .before .before .before .before .before .before .before .args .text)) (now (c .before .before .before .before .before .before .before .before .before .before .before .args .records)) (now (c .before .before .before .before .before .before .before .before .before .before .before .args .texts)) (c .before .before .before .before .before .before .before .before .before .before .before .args .line) (c .before .before .before .before .before .before .before .before .before .before .before .args .log)) ((c .before .before .before .before .before .before .before .before .before .before .before .pre .0)) ((c .before .before .before .before .before .before .before .before .before .before .before .args .w)) ((c .before .before .before .before .before .before .before .before .before .before .before .pre .1)))) (omega (arith, c .before .before .before .before .before .before .if1 .left, ((length-kept narrow (lent (now (c .before .before .before .before .before .before .before .before .before .before .before .args .text)) (now (c .before .before .before .before .before .before .before .before .before .before .before .args .records)) (now (c .before .before .before .before .before .before .before .before .before .before .before .args .texts)) (c .before .before .before .before .before .before .before .before .before .before .before .args .line) (c .before .before .before .before .before .before .before .before .before .before .before .args .log)) ((c .before .before .before .before .before .before .before .before .before .before .before .pre .0)))), ((c .before .before .before .before .before .before .before .before .before .before .before .pre .0)) .used)))) (sym (c .before .before .words-fit .ensures) ∙ not-true _ (c .before .if2 .taken)) (c .says2 .ensures)
+
+slice-aggregate-insert-bytes : tie.Need-slice-aggregate-insert-bytes
+slice-aggregate-insert-bytes c = search needs
+
+sub-insert-bytes : tie.Need-sub-insert-bytes
+sub-insert-bytes c = search needs
+
+part-insert-bytes-start : tie.Need-part-insert-bytes-start
+part-insert-bytes-start c = search needs
+
+part-insert-bytes-end : tie.Need-part-insert-bytes-end
+part-insert-bytes-end c = omega (arith, ((let z : ((c .before .before .before .before .before .before .before .before .before .before .before .before .args .w)) .end1 ≤ ((c .before .before .before .before .before .before .before .before .before .before .before .before .args .line .len)) = omega (arith, ((c .before .before .before .before .before .before .before .before .before .before .before .before .pre .1)) .first .1, ((length-kept narrow (lent (now (c .before .before .before .before .before .before .before .before .before .before .before .before .args .text)) (now (c .before .before .before .before .before .before .before .before .before .before .before .before .args .records)) (now (c .before .before .before .before .before .before .before .before .before .before .before .before .args .texts)) (c .before .before .before .before .before .before .before .before .before .before .before .before .args .line) (c .before .before .before .before .before .before .before .before .before .before .before .before .args .log)) ((c .before .before .before .before .before .before .before .before .before .before .before .before .pre .0))))) in z)), ((c .before .before .before .before .before .before .before .before .before .before .before .before .pre .0)) .used)
+
+insert-bytes-requires : tie.Need-insert-bytes-requires
+insert-bytes-requires c κs = search needs
+
+slice-aggregate-insert-bytes-2 : tie.Need-slice-aggregate-insert-bytes-2
+slice-aggregate-insert-bytes-2 c = search needs
+
+sub-insert-bytes-2 : tie.Need-sub-insert-bytes-2
+sub-insert-bytes-2 c = search needs
+
+part-insert-bytes-start-2 : tie.Need-part-insert-bytes-start-2
+part-insert-bytes-start-2 c = search needs
+
+part-insert-bytes-end-2 : tie.Need-part-insert-bytes-end-2
+part-insert-bytes-end-2 c = omega (arith, ((let z : ((c .before .before .before .before .before .before .before .before .before .before .before .before .before .before .before .before .before .args .w)) .end2 ≤ ((c .before .before .before .before .before .before .before .before .before .before .before .before .before .before .before .before .before .args .line .len)) = omega (arith, ((c .before .before .before .before .before .before .before .before .before .before .before .before .before .before .before .before .before .pre .1)) .second .1, ((length-kept narrow (lent (now (c .before .before .before .before .before .before .before .before .before .before .before .before .before .before .before .before .before .args .text)) (now (c .before .before .before .before .before .before .before .before .before .before .before .before .before .before .before .before .before .args .records)) (now (c .before .before .before .before .before .before .before .before .before .before .before .before .before .before .before .before .before .args .texts)) (c .before .before .before .before .before .before .before .before .before .before .before .before .before .before .before .before .before .args .line) (c .before .before .before .before .before .before .before .before .before .before .before .before .before .before .before .before .before .args .log)) ((c .before .before .before .before .before .before .before .before .before .before .before .before .before .before .before .before .before .pre .0))))) in z)), ((c .before .before .before .before .before .before .before .before .before .before .before .before .before .before .before .before .before .pre .0)) .used)
+
+insert-bytes-requires-2 : tie.Need-insert-bytes-requires-2
+insert-bytes-requires-2 c κs = (omega arith, omega (arith, ((ap length (sym ((raw-part (now (c .before .before .before .before .before .before .before .before .before .before .before .before .before .before .before .before .before .before .args .text)) ((c .before .before .before .before .before .before .before .before .before .before .before .before .before .before .before .before .before .before .args .line .len)) (((c .before .before .before .before .before .before .before .before .before .before .before .before .before .before .before .before .before .before .args .w)) .beg2) (((c .before .before .before .before .before .before .before .before .before .before .before .before .before .before .before .before .before .before .args .w)) .end2) ((let z : ((c .before .before .before .before .before .before .before .before .before .before .before .before .before .before .before .before .before .before .args .w)) .end2 ≤ ((c .before .before .before .before .before .before .before .before .before .before .before .before .before .before .before .before .before .before .args .line .len)) = omega (arith, ((c .before .before .before .before .before .before .before .before .before .before .before .before .before .before .before .before .before .before .pre .1)) .second .1, ((length-kept narrow (lent (now (c .before .before .before .before .before .before .before .before .before .before .before .before .before .before .before .before .before .before .args .text)) (now (c .before .before .before .before .before .before .before .before .before .before .before .before .before .before .before .before .before .before .args .records)) (now (c .before .before .before .before .before .before .before .before .before .before .before .before .before .before .before .before .before .before .args .texts)) (c .before .before .before .before .before .before .before .before .before .before .before .before .before .before .before .before .before .before .args .line) (c .before .before .before .before .before .before .before .before .before .before .before .before .before .before .before .before .before .before .args .log)) ((c .before .before .before .before .before .before .before .before .before .before .before .before .before .before .before .before .before .before .pre .0))))) in z))))) ∙ part-length catalogue ((take ((c .before .before .before .before .before .before .before .before .before .before .before .before .before .before .before .before .before .before .args .line .len)) (now (c .before .before .before .before .before .before .before .before .before .before .before .before .before .before .before .before .before .before .args .text)))) (((c .before .before .before .before .before .before .before .before .before .before .before .before .before .before .before .before .before .before .args .w)) .beg2) (((c .before .before .before .before .before .before .before .before .before .before .before .before .before .before .before .before .before .before .args .w)) .end2) (((c .before .before .before .before .before .before .before .before .before .before .before .before .before .before .before .before .before .before .pre .1)) .second))), small2 (lent (now (c .before .before .before .before .before .before .before .before .before .before .before .before .before .before .before .before .before .before .args .text)) (now (c .before .before .before .before .before .before .before .before .before .before .before .before .before .before .before .before .before .before .args .records)) (now (c .before .before .before .before .before .before .before .before .before .before .before .before .before .before .before .before .before .before .args .texts)) (c .before .before .before .before .before .before .before .before .before .before .before .before .before .before .before .before .before .before .args .line) (c .before .before .before .before .before .before .before .before .before .before .before .before .before .before .before .before .before .before .args .log)) ((c .before .before .before .before .before .before .before .before .before .before .before .before .before .before .before .before .before .before .pre .0)) ((c .before .before .before .before .before .before .before .before .before .before .before .before .before .before .before .before .before .before .args .w)) ((c .before .before .before .before .before .before .before .before .before .before .before .before .before .before .before .before .before .before .pre .1))))
+
+array-share-prefix-first : tie.Need-array-share-prefix-first
+array-share-prefix-first c = search needs
+
+slice-aggregate-put-words : tie.Need-slice-aggregate-put-words
+slice-aggregate-put-words c = sym (length-take-le _ _ (omega (arith, ((c .before .before .before .before .before .before .before .before .before .before .insert-bytes .kept .0)), small1 (lent (now (c .before .before .before .before .before .before .before .before .before .before .before .before .before .before .before .before .before .before .before .before .before .before .before .before .args .text)) (now (c .before .before .before .before .before .before .before .before .before .before .before .before .before .before .before .before .before .before .before .before .before .before .before .before .args .records)) (now (c .before .before .before .before .before .before .before .before .before .before .before .before .before .before .before .before .before .before .before .before .before .before .before .before .args .texts)) (c .before .before .before .before .before .before .before .before .before .before .before .before .before .before .before .before .before .before .before .before .before .before .before .before .args .line) (c .before .before .before .before .before .before .before .before .before .before .before .before .before .before .before .before .before .before .before .before .before .before .before .before .args .log)) ((c .before .before .before .before .before .before .before .before .before .before .before .before .before .before .before .before .before .before .before .before .before .before .before .before .pre .0)) ((c .before .before .before .before .before .before .before .before .before .before .before .before .before .before .before .before .before .before .before .before .before .before .before .before .args .w)) ((c .before .before .before .before .before .before .before .before .before .before .before .before .before .before .before .before .before .before .before .before .before .before .before .before .pre .1)))))
+
+array-share-prefix-second : tie.Need-array-share-prefix-second
+array-share-prefix-second c = omega (arith, ((c .before .before .before .before .before .insert-bytes2 .kept .0)), small2 (lent (now (c .before .before .before .before .before .before .before .before .before .before .before .before .before .before .before .before .before .before .before .before .before .before .before .before .args .text)) (now (c .before .before .before .before .before .before .before .before .before .before .before .before .before .before .before .before .before .before .before .before .before .before .before .before .args .records)) (now (c .before .before .before .before .before .before .before .before .before .before .before .before .before .before .before .before .before .before .before .before .before .before .before .before .args .texts)) (c .before .before .before .before .before .before .before .before .before .before .before .before .before .before .before .before .before .before .before .before .before .before .before .before .args .line) (c .before .before .before .before .before .before .before .before .before .before .before .before .before .before .before .before .before .before .before .before .before .before .before .before .args .log)) ((c .before .before .before .before .before .before .before .before .before .before .before .before .before .before .before .before .before .before .before .before .before .before .before .before .pre .0)) ((c .before .before .before .before .before .before .before .before .before .before .before .before .before .before .before .before .before .before .before .before .before .before .before .before .args .w)) ((c .before .before .before .before .before .before .before .before .before .before .before .before .before .before .before .before .before .before .before .before .before .before .before .before .pre .1)))
+
+slice-aggregate-put-words-2 : tie.Need-slice-aggregate-put-words-2
+slice-aggregate-put-words-2 c = sym (length-take-le _ _ (omega (arith, ((c .before .before .before .before .before .before .insert-bytes2 .kept .0)), small2 (lent (now (c .before .before .before .before .before .before .before .before .before .before .before .before .before .before .before .before .before .before .before .before .before .before .before .before .before .args .text)) (now (c .before .before .before .before .before .before .before .before .before .before .before .before .before .before .before .before .before .before .before .before .before .before .before .before .before .args .records)) (now (c .before .before .before .before .before .before .before .before .before .before .before .before .before .before .before .before .before .before .before .before .before .before .before .before .before .args .texts)) (c .before .before .before .before .before .before .before .before .before .before .before .before .before .before .before .before .before .before .before .before .before .before .before .before .before .args .line) (c .before .before .before .before .before .before .before .before .before .before .before .before .before .before .before .before .before .before .before .before .before .before .before .before .before .args .log)) ((c .before .before .before .before .before .before .before .before .before .before .before .before .before .before .before .before .before .before .before .before .before .before .before .before .before .pre .0)) ((c .before .before .before .before .before .before .before .before .before .before .before .before .before .before .before .before .before .before .before .before .before .before .before .before .before .args .w)) ((c .before .before .before .before .before .before .before .before .before .before .before .before .before .before .before .before .before .before .before .before .before .before .before .before .before .pre .1)))))
+
+put-words-requires : tie.Need-put-words-requires
+put-words-requires c κs = (((c .before .before .before .before .before .before .before .before .before .before .before .before .before .before .before .before .before .before .before .before .before .before .before .before .before .pre .0)), (((c .before .before .before .before .before .before .before .before .before .before .before .before .before .before .before .before .before .before .before .before .before .before .before .before .before .pre .1)), (((copied _ _ _ (sym ((ap length (sym ((raw-part (now (c .before .before .before .before .before .before .before .before .before .before .before .before .before .before .before .before .before .before .before .before .before .before .before .before .before .args .text)) ((c .before .before .before .before .before .before .before .before .before .before .before .before .before .before .before .before .before .before .before .before .before .before .before .before .before .args .line .len)) (((c .before .before .before .before .before .before .before .before .before .before .before .before .before .before .before .before .before .before .before .before .before .before .before .before .before .args .w)) .beg1) (((c .before .before .before .before .before .before .before .before .before .before .before .before .before .before .before .before .before .before .before .before .before .before .before .before .before .args .w)) .end1) ((let z : ((c .before .before .before .before .before .before .before .before .before .before .before .before .before .before .before .before .before .before .before .before .before .before .before .before .before .args .w)) .end1 ≤ ((c .before .before .before .before .before .before .before .before .before .before .before .before .before .before .before .before .before .before .before .before .before .before .before .before .before .args .line .len)) = omega (arith, ((c .before .before .before .before .before .before .before .before .before .before .before .before .before .before .before .before .before .before .before .before .before .before .before .before .before .pre .1)) .first .1, ((length-kept narrow (lent (now (c .before .before .before .before .before .before .before .before .before .before .before .before .before .before .before .before .before .before .before .before .before .before .before .before .before .args .text)) (now (c .before .before .before .before .before .before .before .before .before .before .before .before .before .before .before .before .before .before .before .before .before .before .before .before .before .args .records)) (now (c .before .before .before .before .before .before .before .before .before .before .before .before .before .before .before .before .before .before .before .before .before .before .before .before .before .args .texts)) (c .before .before .before .before .before .before .before .before .before .before .before .before .before .before .before .before .before .before .before .before .before .before .before .before .before .args .line) (c .before .before .before .before .before .before .before .before .before .before .before .before .before .before .before .before .before .before .before .before .before .before .before .before .before .args .log)) ((c .before .before .before .before .before .before .before .before .before .before .before .before .before .before .before .before .before .before .before .before .before .before .before .before .before .pre .0))))) in z))))) ∙ part-length catalogue ((take ((c .before .before .before .before .before .before .before .before .before .before .before .before .before .before .before .before .before .before .before .before .before .before .before .before .before .args .line .len)) (now (c .before .before .before .before .before .before .before .before .before .before .before .before .before .before .before .before .before .before .before .before .before .before .before .before .before .args .text)))) (((c .before .before .before .before .before .before .before .before .before .before .before .before .before .before .before .before .before .before .before .before .before .before .before .before .before .args .w)) .beg1) (((c .before .before .before .before .before .before .before .before .before .before .before .before .before .before .before .before .before .before .before .before .before .before .before .before .before .args .w)) .end1) (((c .before .before .before .before .before .before .before .before .before .before .before .before .before .before .before .before .before .before .before .before .before .before .before .before .before .pre .1)) .first)))) (c .before .before .before .before .before .before .before .before .before .before .before .insert-bytes .ensures) ∙ sym ((raw-part (now (c .before .before .before .before .before .before .before .before .before .before .before .before .before .before .before .before .before .before .before .before .before .before .before .before .before .args .text)) ((c .before .before .before .before .before .before .before .before .before .before .before .before .before .before .before .before .before .before .before .before .before .before .before .before .before .args .line .len)) (((c .before .before .before .before .before .before .before .before .before .before .before .before .before .before .before .before .before .before .before .before .before .before .before .before .before .args .w)) .beg1) (((c .before .before .before .before .before .before .before .before .before .before .before .before .before .before .before .before .before .before .before .before .before .before .before .before .before .args .w)) .end1) ((let z : ((c .before .before .before .before .before .before .before .before .before .before .before .before .before .before .before .before .before .before .before .before .before .before .before .before .before .args .w)) .end1 ≤ ((c .before .before .before .before .before .before .before .before .before .before .before .before .before .before .before .before .before .before .before .before .before .before .before .before .before .args .line .len)) = omega (arith, ((c .before .before .before .before .before .before .before .before .before .before .before .before .before .before .before .before .before .before .before .before .before .before .before .before .before .pre .1)) .first .1, ((length-kept narrow (lent (now (c .before .before .before .before .before .before .before .before .before .before .before .before .before .before .before .before .before .before .before .before .before .before .before .before .before .args .text)) (now (c .before .before .before .before .before .before .before .before .before .before .before .before .before .before .before .before .before .before .before .before .before .before .before .before .before .args .records)) (now (c .before .before .before .before .before .before .before .before .before .before .before .before .before .before .before .before .before .before .before .before .before .before .before .before .before .args .texts)) (c .before .before .before .before .before .before .before .before .before .before .before .before .before .before .before .before .before .before .before .before .before .before .before .before .before .args .line) (c .before .before .before .before .before .before .before .before .before .before .before .before .before .before .before .before .before .before .before .before .before .before .before .before .before .args .log)) ((c .before .before .before .before .before .before .before .before .before .before .before .before .before .before .before .before .before .before .before .before .before .before .before .before .before .pre .0))))) in z)))))), (((copied _ _ _ (sym ((ap length (sym ((raw-part (now (c .before .before .before .before .before .before .before .before .before .before .before .before .before .before .before .before .before .before .before .before .before .before .before .before .before .args .text)) ((c .before .before .before .before .before .before .before .before .before .before .before .before .before .before .before .before .before .before .before .before .before .before .before .before .before .args .line .len)) (((c .before .before .before .before .before .before .before .before .before .before .before .before .before .before .before .before .before .before .before .before .before .before .before .before .before .args .w)) .beg2) (((c .before .before .before .before .before .before .before .before .before .before .before .before .before .before .before .before .before .before .before .before .before .before .before .before .before .args .w)) .end2) ((let z : ((c .before .before .before .before .before .before .before .before .before .before .before .before .before .before .before .before .before .before .before .before .before .before .before .before .before .args .w)) .end2 ≤ ((c .before .before .before .before .before .before .before .before .before .before .before .before .before .before .before .before .before .before .before .before .before .before .before .before .before .args .line .len)) = omega (arith, ((c .before .before .before .before .before .before .before .before .before .before .before .before .before .before .before .before .before .before .before .before .before .before .before .before .before .pre .1)) .second .1, ((length-kept narrow (lent (now (c .before .before .before .before .before .before .before .before .before .before .before .before .before .before .before .before .before .before .before .before .before .before .before .before .before .args .text)) (now (c .before .before .before .before .before .before .before .before .before .before .before .before .before .before .before .before .before .before .before .before .before .before .before .before .before .args .records)) (now (c .before .before .before .before .before .before .before .before .before .before .before .before .before .before .before .before .before .before .before .before .before .before .before .before .before .args .texts)) (c .before .before .before .before .before .before .before .before .before .before .before .before .before .before .before .before .before .before .before .before .before .before .before .before .before .args .line) (c .before .before .before .before .before .before .before .before .before .before .before .before .before .before .before .before .before .before .before .before .before .before .before .before .before .args .log)) ((c .before .before .before .before .before .before .before .before .before .before .before .before .before .before .before .before .before .before .before .before .before .before .before .before .before .pre .0))))) in z))))) ∙ part-length catalogue ((take ((c .before .before .before .before .before .before .before .before .before .before .before .before .before .before .before .before .before .before .before .before .before .before .before .before .before .args .line .len)) (now (c .before .before .before .before .before .before .before .before .before .before .before .before .before .before .before .before .before .before .before .before .before .before .before .before .before .args .text)))) (((c .before .before .before .before .before .before .before .before .before .before .before .before .before .before .before .before .before .before .before .before .before .before .before .before .before .args .w)) .beg2) (((c .before .before .before .before .before .before .before .before .before .before .before .before .before .before .before .before .before .before .before .before .before .before .before .before .before .args .w)) .end2) (((c .before .before .before .before .before .before .before .before .before .before .before .before .before .before .before .before .before .before .before .before .before .before .before .before .before .pre .1)) .second)))) (c .before .before .before .before .before .before .insert-bytes2 .ensures) ∙ sym ((raw-part (now (c .before .before .before .before .before .before .before .before .before .before .before .before .before .before .before .before .before .before .before .before .before .before .before .before .before .args .text)) ((c .before .before .before .before .before .before .before .before .before .before .before .before .before .before .before .before .before .before .before .before .before .before .before .before .before .args .line .len)) (((c .before .before .before .before .before .before .before .before .before .before .before .before .before .before .before .before .before .before .before .before .before .before .before .before .before .args .w)) .beg2) (((c .before .before .before .before .before .before .before .before .before .before .before .before .before .before .before .before .before .before .before .before .before .before .before .before .before .args .w)) .end2) ((let z : ((c .before .before .before .before .before .before .before .before .before .before .before .before .before .before .before .before .before .before .before .before .before .before .before .before .before .args .w)) .end2 ≤ ((c .before .before .before .before .before .before .before .before .before .before .before .before .before .before .before .before .before .before .before .before .before .before .before .before .before .args .line .len)) = omega (arith, ((c .before .before .before .before .before .before .before .before .before .before .before .before .before .before .before .before .before .before .before .before .before .before .before .before .before .pre .1)) .second .1, ((length-kept narrow (lent (now (c .before .before .before .before .before .before .before .before .before .before .before .before .before .before .before .before .before .before .before .before .before .before .before .before .before .args .text)) (now (c .before .before .before .before .before .before .before .before .before .before .before .before .before .before .before .before .before .before .before .before .before .before .before .before .before .args .records)) (now (c .before .before .before .before .before .before .before .before .before .before .before .before .before .before .before .before .before .before .before .before .before .before .before .before .before .args .texts)) (c .before .before .before .before .before .before .before .before .before .before .before .before .before .before .before .before .before .before .before .before .before .before .before .before .before .args .line) (c .before .before .before .before .before .before .before .before .before .before .before .before .before .before .before .before .before .before .before .before .before .before .before .before .before .args .log)) ((c .before .before .before .before .before .before .before .before .before .before .before .before .before .before .before .before .before .before .before .before .before .before .before .before .before .pre .0))))) in z)))))), (((words-short catalogue ((take ((c .before .before .before .before .before .before .before .before .before .before .before .before .before .before .before .before .before .before .before .before .before .before .before .before .before .args .line .len)) (now (c .before .before .before .before .before .before .before .before .before .before .before .before .before .before .before .before .before .before .before .before .before .before .before .before .before .args .text)))) (((c .before .before .before .before .before .before .before .before .before .before .before .before .before .before .before .before .before .before .before .before .before .before .before .before .before .pre .0)) .text) ((c .before .before .before .before .before .before .before .before .before .before .before .before .before .before .before .before .before .before .before .before .before .before .before .before .before .args .w)) ((c .before .before .before .before .before .before .before .before .before .before .before .before .before .before .before .before .before .before .before .before .before .before .before .before .before .pre .1)) (length (now (c .before .before .before .before .before .before .before .before .before .before .before .before .before .before .before .before .before .before .before .before .before .before .before .before .before .args .text))) ((text-within (lent (now (c .before .before .before .before .before .before .before .before .before .before .before .before .before .before .before .before .before .before .before .before .before .before .before .before .before .args .text)) (now (c .before .before .before .before .before .before .before .before .before .before .before .before .before .before .before .before .before .before .before .before .before .before .before .before .before .args .records)) (now (c .before .before .before .before .before .before .before .before .before .before .before .before .before .before .before .before .before .before .before .before .before .before .before .before .before .args .texts)) (c .before .before .before .before .before .before .before .before .before .before .before .before .before .before .before .before .before .before .before .before .before .before .before .before .before .args .line) (c .before .before .before .before .before .before .before .before .before .before .before .before .before .before .before .before .before .before .before .before .before .before .before .before .before .args .log)) ((c .before .before .before .before .before .before .before .before .before .before .before .before .before .before .before .before .before .before .before .before .before .before .before .before .before .pre .0)) ((c .before .before .before .before .before .before .before .before .before .before .before .before .before .before .before .before .before .before .before .before .before .before .before .before .before .args .w)) ((c .before .before .before .before .before .before .before .before .before .before .before .before .before .before .before .before .before .before .before .before .before .before .before .before .before .pre .1)))) (omega (arith, c .before .before .before .before .before .before .before .before .before .before .before .before .before .before .before .before .before .before .before .before .if1 .left, ((length-kept narrow (lent (now (c .before .before .before .before .before .before .before .before .before .before .before .before .before .before .before .before .before .before .before .before .before .before .before .before .before .args .text)) (now (c .before .before .before .before .before .before .before .before .before .before .before .before .before .before .before .before .before .before .before .before .before .before .before .before .before .args .records)) (now (c .before .before .before .before .before .before .before .before .before .before .before .before .before .before .before .before .before .before .before .before .before .before .before .before .before .args .texts)) (c .before .before .before .before .before .before .before .before .before .before .before .before .before .before .before .before .before .before .before .before .before .before .before .before .before .args .line) (c .before .before .before .before .before .before .before .before .before .before .before .before .before .before .before .before .before .before .before .before .before .before .before .before .before .args .log)) ((c .before .before .before .before .before .before .before .before .before .before .before .before .before .before .before .before .before .before .before .before .before .before .before .before .before .pre .0)))), ((c .before .before .before .before .before .before .before .before .before .before .before .before .before .before .before .before .before .before .before .before .before .before .before .before .before .pre .0)) .used)))), ((sym (c .before .before .before .before .before .before .before .before .before .before .before .before .before .before .before .before .words-fit .ensures) ∙ not-false _ (c .before .before .before .before .before .before .before .before .before .before .before .before .before .before .before .if2 .left))))))))
+
+same-length-4 : tie.Need-same-length-4
+same-length-4 c = search needs
+
+same-length-5 : tie.Need-same-length-5
+same-length-5 c = search needs
+
+same-length-6 : tie.Need-same-length-6
+same-length-6 c = search needs
+
+returns-3 : tie.Need-returns-3
+returns-3 c = search needs
+
+pub exchange-words-spec : {M : Type 1} → statement M
+exchange-words-spec =
+    tie.close
+    (tie.spec
+    sub-n1
+    sub-n2
+    sub-left
+    sub-if1
+    says-requires
+    returns
+    words-fit-requires
+    says-requires-2
+    same-length
+    same-length-2
+    same-length-3
+    returns-2
+    slice-aggregate-insert-bytes
+    sub-insert-bytes
+    part-insert-bytes-start
+    part-insert-bytes-end
+    insert-bytes-requires
+    slice-aggregate-insert-bytes-2
+    sub-insert-bytes-2
+    part-insert-bytes-start-2
+    part-insert-bytes-end-2
+    insert-bytes-requires-2
+    array-share-prefix-first
+    slice-aggregate-put-words
+    array-share-prefix-second
+    slice-aggregate-put-words-2
+    put-words-requires
+    same-length-4
+    same-length-5
+    same-length-6
+    returns-3)

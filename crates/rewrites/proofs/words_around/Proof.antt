@@ -1,0 +1,32 @@
+use native.Mathlib.Omega.{arith}
+use denote.Ref.{now}
+use Rattle.unicode.specs.Repertoire.{catalogue}
+use Rattle.rewrites.proofs.Four.{place-d, place-c, within-a, around-is}
+use borrow.Author.Needs.{needs}
+use Rattle.rewrites.proofs.words_around.Statement.{statement}
+use Rattle.rewrites.proofs.words_around.Tie as tie
+
+words-on-requires : tie.Need-words-on-requires
+words-on-requires c κs = search needs
+
+words-back-requires : tie.Need-words-back-requires
+words-back-requires c κs = place-d catalogue (now (c .before .before .args .s)) (c .before .before .pre .0) (c .before .before .args .n) (c .before .before .args .pos) ((omega arith, c .before .before .pre .2, c .before .before .pre .1, c .before .before .pre .1)) (c .words-on .result) (c .words-on .ensures)
+
+words-back-requires-2 : tie.Need-words-back-requires-2
+words-back-requires-2 c κs = place-c catalogue (now (c .before .before .before .args .s)) (c .before .before .before .pre .0) (c .before .before .before .args .n) (c .before .before .before .args .pos) ((omega arith, c .before .before .before .pre .2, c .before .before .before .pre .1, c .before .before .before .pre .1)) _ (c .before .words-on .ensures) _ (c .words-back .ensures)
+
+words-on-requires-2 : tie.Need-words-on-requires-2
+words-on-requires-2 c κs = within-a catalogue (now (c .before .before .before .before .args .s)) (c .before .before .before .before .pre .0) (c .before .before .before .before .args .n) (c .before .before .before .before .args .pos) ((omega arith, c .before .before .before .before .pre .2, c .before .before .before .before .pre .1, c .before .before .before .before .pre .1)) _ (c .before .before .words-on .ensures) _ (c .before .words-back .ensures) _ (c .words-back2 .ensures)
+
+returns : tie.Need-returns
+returns c = around-is catalogue (now (c .before .before .before .before .before .args .s)) (c .before .before .before .before .before .pre .0) (c .before .before .before .before .before .args .n) (c .before .before .before .before .before .args .pos) ((omega arith, c .before .before .before .before .before .pre .2, c .before .before .before .before .before .pre .1, c .before .before .before .before .before .pre .1)) _ (c .before .before .before .words-on .ensures) _ (c .before .before .words-back .ensures) _ (c .before .words-back2 .ensures) _ (c .words-on2 .ensures)
+
+pub words-around-spec : {M : Type 1} → statement M
+words-around-spec =
+    tie.close
+    (tie.spec
+    words-on-requires
+    words-back-requires
+    words-back-requires-2
+    words-on-requires-2
+    returns)

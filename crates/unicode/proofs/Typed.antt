@@ -1,0 +1,52 @@
+-- One character's bytes in a buffer of their own. Assumes nothing.
+use Prim.Native.Nat.{ℕ, _+_, _≤_}
+use native.Mathlib.Omega.{arith}
+use mathlib.Core.Path.{_≡_, ap, ap₂, _∙_}
+use mathlib.Core.Bool.{true, cond}
+use mathlib.Core.List.{List}
+use lib.Dec.{leb}
+use lib.ListN.{length, take}
+use lib.Seq.{length-sets, sets}
+use borrow.Author.Tests.{le-leb}
+use Rattle.lists.proofs.Bools.{and-both, by-test}
+use Rattle.lists.proofs.Stores.{take-sets}
+use Rattle.utf8.specs.Encode.{scalar, size, encode, fitting, EncodedAt}
+use Rattle.utf8.proofs.Encode.{size-encode}
+use Rattle.unicode.specs.Repertoire.{catalogue}
+use Rattle.unicode.specs.Text.{isText, isChar}
+use Rattle.unicode.proofs.Cased.{char-text}
+use Rattle.unicode.proofs.Catalogue.{catalogue-lawful}
+
+size-max : (c : ℕ) → size c ≤ 4
+unfolding size
+size-max c =
+    by-test (cond (leb c 0x7F) 1 (cond (leb c 0x7FF) 2 (cond (leb c 0xFFFF) 3 4)) ≤ 4) (leb c 0x7F) (λ e. rw e (omega arith))
+    (λ e. by-test (cond (leb c 0x7F) 1 (cond (leb c 0x7FF) 2 (cond (leb c 0xFFFF) 3 4)) ≤ 4) (leb c 0x7FF) (λ f. rw (e, f) (omega arith))
+    (λ f. by-test (cond (leb c 0x7F) 1 (cond (leb c 0x7FF) 2 (cond (leb c 0xFFFF) 3 4)) ≤ 4) (leb c 0xFFFF) (λ g. rw (e, f, g) (omega arith)) (λ g. rw (e, f, g) (omega arith))))
+
+-- four bytes at most
+pub encode-max : (c : ℕ) → length (encode c) ≤ 4
+encode-max c = omega (arith, size-encode c, size-max c)
+
+module _ (c : ℕ) (is : isChar catalogue c ≡ true) where
+  pub typed-text : isText catalogue (encode c) ≡ true
+  unfolding isChar
+  typed-text = char-text catalogue catalogue-lawful c (and-both (scalar c) (catalogue .member c) is .1)
+
+  all-fits : (s : List ℕ) → 4 ≤ length s → fitting (length s) 0 c ≡ encode c
+  unfolding isChar fitting
+  all-fits s h = rw (and-both (scalar c) (catalogue .member c) is .0, le-leb (0 + size c) (length s) (omega (arith, size-max c)))
+
+  module _ (s after : List ℕ) (n : ℕ) (h : 4 ≤ length s) (q : EncodedAt s 0 c after n) where
+    pub typed-size : n ≡ length (encode c)
+    typed-size = q .counted ∙ ap length (all-fits s h)
+
+    pub typed-within : n ≤ length after
+    typed-within = omega (arith, typed-size, size-encode c, size-max c, ap length (q .bytes), length-sets s 0 (fitting (length s) 0 c))
+
+    pub typed-bytes : take n after ≡ encode c
+    typed-bytes =
+        ap₂ take (typed-size ∙ zero-left) (q .bytes ∙ ap (sets s 0) (all-fits s h)) ∙ take-sets s 0 (encode c) (omega (arith, size-encode c, size-max c))
+      where
+        zero-left : length (encode c) ≡ 0 + length (encode c)
+        zero-left = omega arith
