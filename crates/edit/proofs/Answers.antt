@@ -1,5 +1,6 @@
 -- The answer of an edit: refused by a check, passed by all, and a plan that changes nothing. Assumes nothing.
 use Prim.Native.Nat.{ℕ, zero, suc}
+use native.Mathlib.Omega.{arith}
 use mathlib.Core.Bool.{true, false}
 use mathlib.Core.Path.{_≡_, refl, sym, ap, ap₂, subst, _∙_}
 use mathlib.Core.List.{List, map, reverse}
@@ -17,7 +18,7 @@ use Rattle.changeset.specs.Calls as log
 use Rattle.changeset.proofs.Answers.{held-state, held-bytes}
 use Rattle.changeset.proofs.Recorded.{holding, fits-now}
 use Rattle.edit.specs.declared.EditAnswer.{EditAnswer}
-use Rattle.edit.specs.Plan.{Outcome, Plan, called, nothing, textAfter, listAfter, tooLong, edited}
+use Rattle.edit.specs.Plan.{In, Outcome, Plan, called, nothing, textAfter, listAfter, tooLong, edited}
 use Rattle.edit.specs.Calls.{Lent, logLent, textOf, sizesOf, stateOf, says, Stored, Edited, Ready}
 
 module _ (F : Format) (l : Lent) where
@@ -56,6 +57,10 @@ module _ (F : Format) (l : Lent) where
 
     pub length-kept : length (textOf l) ≡ l .line .len
     length-kept = length-take-le (l .line .len) (l .text) (h .used)
+
+    -- the lent cursor stands between characters
+    pub cursor-in : In (textOf l) (l .line .cursor) (l .line .cursor)
+    cursor-in = (omega arith, omega (arith, length-kept, h .within), h .edge, h .edge)
 
     pub state-kept : (p : ℕ) → Stored F (record { text = textOf l; cursor = p; log = v }) (l .text) (l .records) (l .texts)
     state-kept p =

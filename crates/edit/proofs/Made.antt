@@ -56,7 +56,7 @@ module _ (F : Format) (l : log.Lent) (u : List Change) (g : groups.Log) (a : Log
   was-refused h = ⊎-elim (λ w. absurd (h (w .0))) (λ w. w .1) ways
 
 -- ---- a change of nothing
-no-bytes : (s : List ℕ) → length s ≡ 0 → s ≡ []
+pub no-bytes : (s : List ℕ) → length s ≡ 0 → s ≡ []
 no-bytes [] e = refl
 no-bytes (b ∷ s) e = absurd (omega arith)
 

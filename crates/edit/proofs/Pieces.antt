@@ -3,19 +3,19 @@ use Prim.Native.Nat.{ℕ, _+_, _≤_, _<_}
 use native.Mathlib.Omega.{arith}
 use mathlib.Core.Path.{_≡_, refl, sym, ap, _∙_}
 use mathlib.Core.Bool.{Bool, true, false, _&&_}
-use mathlib.Core.List.{List, [], _∷_, _++_, append-nil}
+use mathlib.Core.List.{List, [], _∷_, _++_}
 use lib.Dec.{eqb}
 use lib.ListN.{length, take, drop}
 use lib.Seq.{length-take-le, take-at, drop-at}
-use Rattle.lists.specs.Lists.{all}
-use Rattle.lists.proofs.Bools.{by-test, and-both, never}
-use Rattle.utf8.specs.Chars.{boundary, valid, chars}
-use Rattle.utf8.specs.Encode.{encode, encodeAll, scalar}
+use Rattle.lists.proofs.Bools.{by-test, never}
+use Rattle.utf8.specs.Chars.{boundary, valid}
+use Rattle.utf8.specs.Encode.{encode}
 use Rattle.utf8.proofs.Chars.{size-pos}
 use Rattle.utf8.proofs.Boundary.{boundary-drop, boundary-take}
-use Rattle.utf8.proofs.Encode.{chars-encode, valid-encode, size-encode}
+use Rattle.utf8.proofs.Encode.{size-encode}
 use Rattle.unicode.specs.Repertoire.{Repertoire}
-use Rattle.unicode.specs.Text.{isText, isChar}
+use Rattle.unicode.specs.Text.{isText}
+use Rattle.unicode.proofs.Typed.{char-text}
 use Rattle.unicode.proofs.Text.{text-append, text-cut, text-nil}
 use Rattle.cluster.specs.Clusters.{clustersOf}
 use Rattle.journal.specs.Change.{Edit, insert, delete, replace, Change, edit, place, old, new}
@@ -28,18 +28,6 @@ use Rattle.recording.proofs.Numbers.{tail-records, tail-texts, tail-place}
 use Rattle.recording.proofs.Put.{put, put-records, put-texts, put-good}
 use Rattle.edit.specs.Plan.{Piece, typed, pasted, cutting, swapping, Suits, In, part, splice, made, recorded, blank, notedOr}
 use Rattle.edit.proofs.Once.{part-text, noted-insert, noted-delete}
-
--- ---- a character's bytes are a text
-pub char-text : (R : Repertoire) (c : ℕ) → isChar R c ≡ true → isText R (encode c) ≡ true
-unfolding isChar isText encodeAll
-char-text R c e =
-    let s = and-both (scalar c) (R .member c) e in
-    let one : all scalar (c ∷ []) ≡ true = rw (s .0) in
-    let flat : encodeAll (c ∷ []) ≡ encode c = append-nil (encode c) in
-    let v = ap valid (sym flat) ∙ valid-encode (c ∷ []) one in
-    let k : chars (encode c) ≡ c ∷ [] = ap chars (sym flat) ∙ chars-encode (c ∷ []) one in
-    let m : all (R .member) (c ∷ []) ≡ true = rw (s .1) in
-    rw (v, k) m
 
 -- ---- a piece puts a text in the place of the bytes from its start up to its end
 abbrev pub startOf : Piece → ℕ

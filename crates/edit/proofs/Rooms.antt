@@ -7,7 +7,7 @@ use mathlib.Core.List.{List, [], _∷_}
 use lib.Dec.{eqb, leb}
 use lib.ListN.{length, take}
 use lib.Seq.{length-take-le}
-use borrow.Author.Tests.{eq-eqb, ne-eqb, eqb-true, eqb-false, leb-true, leb-false}
+use borrow.Author.Tests.{eq-eqb, ne-eqb, eqb-true, eqb-false, leb-true}
 use Rattle.lists.proofs.Bools.{by-test, and-both, never}
 use Rattle.unicode.specs.Repertoire.{Repertoire, catalogue}
 use Rattle.unicode.specs.Text.{isText}
@@ -16,7 +16,7 @@ use Rattle.journal.specs.Change.{Edit, insert, delete, Change, place, old, new}
 use Rattle.journal.specs.Layout.{Format, top, AllGood}
 use Rattle.journal.specs.Recording.{isSingle}
 use Rattle.journal.specs.Undo.{undoRecords, undoTexts, Sizes, fits}
-use Rattle.journal.proofs.Undo.{fits-yes, full-records, full-texts}
+use Rattle.journal.proofs.Undo.{fits-yes}
 use Rattle.recording.specs.Tails.{kindNumber, tailOf, TailAt, noted, Narrow}
 use Rattle.recording.specs.declared.Tail.{Tail}
 use Rattle.recording.specs.declared.Noted.{Noted}
@@ -30,7 +30,8 @@ use Rattle.edit.specs.Calls.{Lent, logLent, sizesOf, stateOf, Ready}
 use Rattle.edit.specs.Room.{roomFor, tailCut, tailPut, roomCut, roomPut}
 use Rattle.edit.proofs.Once.{part-length}
 use Rattle.edit.proofs.Pieces.{recorded-as}
-use Rattle.edit.proofs.Steps.{records-grow, texts-grow, good-step}
+use Rattle.edit.proofs.Made.{no-bytes}
+use Rattle.edit.proofs.Steps.{records-grow, texts-grow, good-step, fits-lengths}
 
 -- ---- the definitions by their tests
 module _ (F : Format) (j : Bool) (a b : ℕ) (t : Tail) where
@@ -72,10 +73,6 @@ module _ (F : Format) (z : Sizes) (r : Room) where
 module _ (F : Format) where
   tail-noted : (j : Bool) (x : Edit) (u : List Change) → blank x ≡ false → noted F j (kindNumber x) (place x) (length (old x)) (length (new x)) (tailOf F u) .tail ≡ tailOf F (notedOr j x u)
   tail-noted j x u e = put F j x u .tail ∙ ap (tailOf F) (sym (rw e))
-
-  no-bytes : (s : List ℕ) → length s ≡ 0 → s ≡ []
-  no-bytes [] e = refl
-  no-bytes (b ∷ s) e = absurd (omega arith)
 
   some-cut : (p : ℕ) (s : List ℕ) → (length s ≡ 0 → ⊥) → blank (delete p s) ≡ false
   some-cut p [] h = absurd (h refl)
@@ -119,19 +116,10 @@ pub record Roomy (R : Repertoire) (F : Format) (z : Sizes) (u : List Change) (r 
   pub good : length (undoTexts u) < top (F .width) → AllGood R (F .width) u
 
 module _ (R : Repertoire) (F : Format) (z : Sizes) (w : z .texts < top (F .width)) where
-  -- check 10 by the two lengths
-  lengths : (y : List Change) → (length (undoTexts y) < top (F .width) → AllGood R (F .width) y) → fits F z y ≡ (leb (length (undoRecords F y)) (z .records) && leb (length (undoTexts y)) (z .texts))
-  lengths y g =
-      by-test (fits F z y ≡ (leb (length (undoRecords F y)) (z .records) && leb (length (undoTexts y)) (z .texts))) (leb (length (undoRecords F y)) (z .records))
-      (λ e. by-test (fits F z y ≡ (leb (length (undoRecords F y)) (z .records) && leb (length (undoTexts y)) (z .texts))) (leb (length (undoTexts y)) (z .texts))
-      (λ f. let i = leb-true (length (undoTexts y)) (z .texts) f in rw (e, f) (fits-yes F z y R (g (omega arith)) (leb-true _ _ e) i))
-      (λ f. rw (e, f) (full-texts F z y (leb-false _ _ f))))
-      (λ e. rw e (full-records F z y (leb-false _ _ e)))
-
   -- the dry run's numbers are small
   pub roomy-narrow : (u : List Change) (r : Room) (o n : ℕ) → Roomy R F z u r → 0 < top (F .width) → top (F .width) ≤ 4294967296 → z .records ≤ 32768 → o ≤ 4096 → n ≤ 4096 → r .fits ≡ true → Narrow (r .tail) o n
   roomy-narrow u r o n q a b c d e f =
-      let g = and-both (leb (length (undoRecords F u)) (z .records)) (leb (length (undoTexts u)) (z .texts)) (sym (lengths u (q .good)) ∙ sym (q .fit) ∙ f) in
+      let g = and-both (leb (length (undoRecords F u)) (z .records)) (leb (length (undoTexts u)) (z .texts)) (sym (fits-lengths R F z w u (q .good)) ∙ sym (q .fit) ∙ f) in
       let h = leb-true (length (undoRecords F u)) (z .records) (g .0) in
       let i = leb-true (length (undoTexts u)) (z .texts) (g .1) in
       subst (λ (t : Tail). Narrow t o n) (sym (q .tail f))
@@ -157,7 +145,7 @@ module _ (R : Repertoire) (F : Format) (z : Sizes) (w : z .texts < top (F .width
     shut e =
         by-test (fits F z y ≡ false) (fits F z y)
         (λ f.
-        let g = and-both (leb (length (undoRecords F y)) (z .records)) (leb (length (undoTexts y)) (z .texts)) (sym (lengths y next-good) ∙ f) in
+        let g = and-both (leb (length (undoRecords F y)) (z .records)) (leb (length (undoTexts y)) (z .texts)) (sym (fits-lengths R F z w y next-good) ∙ f) in
         let a = leb-true (length (undoRecords F y)) (z .records) (g .0) in
         let b = leb-true (length (undoTexts y)) (z .texts) (g .1) in
         let c = fits-yes F z u R (q .good (omega (arith, texts-grow R F x t u))) (omega (arith, records-grow R F x t u)) (omega (arith, texts-grow R F x t u)) in
@@ -172,7 +160,7 @@ module _ (R : Repertoire) (F : Format) (z : Sizes) (w : z .texts < top (F .width
         record {
           fit =
               ap (λ (n : Tail). leb (n .records) (z .records) && leb (n .texts) (z .texts)) e
-              ∙ ap₂ (λ (a b : ℕ). leb a (z .records) && leb b (z .texts)) (tail-records F y) (tail-texts F y) ∙ sym (lengths y next-good);
+              ∙ ap₂ (λ (a b : ℕ). leb a (z .records) && leb b (z .texts)) (tail-records F y) (tail-texts F y) ∙ sym (fits-lengths R F z w y next-good);
           tail = λ f. e;
           good = next-good;
         }

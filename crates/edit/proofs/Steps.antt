@@ -17,6 +17,16 @@ use Rattle.journal.proofs.Undo.{fits-yes, full-records, full-texts}
 use Rattle.edit.specs.Plan.{Piece, Suits, AllSuit, made, recorded, textAfter, listAfter, tooLong}
 use Rattle.edit.proofs.Pieces.{editAt, joinsAt, place-at, recorded-as, ok-at, suits-in, made-text, more-records, more-texts, more-good}
 
+-- check 10 by the two lengths, of a list whose numbers fit their bytes where its texts are not too long
+pub fits-lengths : (R : Repertoire) (F : Format) (z : Sizes) → z .texts < top (F .width) → (y : List Change) → (length (undoTexts y) < top (F .width) → AllGood R (F .width) y)
+    → fits F z y ≡ (leb (length (undoRecords F y)) (z .records) && leb (length (undoTexts y)) (z .texts))
+fits-lengths R F z w y g =
+    by-test (fits F z y ≡ (leb (length (undoRecords F y)) (z .records) && leb (length (undoTexts y)) (z .texts))) (leb (length (undoRecords F y)) (z .records))
+    (λ e. by-test (fits F z y ≡ (leb (length (undoRecords F y)) (z .records) && leb (length (undoTexts y)) (z .texts))) (leb (length (undoTexts y)) (z .texts))
+    (λ f. let i = leb-true (length (undoTexts y)) (z .texts) f in rw (e, f) (fits-yes F z y R (g (omega arith)) (leb-true _ _ e) i))
+    (λ f. rw (e, f) (full-texts F z y (leb-false _ _ f))))
+    (λ e. rw e (full-records F z y (leb-false _ _ e)))
+
 module _ (R : Repertoire) where
   -- the text afterwards is a text
   pub text-after : (xs : List Piece) (t : List ℕ) → isText R t ≡ true → AllSuit R xs t → isText R (textAfter xs t) ≡ true
@@ -66,15 +76,7 @@ module _ (R : Repertoire) where
       module _ (z : Sizes) (k : z .texts < top (F .width)) where
         pub room-is : (xs : List Piece) (t : List ℕ) (u : List Change) → AllSuit R xs t → isText R t ≡ true → length t ≤ C → tooLong C xs t ≡ false → AllGood R (F .width) u
             → fits F z (listAfter R xs t u) ≡ (leb (length (undoRecords F (listAfter R xs t u))) (z .records) && leb (length (undoTexts (listAfter R xs t u))) (z .texts))
-        room-is xs t u h v c n g =
-            let y = listAfter R xs t u in
-            by-test (fits F z y ≡ (leb (length (undoRecords F y)) (z .records) && leb (length (undoTexts y)) (z .texts))) (leb (length (undoRecords F y)) (z .records))
-            (λ e. by-test (fits F z y ≡ (leb (length (undoRecords F y)) (z .records) && leb (length (undoTexts y)) (z .texts))) (leb (length (undoTexts y)) (z .texts))
-            (λ f.
-            let i = leb-true _ _ f in
-            rw (e, f) (fits-yes F z y R (good-after xs t u h v c n g (omega arith)) (leb-true _ _ e) i))
-            (λ f. rw (e, f) (full-texts F z y (leb-false _ _ f))))
-            (λ e. rw e (full-records F z y (leb-false _ _ e)))
+        room-is xs t u h v c n g = fits-lengths R F z k (listAfter R xs t u) (λ l. good-after xs t u h v c n g l)
 
         -- where there is room for all, there is for the first
         pub room-first : (x : Piece) (xs : List Piece) (t : List ℕ) (u : List Change) → Suits R x t → isText R t ≡ true → length t ≤ C → AllGood R (F .width) u

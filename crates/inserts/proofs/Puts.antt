@@ -5,13 +5,12 @@ use mathlib.Core.Path.{_≡_, refl, sym, ap, ap₂, subst, _∙_}
 use mathlib.Core.Bool.{Bool, false}
 use mathlib.Core.List.{List, []}
 use lib.ListN.{length, take, drop}
-use lib.Seq.{length-take-le}
 use Rattle.unicode.specs.Repertoire.{catalogue}
 use Rattle.journal.specs.Change.{insert}
 use Rattle.journal.specs.Layout.{narrow}
 use Rattle.changeset.specs.Calls.{Numbered}
 use Rattle.edit.specs.declared.EditAnswer.{EditAnswer}
-use Rattle.edit.specs.Plan.{Plan, Outcome, In, part, typed, pasted, once, edited, changeOut}
+use Rattle.edit.specs.Plan.{Plan, Outcome, part, typed, pasted, once, edited, changeOut}
 use Rattle.edit.specs.Calls.{Lent, textOf, sizesOf, stateOf, says, Edited, Ready}
 use Rattle.edit.proofs.Made.{too-long, edited-as, outcome-as}
 use Rattle.edit.proofs.Once.{once-paste, once-typed}
@@ -33,9 +32,6 @@ carried l p = edited catalogue narrow (sizesOf l) (length (l .text)) p (stateOf 
 module _ (l : Lent) where
   abbrev pos : ℕ
   pos = l .line .cursor
-
-  pub cursor-in : Ready narrow l → In (textOf l) pos pos
-  cursor-in h = (omega arith, omega (arith, length-take-le (l .line .len) (l .text) (h .used), h .within), h .edge, h .edge)
 
   -- 9, by the length alone
   pub copies-long : Ready narrow l → (s : List ℕ) (n : ℕ) (r : EditAnswer) → length (l .text) - l .line .len < length s * n → r ≡ says 9 (l .line) (l .log)

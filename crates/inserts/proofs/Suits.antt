@@ -16,7 +16,8 @@ use Rattle.unicode.specs.Text.{isText, isChar}
 use Rattle.unicode.proofs.Text.{text-valid}
 use Rattle.edit.specs.Plan.{In, splice, AllSuit, textAfter}
 use Rattle.edit.proofs.Splice.{splice-length}
-use Rattle.edit.proofs.Pieces.{char-text, splice-before, splice-behind}
+use Rattle.unicode.proofs.Typed.{char-text}
+use Rattle.edit.proofs.Pieces.{splice-before, splice-behind}
 use Rattle.inserts.specs.Inserts.{copies, insertPlan, yankPlan, yankPopPlan, updatePlan}
 use Rattle.inserts.proofs.Copied.{copies-text}
 

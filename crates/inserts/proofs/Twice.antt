@@ -19,7 +19,8 @@ use Rattle.edit.specs.Plan.{Plan, cutting, pasted, AllSuit}
 use Rattle.edit.specs.Calls.{Lent, textOf, says, checked, Edited, Ready}
 use Rattle.edit.proofs.Tests.{split-as, own-split-as, own-passed, text-lent}
 use Rattle.inserts.specs.Inserts.{emptyIs, yankPopPlan, updatePlan, textTests, yankPopCall, updateCall}
-use Rattle.inserts.proofs.Puts.{cursor-in, carried}
+use Rattle.edit.proofs.Answers.{cursor-in}
+use Rattle.inserts.proofs.Puts.{carried}
 use Rattle.inserts.proofs.Calls.{by-check, by-plan, madeTests, as-text, text-passed}
 use Rattle.inserts.proofs.Suits.{yank-pop-suits, update-suits}
 
@@ -61,7 +62,7 @@ module _ (l : Lent) (size : ℕ) (s : List ℕ) (at k : ℕ) (b x : Bool) (a : a
     pop-suits h =
         let o = own-passed l popTests (pop-checked ∙ z) in
         subst (λ (i : ℕ). AllSuit catalogue (cutting i pos ∷ pasted i s ∷ []) (textOf l)) (sym a)
-        (yank-pop-suits catalogue (textOf l) pos (cursor-in l h) size s (text-passed l s (ltb pos size) x k b q e z .0) (not-false _ (o .1)))
+        (yank-pop-suits catalogue (textOf l) pos (cursor-in narrow l h) size s (text-passed l s (ltb pos size) x k b q e z .0) (not-false _ (o .1)))
 
     pub pop-done : (m : ℕ) → m ≡ emptyIs s → (r : EditAnswer) (t rb tb : List ℕ) → Edited narrow l (carried l (pair at pos s (at + length s) m)) r t rb tb → Edited narrow l (yankPopCall catalogue narrow l size s) r t rb tb
     pop-done m f r t rb tb p =

@@ -17,19 +17,12 @@ use Rattle.motion.specs.declared.Found.{Found}
 use Rattle.motion.specs.declared.Found.the-variants.{At, Nothing}
 use Rattle.motion.specs.Trim.{skipWhitespace}
 use Rattle.motion.proofs.Places.{skip-place}
-use Rattle.journal.specs.Layout.{Format}
 use Rattle.edit.specs.Plan.{In, nothing}
-use Rattle.edit.specs.Calls.{Lent, textOf, Ready}
-use Rattle.edit.proofs.Answers.{length-kept}
 use Rattle.rewrites.specs.declared.WordAction.{WordAction}
 use Rattle.rewrites.specs.declared.Words.{Words}
 use Rattle.rewrites.specs.Rewrites.{orStay, backFrom, wordsOn, startsAt, exchange, exchangeAt, casePlan, casedFrom, editWordPlan, wordsAround, wordsPlan, isOne, wordsOr, transposeWordsPlan, Apart}
 use Rattle.rewrites.proofs.Stays.{back-place}
 use Rattle.rewrites.proofs.Four.{around-apart}
-
--- the lent cursor
-pub cursor-in : (F : Format) (l : Lent) → Ready F l → In (textOf l) (l .line .cursor) (l .line .cursor)
-cursor-in F l h = (omega arith, omega (arith, length-kept F l h, h .within), h .edge, h .edge)
 
 module _ (R : Repertoire) (t : List ℕ) (v : valid t ≡ true) (pos : ℕ) (i : In t pos pos) where
   start-in : In t (orStay pos (startsAt R t pos)) (orStay pos (startsAt R t pos))

@@ -1,5 +1,5 @@
 -- Laws of upper and lower case, over any repertoire. Assumes nothing.
-use mathlib.Core.Path.{_≡_, refl, sym, ap, _∙_}
+use mathlib.Core.Path.{_≡_, refl, ap, _∙_}
 use mathlib.Core.Bool.{true}
 use mathlib.Core.List.{List, [], _∷_, _++_, append-nil}
 use Prim.Native.Nat.{ℕ, _≤_}
@@ -58,9 +58,6 @@ module _ (R : Repertoire) (law : Lawful R) where
   text-encode cs e =
       let s = all-weaken (R .member) scalar (law .scalars) cs e in
       rw (valid-encode cs s, chars-encode cs s, e)
-
-  pub char-text : (c : ℕ) → R .member c ≡ true → isText R (encode c) ≡ true
-  char-text c e = ap (isText R) (sym (encode-single c)) ∙ text-encode (c ∷ []) (rw e)
 
   mapped-members : (k : Case) (c : ℕ) → R .member c ≡ true → all (R .member) (caseOf R k c) ≡ true
   mapped-members Upper = law .uppers

@@ -1,21 +1,33 @@
 -- One character's bytes in a buffer of their own. Assumes nothing.
 use Prim.Native.Nat.{ℕ, _+_, _≤_}
 use native.Mathlib.Omega.{arith}
-use mathlib.Core.Path.{_≡_, ap, ap₂, _∙_}
+use mathlib.Core.Path.{_≡_, sym, ap, ap₂, _∙_}
 use mathlib.Core.Bool.{true, cond}
-use mathlib.Core.List.{List}
+use mathlib.Core.List.{List, [], _∷_, append-nil}
 use lib.Dec.{leb}
 use lib.ListN.{length, take}
 use lib.Seq.{length-sets, sets}
 use borrow.Author.Tests.{le-leb}
+use Rattle.lists.specs.Lists.{all}
 use Rattle.lists.proofs.Bools.{and-both, by-test}
 use Rattle.lists.proofs.Stores.{take-sets}
-use Rattle.utf8.specs.Encode.{scalar, size, encode, fitting, EncodedAt}
-use Rattle.utf8.proofs.Encode.{size-encode}
-use Rattle.unicode.specs.Repertoire.{catalogue}
+use Rattle.utf8.specs.Chars.{chars, valid}
+use Rattle.utf8.specs.Encode.{scalar, size, encode, encodeAll, fitting, EncodedAt}
+use Rattle.utf8.proofs.Encode.{size-encode, chars-encode, valid-encode}
+use Rattle.unicode.specs.Repertoire.{Repertoire, catalogue}
 use Rattle.unicode.specs.Text.{isText, isChar}
-use Rattle.unicode.proofs.Cased.{char-text}
-use Rattle.unicode.proofs.Catalogue.{catalogue-lawful}
+
+-- ---- a character's bytes are a text
+pub char-text : (R : Repertoire) (c : ℕ) → isChar R c ≡ true → isText R (encode c) ≡ true
+unfolding isChar isText encodeAll
+char-text R c e =
+    let s = and-both (scalar c) (R .member c) e in
+    let one : all scalar (c ∷ []) ≡ true = rw (s .0) in
+    let flat : encodeAll (c ∷ []) ≡ encode c = append-nil (encode c) in
+    let v = ap valid (sym flat) ∙ valid-encode (c ∷ []) one in
+    let k : chars (encode c) ≡ c ∷ [] = ap chars (sym flat) ∙ chars-encode (c ∷ []) one in
+    let m : all (R .member) (c ∷ []) ≡ true = rw (s .1) in
+    rw (v, k) m
 
 size-max : (c : ℕ) → size c ≤ 4
 unfolding size
@@ -30,8 +42,7 @@ encode-max c = omega (arith, size-encode c, size-max c)
 
 module _ (c : ℕ) (is : isChar catalogue c ≡ true) where
   pub typed-text : isText catalogue (encode c) ≡ true
-  unfolding isChar
-  typed-text = char-text catalogue catalogue-lawful c (and-both (scalar c) (catalogue .member c) is .1)
+  typed-text = char-text catalogue c is
 
   all-fits : (s : List ℕ) → 4 ≤ length s → fitting (length s) 0 c ≡ encode c
   unfolding isChar fitting

@@ -1,3 +1,5 @@
+use Rattle.journal.specs.Layout.{narrow}
+use Rattle.edit.proofs.Answers.{cursor-in}
 use native.Mathlib.Omega.{arith}
 use mathlib.Core.Path.{refl, sym, ap, _∙_}
 use Prim.Native.Nat.{_*_}
@@ -9,7 +11,7 @@ use Rattle.unicode.specs.Text.{isText}
 use Rattle.edit.specs.Calls.{lent}
 use Rattle.records.proofs.Formats.{narrow-fit}
 use Rattle.inserts.proofs.Copied.{copies-text, product-fits}
-use Rattle.inserts.proofs.Puts.{cursor-in, copies-long, copies-put}
+use Rattle.inserts.proofs.Puts.{copies-long, copies-put}
 use borrow.Author.Needs.{needs}
 use Rattle.inserts.proofs.put_copies.Statement.{statement}
 use Rattle.inserts.proofs.put_copies.Tie as tie
@@ -42,7 +44,7 @@ add-put-in : tie.Need-add-put-in
 add-put-in c = search needs
 
 put-in-requires : tie.Need-put-in-requires
-put-in-requires c κs = (narrow-fit, (c .before .before .before .before .before .before .before .before .before .before .before .before .before .pre .0, (cursor-in (lent (now (c .before .before .before .before .before .before .before .before .before .before .before .before .before .args .text)) (now (c .before .before .before .before .before .before .before .before .before .before .before .before .before .args .records)) (now (c .before .before .before .before .before .before .before .before .before .before .before .before .before .args .texts)) (c .before .before .before .before .before .before .before .before .before .before .before .before .before .args .line) (c .before .before .before .before .before .before .before .before .before .before .before .before .before .args .log)) (c .before .before .before .before .before .before .before .before .before .before .before .before .before .pre .0), ap (isText catalogue) (c .before .before .before .before .before .repeat .ensures) ∙ copies-text catalogue (c .before .before .before .before .before .before .before .before .before .before .before .before .before .args .n) (now (c .before .before .before .before .before .before .before .before .before .before .before .before .before .args .s)) (c .before .before .before .before .before .before .before .before .before .before .before .before .before .pre .1 .0))))
+put-in-requires c κs = (narrow-fit, (c .before .before .before .before .before .before .before .before .before .before .before .before .before .pre .0, (cursor-in narrow (lent (now (c .before .before .before .before .before .before .before .before .before .before .before .before .before .args .text)) (now (c .before .before .before .before .before .before .before .before .before .before .before .before .before .args .records)) (now (c .before .before .before .before .before .before .before .before .before .before .before .before .before .args .texts)) (c .before .before .before .before .before .before .before .before .before .before .before .before .before .args .line) (c .before .before .before .before .before .before .before .before .before .before .before .before .before .args .log)) (c .before .before .before .before .before .before .before .before .before .before .before .before .before .pre .0), ap (isText catalogue) (c .before .before .before .before .before .repeat .ensures) ∙ copies-text catalogue (c .before .before .before .before .before .before .before .before .before .before .before .before .before .args .n) (now (c .before .before .before .before .before .before .before .before .before .before .before .before .before .args .s)) (c .before .before .before .before .before .before .before .before .before .before .before .before .before .pre .1 .0))))
 
 same-length : tie.Need-same-length
 same-length c = search needs

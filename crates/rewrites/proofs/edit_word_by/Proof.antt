@@ -9,10 +9,10 @@ use Rattle.journal.specs.Layout.{narrow}
 use Rattle.edit.specs.declared.Own.{Own}
 use Rattle.edit.specs.Plan.{Plan, edited}
 use Rattle.edit.specs.Calls.{lent, sizesOf, stateOf, own, checked}
-use Rattle.edit.proofs.Answers.{refused-by, passed-by, stays}
+use Rattle.edit.proofs.Answers.{cursor-in, refused-by, passed-by, stays}
 use Rattle.edit.proofs.Made.{outcome-as}
 use Rattle.rewrites.specs.Rewrites.{editWordPlan}
-use Rattle.rewrites.proofs.Begins.{cursor-in, case-at, case-none, skip-in}
+use Rattle.rewrites.proofs.Begins.{case-at, case-none, skip-in}
 use borrow.Author.Needs.{needs}
 use Rattle.rewrites.proofs.edit_word_by.Statement.{statement}
 use Rattle.rewrites.proofs.edit_word_by.Tie as tie

@@ -10,10 +10,10 @@ use Rattle.journal.specs.Layout.{narrow}
 use Rattle.edit.specs.declared.Own.{Own}
 use Rattle.edit.specs.Plan.{Plan, edited}
 use Rattle.edit.specs.Calls.{lent, sizesOf, stateOf, own, checked}
-use Rattle.edit.proofs.Answers.{refused-by, passed-by, stays}
+use Rattle.edit.proofs.Answers.{cursor-in, refused-by, passed-by, stays}
 use Rattle.edit.proofs.Made.{outcome-as}
 use Rattle.rewrites.specs.Rewrites.{transposeCharsPlan}
-use Rattle.rewrites.proofs.Begins.{cursor-in, starts-in, plan-at, plan-none}
+use Rattle.rewrites.proofs.Begins.{starts-in, plan-at, plan-none}
 use borrow.Author.Needs.{needs}
 use Rattle.rewrites.proofs.transpose_chars.Statement.{statement}
 use Rattle.rewrites.proofs.transpose_chars.Tie as tie

@@ -10,10 +10,10 @@ use Rattle.journal.specs.Layout.{narrow}
 use Rattle.edit.specs.declared.Own.{Own}
 use Rattle.edit.specs.Plan.{Plan, edited}
 use Rattle.edit.specs.Calls.{lent, sizesOf, stateOf, own, checked}
-use Rattle.edit.proofs.Answers.{refused-by, passed-by, stays-at}
+use Rattle.edit.proofs.Answers.{cursor-in, refused-by, passed-by, stays-at}
 use Rattle.edit.proofs.Made.{outcome-as}
 use Rattle.rewrites.specs.Rewrites.{transposeWordsPlan}
-use Rattle.rewrites.proofs.Begins.{cursor-in, words-one, words-two, words-apart}
+use Rattle.rewrites.proofs.Begins.{words-one, words-two, words-apart}
 use borrow.Author.Needs.{needs}
 use Rattle.rewrites.proofs.transpose_words.Statement.{statement}
 use Rattle.rewrites.proofs.transpose_words.Tie as tie
