@@ -17,7 +17,8 @@ use Rattle.edit.specs.Plan.{Plan, typed, pasted, once}
 use Rattle.edit.specs.Calls.{Lent, says, checked, Edited, Ready, editCall}
 use Rattle.edit.proofs.Answers.{refused-by, passed-by, stays}
 use Rattle.edit.proofs.Tests.{sizes-passed, foreign-passed}
-use Rattle.inserts.specs.Inserts.{copies, insertPlan, yankPlan, textTests, insertCall, yankCall}
+use Rattle.inserts.specs.Inserts.{insertPlan, yankPlan, textTests, insertCall, yankCall}
+use Rattle.buffer.specs.Edit.{copies}
 use Rattle.inserts.proofs.Puts.{carried}
 
 module _ (l : Lent) (t : Tests) (p : Plan) (k : ℕ) (r : EditAnswer) where

@@ -3,3 +3,4 @@ pub mod Puts
 pub mod Calls
 pub mod Suits
 pub mod Twice
+pub mod InPlace

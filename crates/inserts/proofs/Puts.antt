@@ -15,8 +15,8 @@ use Rattle.edit.specs.Calls.{Lent, textOf, sizesOf, stateOf, says, Edited, Read
 use Rattle.edit.proofs.Made.{too-long, edited-as, outcome-as}
 use Rattle.edit.proofs.Once.{once-paste, once-typed}
 use Rattle.utf8.specs.Encode.{encode}
-use Rattle.inserts.specs.Inserts.{copies}
-use Rattle.inserts.proofs.Copied.{copies-length}
+use Rattle.buffer.specs.Edit.{copies}
+use Rattle.buffer.proofs.Copies.{copies-length}
 
 -- nothing lies between a place and itself
 no-part : (t : List ℕ) (p : ℕ) → part t p p ≡ []

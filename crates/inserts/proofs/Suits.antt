@@ -18,7 +18,8 @@ use Rattle.edit.specs.Plan.{In, splice, AllSuit, textAfter}
 use Rattle.edit.proofs.Splice.{splice-length}
 use Rattle.unicode.proofs.Typed.{char-text}
 use Rattle.edit.proofs.Pieces.{splice-before, splice-behind}
-use Rattle.inserts.specs.Inserts.{copies, insertPlan, yankPlan, yankPopPlan, updatePlan}
+use Rattle.inserts.specs.Inserts.{insertPlan, yankPlan, yankPopPlan, updatePlan}
+use Rattle.buffer.specs.Edit.{copies}
 use Rattle.inserts.proofs.Copied.{copies-text}
 
 -- the place behind a text that replaces a part, and the part's start

@@ -1,22 +1,18 @@
 -- The calls of LineBuffer that put a text in: line_buffer.rs, insert, yank, yank_pop and update.
-use Prim.Native.Nat.{ℕ, zero, suc, _+_, _-_}
+use Prim.Native.Nat.{ℕ, _+_, _-_}
 use mathlib.Core.Bool.{Bool, false, cond, not}
-use mathlib.Core.List.{List, [], _∷_, _++_}
+use mathlib.Core.List.{List, [], _∷_}
 use lib.Dec.{eqb, ltb}
 use lib.ListN.{length}
 use Rattle.utf8.specs.Chars.{boundary}
 use Rattle.utf8.specs.Encode.{encode}
 use Rattle.unicode.specs.Repertoire.{Repertoire}
 use Rattle.unicode.specs.Text.{isText, isChar}
+use Rattle.buffer.specs.Edit.{copies}
 use Rattle.checks.specs.Checks.{Tests, ownTests}
 use Rattle.journal.specs.Layout.{Format}
 use Rattle.edit.specs.Plan.{typed, pasted, cutting, Plan, once, nothing, Outcome}
 use Rattle.edit.specs.Calls.{Lent, textOf, editCall}
-
--- n copies of a text, one behind the other
-unfoldable pub copies : ℕ → List ℕ → List ℕ
-copies zero s = []
-copies (suc n) s = s ++ copies n s
 
 -- insert: one character is typed; more of them, or none, are put in as a text. The cursor goes behind them
 abbrev pub insertPlan : ℕ → ℕ → ℕ → Plan

@@ -3,15 +3,16 @@
 ghost use mathlib.Core.Path.{_≡_};
 ghost use mathlib.Core.Bool.{true};
 ghost use Prim.Native.Nat.{_+_, _-_, _*_, _≤_};
-ghost use lib.ListN.{length, take};
+ghost use lib.ListN.{length};
 ghost use Rattle.utf8.specs.Encode.{encode};
 ghost use Rattle.unicode.specs.Repertoire.{catalogue};
 ghost use Rattle.unicode.specs.Text.{isText, isChar};
 ghost use Rattle.journal.specs.Layout.{narrow};
 ghost use Rattle.edit.specs.Plan.{typed, pasted, once, edited};
 ghost use Rattle.edit.specs.Calls.{lent, sizesOf, stateOf, Edited, Ready};
-ghost use Rattle.inserts.specs.Inserts.{copies as Inserts·copies, emptyIs, insertCall, yankCall, yankPopCall, updateCall};
-use buffer::insert_bytes;
+ghost use Rattle.inserts.specs.Inserts.{emptyIs, insertCall, yankCall, yankPopCall, updateCall};
+ghost use Rattle.buffer.specs.Edit.{copies as Inserts·copies};
+use buffer::insert_copies;
 use changeset::Log;
 use checks::Line;
 use edit::EditAnswer;
@@ -21,6 +22,8 @@ use edit::cut_and_put;
 use edit::is_split;
 use edit::put_in;
 use edit::refusal;
+use edit::room_now;
+use edit::room_put;
 use edit::says;
 use keymap::RepeatCount;
 use records::Format;
@@ -35,20 +38,6 @@ const NARROW: Format = Format {
     width: 2,
     offset: 0,
 };
-
-// Writes n copies of s to the front of out.
-fn repeat(out: &mut [u8], s: &[u8], n: usize)
-    requires { ⌜ length (now s) * n ≤ length (now out) ⌝ }
-    ensures { λ _. ⌜ take (length (now (s .entry)) * n) (now (out .exit)) ≡ Inserts·copies n (now (s .entry)) ⌝ }
-{
-    let mut at = 0;
-    let mut left = n;
-    while 0 < left {
-        insert_bytes(out, at, at, s);
-        at += s.len();
-        left -= 1;
-    }
-}
 
 // A character typed at the cursor, which goes behind it; s are its bytes.
 fn type_char(
@@ -86,7 +75,7 @@ fn type_char(
     )
 }
 
-// n copies of a text put in at the cursor: 9 is answered before one is made.
+// n copies of a text put in at the cursor, in place: 9 is answered before one is made, and 10 before a byte changes.
 fn put_copies(
     text: &mut [u8],
     records: &mut [u8],
@@ -105,24 +94,49 @@ fn put_copies(
         (stateOf catalogue narrow (lent (now (text .entry)) (now (records .entry)) (now (texts .entry)) line log)))
         r (now (text .exit)) (now (records .exit)) (now (texts .exit)) ⌝ }
 {
+    let len = line.len;
+    let pos = line.cursor;
     let size = s.len() * n;
-    if text.len() - line.len < size {
+    if text.len() - len < size {
         return says(9, line, log);
     }
-    let mut all = [0u8; 4096];
-    repeat(&mut all, s, n);
-    let pos = line.cursor;
-    put_in(
+    let none = [0u8; 1];
+    let end = pos + size;
+    if size == 0 {
+        return put_in(
+            NARROW,
+            text,
+            records,
+            texts,
+            line,
+            log,
+            pos,
+            &none[..0],
+            end,
+        );
+    }
+    let now = room_now(NARROW, records, texts, log);
+    let room = room_put(NARROW, records, texts, now, pos, size);
+    if !room.fits {
+        return says(10, line, log);
+    }
+    insert_copies(text, len, pos, s, n);
+    let a = log.record(
         NARROW,
-        text,
         records,
         texts,
-        line,
-        log,
+        false,
+        3,
         pos,
-        &all[..size],
-        pos + size,
-    )
+        &none[..0],
+        &text[pos..end],
+    );
+    let noted = a.log;
+    let made = Line {
+        len: len + size,
+        cursor: end,
+    };
+    says(0, made, noted)
 }
 
 // Wrong answers ruled out: n = 0 that keeps the redo list; two characters merged as if they were typed.

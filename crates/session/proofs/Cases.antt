@@ -33,7 +33,8 @@ use Rattle.changeset.specs.Logs.{overSizes, damaged}
 use Rattle.changeset.specs.Calls.{undos, redos, row, logOf}
 use Rattle.edit.specs.Plan.{splice, textAfter, listAfter, tooLong, State, Outcome, refused, answered, edited}
 use Rattle.edit.specs.Calls.{Lent, lent}
-use Rattle.inserts.specs.Inserts.{copies, insertCall}
+use Rattle.inserts.specs.Inserts.{insertCall}
+use Rattle.buffer.specs.Edit.{copies}
 use Rattle.rewrites.specs.Rewrites.{actionList, editWordCall, transposeWordsCall}
 
 -- a text of len bytes with the cursor at a place
