@@ -1,6 +1,6 @@
 //! Nanoseconds per byte of the text scan, beside std's from_utf8 and a match over the same repertoire: same buffers, same
-//! run. Then those of checks 2 and 8 of a log, beside the text scan over its texts. Buffers are made once and not changed
-//! between runs.
+//! run. Then those of checks 2 and 8 of a log, beside the text scan over its texts. Then nanoseconds per record of undoing
+//! and redoing a whole log in one call, for logs of a quarter, a half and all of the buffers. Buffers are made once.
 use std::time::Instant;
 
 #[repr(C)]
@@ -18,9 +18,30 @@ struct Log {
     level: usize,
 }
 
+#[repr(C)]
+#[derive(Clone, Copy)]
+struct Line {
+    len: usize,
+    cursor: usize,
+}
+
+#[repr(C)]
+#[derive(Clone, Copy)]
+struct EditAnswer {
+    number: u32,
+    from: usize,
+    to: usize,
+    line: Line,
+    log: Log,
+}
+
+type Undoing = unsafe extern "C" fn(*mut u8, usize, *const u8, usize, *const u8, usize, Line, Log, u16) -> EditAnswer;
+
 extern "C" {
     fn tlf_bench_check_text(text: *const u8, len: usize) -> bool;
     fn tlf_bench_check_log(records: *const u8, nr: usize, texts: *const u8, nt: usize, log: Log) -> u32;
+    fn tlf_bench_undo(text: *mut u8, n: usize, records: *const u8, nr: usize, texts: *const u8, nt: usize, line: Line, log: Log, count: u16) -> EditAnswer;
+    fn tlf_bench_redo(text: *mut u8, n: usize, records: *const u8, nr: usize, texts: *const u8, nt: usize, line: Line, log: Log, count: u16) -> EditAnswer;
 }
 
 fn scan(text: &[u8]) -> bool {
@@ -82,6 +103,52 @@ fn log_table() {
     }
 }
 
+/// A log of n records, an insertion of `piece` at a place and its deletion by turns: all of it undone or redone, a text is as
+/// it was.
+fn by_turns(piece: &[u8], place: usize, n: usize) -> (Vec<u8>, Vec<u8>) {
+    let (mut records, mut texts) = (Vec::new(), Vec::new());
+    for i in 0..n {
+        records.extend([3 + (i % 2) as u8, place as u8, (place >> 8) as u8, piece.len() as u8, (piece.len() >> 8) as u8]);
+        texts.extend(piece);
+    }
+    (records, texts)
+}
+
+/// All of a log in one call, in nanoseconds a record: undone where it is the undo list, redone where it is the redo list.
+fn whole(call: Undoing, back: bool, text: &mut [u8], records: &[u8], texts: &[u8], count: usize) -> f64 {
+    let all = Used { records: records.len(), texts: texts.len() };
+    let none = Used { records: 0, texts: 0 };
+    let log = if back { Log { undo: all, redo: none, level: 0 } } else { Log { undo: none, redo: all, level: 0 } };
+    let line = Line { len: text.len() - 16, cursor: 0 };
+    let (at, len) = (text.as_mut_ptr(), text.len());
+    let run = || {
+        let a = unsafe { call(at, len, records.as_ptr(), records.len(), texts.as_ptr(), texts.len(), line, std::hint::black_box(log), u16::MAX) };
+        let left = if back { a.log.undo } else { a.log.redo };
+        a.number <= 1 && a.line.len == line.len && left.records == 0
+    };
+    median(run, 3) / count as f64
+}
+
+fn undo_table() {
+    println!("{:34} {:>7} {:>10} {:>10}", "log", "records", "undo ns", "redo ns");
+    let mut row = |name: &str, used: usize, (records, texts): (Vec<u8>, Vec<u8>), count: usize| {
+        let mut text = vec![b'a'; used + 16];
+        let undo = whole(tlf_bench_undo, true, &mut text, &records, &texts, count);
+        let redo = whole(tlf_bench_redo, false, &mut text, &records, &texts, count);
+        println!("{:34} {:>7} {:>10.1} {:>10.1}", name, count, undo, redo);
+    };
+    for part in [4, 2, 1] {
+        let n = 32_768 / part;
+        row("Begins and Ends by turns", 1000, ((0..n).map(|i| 1 + (i % 2) as u8).collect(), Vec::new()), n);
+    }
+    for (name, used, place) in [("insert and delete, empty text", 0, 0), ("insert and delete, end of 1,000", 1000, 1000), ("insert and delete, start of 1,000", 1000, 0)] {
+        for part in [4, 2, 1] {
+            let n = 6_500 / part / 2 * 2;
+            row(name, used, by_turns(b"box 12, no", place, n), n);
+        }
+    }
+}
+
 fn repeated(piece: &str, len: usize) -> Vec<u8> {
     let mut text = String::new();
     while text.len() + piece.len() <= len {
@@ -106,4 +173,5 @@ fn main() {
         }
     }
     log_table();
+    undo_table();
 }

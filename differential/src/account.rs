@@ -82,7 +82,14 @@ fn value(param: Param, args: &Args) -> String {
         Param::Ch => return format!("U+{number:04X}"),
         Param::Buf => return shown(&args.buf, usize::MAX),
         Param::Dedent => return format!("{number} ({})", if number == 0 { "indents" } else { "dedents" }),
-        Param::N | Param::Pos | Param::Prompt | Param::Size | Param::Start | Param::End | Param::Amount => {
+        Param::N
+        | Param::Pos
+        | Param::Prompt
+        | Param::Size
+        | Param::Start
+        | Param::End
+        | Param::Amount
+        | Param::Mark => {
             return number.to_string();
         }
     };

@@ -209,3 +209,8 @@ pub static ENTRIES: [Entry; 20] = [
         rust: |l, a, ears| done(l.indent(&oracle::movement(a), a.amount, a.dedent != 0, ears)),
     },
 ];
+
+/// The row of this call.
+pub fn row(name: &str) -> usize {
+    ENTRIES.iter().position(|entry| entry.name == name).expect(name)
+}

@@ -8,11 +8,12 @@ use crate::edit_checks::{EditInput, edit_call};
 use crate::ffi::{EditAnswer, Line, Used};
 use crate::lent::Lent;
 use crate::line_buffer::LineBuffer;
-use crate::line_calls::{self, Args};
+use crate::line_calls::{self, Args, Param};
 use crate::listeners::{Ears, Heard, Witness};
 use crate::log_case::{self, Damage, raw};
 use crate::log_model::Bytes;
 use crate::oracle;
+use crate::undo::Changeset;
 
 /// What stands in the text's buffer before the first call: no text.
 const STALE: u8 = 0x9F;
@@ -27,7 +28,7 @@ pub struct Case {
 
 impl Case {
     /// An empty text and an empty log in buffers of these sizes.
-    pub fn new(size: usize, records: usize, texts: usize) -> Case {
+    pub fn new([size, records, texts]: [usize; 3]) -> Case {
         let text = vec![STALE; size];
         Case::of(&text, Line { len: 0, cursor: 0 }, log_case::Case::new(records, texts))
     }
@@ -66,6 +67,31 @@ impl Case {
         }
     }
 
+    /// Buffers of at least these sizes.
+    pub fn grow(&mut self, [size, records, texts]: [usize; 3]) {
+        self.text.grow(size, STALE);
+        self.log.grow(records, texts);
+    }
+
+    /// The Rust's line, with its cursor where the lent one is, and its changeset.
+    pub fn rust(&mut self) -> Option<(&mut LineBuffer, &mut Changeset)> {
+        let line = self.rust.as_mut()?;
+        line.set_pos(self.line.cursor);
+        Some((line, self.log.rust_mut()))
+    }
+
+    /// What the checks look at.
+    pub fn input<'a>(&'a self, uses: &'a [Param], args: &'a Args) -> EditInput<'a> {
+        let text = self.rust.as_ref().map(|_| self.text());
+        EditInput { size: self.size(), line: self.line, text, loan: self.log.loan(), uses, args }
+    }
+
+    /// The answer that refuses a call: line and log as they were, and no byte changes.
+    pub fn refused(&self, number: u32) -> Expected {
+        let answer = EditAnswer { number, from: 0, to: 0, line: self.line, log: self.log.loan().log };
+        Expected { answer, text: None, lists: None }
+    }
+
     /// A copy with another text and with these damages to the log.
     pub fn damaged(&self, buffer: &[u8], line: Line, damages: &[Damage]) -> Case {
         Case::of(buffer, line, self.log.damaged(damages))
@@ -80,22 +106,19 @@ impl Case {
     }
 }
 
-/// The text and both lists in bytes.
-pub struct Left {
-    pub text: Vec<u8>,
-    pub lists: Bytes,
-}
-
-/// The answer that is due, and what is left; nothing where no byte may change.
+/// The answer that is due, and what is left: the text and both lists in bytes, each of them none where no byte of its
+/// buffers may change.
 pub struct Expected {
     pub answer: EditAnswer,
-    pub left: Option<Left>,
+    pub text: Option<Vec<u8>>,
+    pub lists: Option<Bytes>,
 }
 
 /// What the library answered and left, and what it should have: `None` where the Rust panics and no check foresaw it.
 pub struct Difference {
     pub got: EditAnswer,
-    pub left: Left,
+    pub text: Vec<u8>,
+    pub lists: Bytes,
     /// The buffers that are not as they should be, each with the first place.
     pub wrong: Vec<(&'static str, isize)>,
     pub expected: Option<Expected>,
@@ -110,25 +133,18 @@ fn heard(entry: &Entry, text: &[u8], cursor: usize, args: &Args) -> Vec<Heard> {
 
 /// The undo list's used lengths after the call, or the number of the check that fails.
 fn foreseen(entry: &Entry, case: &Case, args: &Args) -> Result<Used, u32> {
-    let Case { text, line, log, rust } = case;
-    let used = rust.as_ref().map(|_| case.text());
     let uses = entry.uses(args);
-    let input = EditInput { size: text.size(), line: *line, text: used, loan: log.loan(), uses: &uses, args };
-    let touched = || oracle::touched(case.text(), line.cursor, args);
-    edit_call(&input, touched, || heard(entry, case.text(), line.cursor, args))
+    let touched = || oracle::touched(case.text(), case.line.cursor, args);
+    edit_call(&case.input(&uses, args), touched, || heard(entry, case.text(), case.line.cursor, args))
 }
 
 /// A check's number with line and log as they were, else what the Rust decides.
 fn expected(entry: &Entry, case: &mut Case, args: &Args) -> Option<Expected> {
     let foreseen = match catch_unwind(AssertUnwindSafe(|| foreseen(entry, case, args))).ok()? {
         Ok(foreseen) => foreseen,
-        Err(number) => {
-            let answer = EditAnswer { number, from: 0, to: 0, line: case.line, log: case.log.loan().log };
-            return Some(Expected { answer, left: None });
-        }
+        Err(number) => return Some(case.refused(number)),
     };
-    let (rust, changes) = (case.rust.as_mut()?, case.log.rust_mut());
-    rust.set_pos(case.line.cursor);
+    let (rust, changes) = case.rust()?;
     let outcome = catch_unwind(AssertUnwindSafe(|| (entry.rust)(rust, args, &mut Ears(changes)))).ok()?;
     let (from, to) = outcome.unwrap_or((0, 0));
     let (log, lists) = oracle::laid_out(changes);
@@ -136,23 +152,33 @@ fn expected(entry: &Entry, case: &mut Case, args: &Args) -> Option<Expected> {
     assert!(foreseen == log.undo, "{}: {foreseen:?} foreseen, {log:?}", entry.name);
     let line = Line { len: rust.len(), cursor: rust.pos() };
     let answer = EditAnswer { number: outcome.is_none().into(), from, to, line, log };
-    Some(Expected { answer, left: Some(Left { text: rust.as_bytes().to_vec(), lists }) })
+    Some(Expected { answer, text: Some(rust.as_bytes().to_vec()), lists: Some(lists) })
 }
 
-/// The number that both give, or how they differ: the whole answer counts, every byte of the text and of both lists,
-/// and that no guard and no text given has changed. On a refusal no byte at all may have changed.
+/// The number that both give, or how they differ.
 pub fn compare(entry: &Entry, case: &mut Case, args: &Args) -> Result<u32, Difference> {
+    let expected = expected(entry, case, args);
+    ask(case, args, expected, entry.ask)
+}
+
+/// Asks the library: the whole answer counts, every byte of the text and of both lists, and that no guard and no text
+/// given has changed.
+pub fn ask(
+    case: &mut Case,
+    args: &Args,
+    expected: Option<Expected>,
+    call: unsafe fn(&Input, &Args) -> EditAnswer,
+) -> Result<u32, Difference> {
     let mut buf = Lent::new(&args.buf);
     let (line, log) = (case.line, case.log.loan().log);
-    let expected = expected(entry, case, args);
     let [records, texts] = case.log.raw();
     let input = Input { text: raw(&mut case.text), records, texts, line, log, buf: raw(&mut buf) };
-    let got = unsafe { (entry.ask)(&input, args) };
+    let got = unsafe { call(&input, args) };
 
-    let due = expected.as_ref().and_then(|expected| expected.left.as_ref());
-    let text = due.map_or_else(|| case.text.changed(), |due| case.text.differs(&due.text));
-    let others = [("text", text), ("buf", buf.changed())];
-    let places = case.log.wrong(due.map(|due| &due.lists)).into_iter().chain(others);
+    let due = expected.as_ref().and_then(|due| due.text.as_ref());
+    let text = due.map_or_else(|| case.text.changed(), |due| case.text.differs(due));
+    let lists = expected.as_ref().and_then(|due| due.lists.as_ref());
+    let places = case.log.wrong(lists).into_iter().chain([("text", text), ("buf", buf.changed())]);
     let wrong: Vec<_> = places.filter_map(|(name, place)| Some((name, place?))).collect();
     match expected {
         Some(due) if due.answer == got && wrong.is_empty() => {
@@ -163,8 +189,8 @@ pub fn compare(entry: &Entry, case: &mut Case, args: &Args) -> Result<u32, Diffe
         }
         expected => {
             let count = got.line.len.min(case.size());
-            let left = Left { text: case.text.now()[..count].to_vec(), lists: case.log.left(&got.log) };
-            Err(Difference { got, left, wrong, expected })
+            let text = case.text.now()[..count].to_vec();
+            Err(Difference { text, lists: case.log.left(&got.log), got, wrong, expected })
         }
     }
 }

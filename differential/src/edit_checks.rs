@@ -4,7 +4,7 @@ use crate::checks::{MAX_TEXT, first_character, in_repertoire, is_text, is_white,
 use crate::ffi::{Line, Used};
 use crate::line_calls::{Args, Param};
 use crate::listeners::Heard;
-use crate::log_checks::Loan;
+use crate::log_checks::{Lists, Loan};
 use crate::log_model::Change;
 use crate::undo::lists;
 
@@ -81,13 +81,9 @@ fn white_front(line: &[u8]) -> usize {
     len
 }
 
-/// The undo list's used lengths after the call, or the number by which it is refused: the lowest whose check fails.
-/// `touched` is where the lines start that an indent touches, `heard` what the Rust's call changes.
-pub fn edit_call(
-    input: &EditInput,
-    touched: impl FnOnce() -> Vec<usize>,
-    heard: impl FnOnce() -> Vec<Heard>,
-) -> Result<Used, u32> {
+/// Checks 2 to 8: the log's lists, or the number by which the call is refused, the lowest whose check fails. `touched`
+/// is where the lines start that an indent touches.
+pub fn lent<'a>(input: &EditInput<'a>, touched: impl FnOnce() -> Vec<usize>) -> Result<Lists<'a>, u32> {
     if input.is_oversized() {
         return Err(2);
     }
@@ -102,9 +98,19 @@ pub fn edit_call(
     if places.iter().any(|(place, text)| splits(text, *place)) || input.cuts_inside(text, touched) {
         return Err(6);
     }
-    let lists = input.loan.lists().ok_or(8u32)?;
+    input.loan.lists().ok_or(8)
+}
+
+/// The undo list's used lengths after an edit, or the number by which it is refused. `heard` is what the Rust's call
+/// changes.
+pub fn edit_call(
+    input: &EditInput,
+    touched: impl FnOnce() -> Vec<usize>,
+    heard: impl FnOnce() -> Vec<Heard>,
+) -> Result<Used, u32> {
+    let lists = lent(input, touched)?;
     let heard = heard();
-    if is_overlong(text.len(), &heard, input.size) {
+    if is_overlong(input.line.len, &heard, input.size) {
         return Err(9);
     }
     recorded(&input.loan, lists.undo.last(), &heard).ok_or(10)

@@ -6,8 +6,10 @@ use crate::edit_lists::{Call, Faults, Step};
 use crate::ffi::Line;
 use crate::r#gen::{Draft, FAULTS, FOREIGN, Rng, behind, boundary, drawn_args, drawn_place, drawn_text, spoil};
 use crate::line_calls::{self, Args, BACKWARD_CHAR, FORWARD_CHAR, Param};
+use crate::log_case::Damage;
 use crate::log_faults::log_damage;
 use crate::log_gen::{MIXES, drawn_step as drawn_log_step};
+use crate::log_model::Change;
 
 /// The largest text to put in that is drawn, and the most bytes that repeating it and indenting may give.
 const LONGEST: usize = 40;
@@ -29,7 +31,7 @@ pub fn drawn_step(rng: &mut Rng, case: &Case, habit: Habit) -> Step {
     match rng.below(most) {
         0..=5 => {
             let row = rng.below(line_calls::ENTRIES.len());
-            Step::Move(Call { row, args: drawn_args(rng, case.text()) })
+            Step::Call(Call::line(row, drawn_args(rng, case.text())))
         }
         6..=9 => {
             let mix = rng.pick(&MIXES);
@@ -41,7 +43,7 @@ pub fn drawn_step(rng: &mut Rng, case: &Case, habit: Habit) -> Step {
             let call = drawn_edit(rng, case, habit);
             damaged(rng, case, call)
         }
-        _ => Step::Edit(drawn_edit(rng, case, habit)),
+        _ => Step::Call(drawn_edit(rng, case, habit)),
     }
 }
 
@@ -61,9 +63,9 @@ pub fn drawn_edit(rng: &mut Rng, case: &Case, habit: Habit) -> Call {
         args.n = 1;
         args.mvt = rng.pick(&[BACKWARD_CHAR, BACKWARD_CHAR, FORWARD_CHAR]);
         let rows: Vec<usize> = (0..ENTRIES.len()).filter(|&row| is_by_character(&ENTRIES[row])).collect();
-        return Call { row: rng.pick(&rows), args };
+        return Call::edit(rng.pick(&rows), args);
     }
-    Call { row: rng.below(ENTRIES.len()), args }
+    Call::edit(rng.below(ENTRIES.len()), args)
 }
 
 /// Fit arguments: a new place of the cursor is one of the text to put in, a size leads back to a boundary; one of
@@ -97,7 +99,7 @@ pub fn damaged(rng: &mut Rng, case: &Case, mut call: Call) -> Step {
     let mut buffer = case.text().to_vec();
     buffer.extend(behind(rng, MAX_TEXT - len));
     let mut draft = Draft { buffer, len, cursor, args: call.args.clone() };
-    let uses = call.entry().uses(&call.args);
+    let uses = call.uses();
     let mut log = Vec::new();
     let mut faults: Vec<usize> = Vec::new();
     for _ in 0..rng.pick(&[1, 1, 1, 2, 2, 3]) {
@@ -112,4 +114,35 @@ pub fn damaged(rng: &mut Rng, case: &Case, mut call: Call) -> Step {
     call.args = draft.args;
     let line = Line { len: draft.len, cursor: draft.cursor };
     Step::Damaged(Faults { buffer: draft.buffer, line, log }, call)
+}
+
+/// A length that holds a whole block of any scan that takes many bytes at once.
+pub const BLOCK: usize = 130;
+
+/// Where foreign bytes stand.
+#[derive(Clone, Copy, PartialEq, Eq)]
+pub enum Whose {
+    /// In the texts of the redo list, or of the undo list.
+    Redo,
+    Undo,
+    /// In the text.
+    Text,
+    /// In the text to put in.
+    Argument,
+}
+
+/// The call with foreign bytes at a place of a text of that length.
+pub fn foreign_at(place: usize, foreign: &[u8], whose: Whose, mut call: Call) -> Vec<Step> {
+    let bytes = (place..BLOCK).zip(foreign.iter().copied());
+    let mut faults = Faults { buffer: vec![b'a'; BLOCK], line: Line { len: BLOCK, cursor: BLOCK }, log: Vec::new() };
+    match whose {
+        Whose::Text => bytes.for_each(|(place, byte)| faults.buffer[place] = byte),
+        Whose::Argument => {
+            call.args.buf = vec![b'a'; BLOCK];
+            bytes.for_each(|(place, byte)| call.args.buf[place] = byte);
+        }
+        Whose::Redo | Whose::Undo => faults.log = bytes.map(|(place, byte)| Damage::TextsByte(place, byte)).collect(),
+    }
+    let in_front = usize::from(whose != Whose::Redo);
+    vec![Step::lay(Change::Delete(0, "a".repeat(BLOCK))), Step::seam(in_front), Step::Damaged(faults, call)]
 }

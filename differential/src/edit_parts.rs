@@ -1,94 +1,27 @@
 //! The inputs of the calls that are lent a text and a log, in five parts: small texts and small records with every
 //! small call, characters and foreign bytes, the largest text and log to the last byte, faults, drawn lists of calls.
 use crate::checks::MAX_TEXT;
-use crate::edit_account;
 use crate::edit_calls::ENTRIES;
-use crate::edit_case::Case;
-use crate::edit_gen::{Habit, another_text, damaged, drawn_edit, drawn_step, edit_args};
-use crate::edit_lists::{Call, Difference, Faults, List, Step, play};
-use crate::edit_shrink::{Differing, smallest};
-use crate::ffi::{Line, Log};
+use crate::edit_gen::{BLOCK, Habit, Whose, another_text, damaged, drawn_edit, drawn_step, edit_args, foreign_at};
+use crate::edit_lists::{Call, Played, Step};
+use crate::edit_runner::Runner;
+use crate::ffi::Log;
 use crate::r#gen::{FIRST, FOREIGN, Rng, boundaries, code_args, members, small_args, small_text, small_texts};
 use crate::line_calls::{Args, Param, WHOLE_BUFFER};
-use crate::log_case::Damage;
 use crate::log_checks::{MAX_RECORDS, MAX_TEXTS};
 use crate::log_gen::{drawn_change, drawn_size, filling, small_records};
-use crate::log_lists;
 use crate::log_model::Change;
 use crate::tally::Tally;
-
-struct Runner<'a> {
-    tally: &'a mut Tally,
-    done: u64,
-    /// Tell each input before its call.
-    trace: bool,
-}
-
-/// A list as far as it was played.
-struct Played {
-    list: List,
-    case: Case,
-}
-
-impl Played {
-    fn new(size: usize, records: usize, texts: usize) -> Played {
-        let list = List { size, records, texts, steps: Vec::new() };
-        Played { case: list.case(), list }
-    }
-}
 
 /// `n` comparisons, or the account of the first difference.
 pub fn run(n: u64, seed: u64, trace: bool, tally: &mut Tally) -> Result<(), String> {
     let mut rng = Rng::new(seed);
-    let mut runner = Runner { tally, done: 0, trace };
+    let mut runner = Runner::new(tally, "edits", trace);
     every_small_call(&mut runner, &mut rng, n / 3)?;
     characters(&mut runner, n / 12)?;
     to_the_last_byte(&mut runner, n)?;
     faults(&mut runner, &mut rng, n)?;
     drawn(&mut runner, &mut rng, n)
-}
-
-impl Runner<'_> {
-    /// One step; for a call the number that it gives.
-    fn step(&mut self, played: &mut Played, step: Step) -> Result<Option<u32>, String> {
-        let row = step.row();
-        self.done += u64::from(row.is_some());
-        if self.trace && row.is_some() {
-            println!("{}", edit_account::input(&played.case, &step));
-        }
-        let outcome = play(&mut played.case, &step);
-        played.list.steps.push(step);
-        match outcome {
-            Ok(number) => {
-                row.zip(number).into_iter().for_each(|(row, number)| self.tally.note(row, number));
-                Ok(number)
-            }
-            Err(difference) => Err(self.account(&played.list, difference)),
-        }
-    }
-
-    fn account(&self, list: &List, difference: Difference) -> String {
-        let small = smallest(Differing { list: list.clone(), difference });
-        format!("difference in comparison {} of edits, made smaller\n{}", self.done, edit_account::difference(&small))
-    }
-
-    /// A list of a few steps from an empty text and an empty log.
-    fn list(&mut self, sizes: [usize; 3], steps: &[Step]) -> Result<Played, String> {
-        let [size, records, texts] = sizes;
-        let mut played = Played::new(size, records, texts);
-        for step in steps {
-            self.step(&mut played, step.clone())?;
-        }
-        Ok(played)
-    }
-}
-
-fn lay(change: Change<String>) -> Step {
-    Step::Log(log_lists::Step::Lay(change))
-}
-
-fn seam(count: usize) -> Step {
-    Step::Log(log_lists::Step::Seam(count))
 }
 
 /// Room for everything that a few small steps may record.
@@ -110,7 +43,8 @@ fn every_small_call(runner: &mut Runner, rng: &mut Rng, share: u64) -> Result<()
                     if runner.done >= limit {
                         return Ok(());
                     }
-                    let log = [lay(records[turn % records.len()].clone()), seam(usize::from(turn % 3 != 0))];
+                    let log =
+                        [Step::lay(records[turn % records.len()].clone()), Step::seam(usize::from(turn % 3 != 0))];
                     every_room(runner, &[&log[..], &[Step::Text(text.clone(), cursor)]].concat(), call)?;
                     turn += 1;
                 }
@@ -125,7 +59,7 @@ fn small_calls(rng: &mut Rng, text: &str, cursor: usize, all: bool) -> Vec<Call>
     let mut calls = Vec::new();
     for (row, entry) in ENTRIES.iter().enumerate() {
         let args = if all { small_args(entry.takes, text) } else { vec![edit_args(rng, text.as_bytes(), cursor)] };
-        calls.extend(args.into_iter().map(|args| Call { row, args }));
+        calls.extend(args.into_iter().map(|args| Call::edit(row, args)));
     }
     calls
 }
@@ -136,7 +70,7 @@ fn every_room(runner: &mut Runner, before: &[Step], call: Call) -> Result<(), St
     let mut played = runner.list([AMPLE; 3], before)?;
     let lent = both(&played.case.log.loan().log);
     let len = played.case.line().len;
-    let edit = Step::Edit(call);
+    let edit = Step::Call(call);
     runner.step(&mut played, edit.clone())?;
     let left = both(&played.case.log.loan().log);
     let [records, texts] = [lent[0].max(left[0]), lent[1].max(left[1])];
@@ -187,7 +121,7 @@ fn every_member(runner: &mut Runner, limit: u64) -> Result<(), String> {
                 if runner.done >= limit {
                     return Ok(());
                 }
-                runner.list([AMPLE; 3], &[lay(record.clone()), text.clone(), Step::Edit(call)])?;
+                runner.list([AMPLE; 3], &[Step::lay(record.clone()), text.clone(), Step::Call(call)])?;
             }
         }
     }
@@ -209,11 +143,14 @@ fn member_calls(row: usize, takes: &'static [Param], c: char) -> Vec<Call> {
         (true, false) => Vec::new(),
     };
     let with = |args| Args { ch: c.into(), buf: c.to_string().into(), ..args };
-    args.into_iter().map(|args| Call { row, args: with(args) }).collect()
+    args.into_iter().map(|args| Call::edit(row, with(args))).collect()
 }
 
-/// A length that holds a whole block of any scan that takes many bytes at once.
-const BLOCK: usize = 130;
+const WHOSE: [Whose; 4] = [Whose::Redo, Whose::Undo, Whose::Text, Whose::Argument];
+
+fn takes_text(row: usize) -> bool {
+    ENTRIES[row].takes.contains(&Param::Buf)
+}
 
 /// Foreign bytes at every place of the text, of the undo list's texts, of the redo list's and of a text to put in, in
 /// turn with each call. As far as `limit` reaches.
@@ -224,31 +161,14 @@ fn foreign_anywhere(runner: &mut Runner, limit: u64) -> Result<(), String> {
                 return Ok(());
             }
             let turn = place + number;
-            let steps = foreign_at(place, foreign, turn % 4, turn / 4);
-            runner.list([BLOCK; 3], &steps)?;
+            let whose = WHOSE[turn % WHOSE.len()];
+            let rows: Vec<usize> =
+                (0..ENTRIES.len()).filter(|&row| whose != Whose::Argument || takes_text(row)).collect();
+            let call = Call::edit(rows[turn / WHOSE.len() % rows.len()], FIRST);
+            runner.list([BLOCK; 3], &foreign_at(place, foreign, whose, call))?;
         }
     }
     Ok(())
-}
-
-/// A call on a text (`whose` is 2) or on a log (0: behind the seam, 1: in front of it) that has these bytes at a place,
-/// or with such a text to put in (3). The `turn` chooses the call.
-fn foreign_at(place: usize, foreign: &[u8], whose: usize, turn: usize) -> Vec<Step> {
-    let bytes = (place..BLOCK).zip(foreign.iter().copied());
-    let mut faults = Faults { buffer: vec![b'a'; BLOCK], line: Line { len: BLOCK, cursor: BLOCK }, log: Vec::new() };
-    let mut args = FIRST;
-    match whose {
-        2 => bytes.for_each(|(place, byte)| faults.buffer[place] = byte),
-        3 => {
-            args.buf = vec![b'a'; BLOCK];
-            bytes.for_each(|(place, byte)| args.buf[place] = byte);
-        }
-        _ => faults.log = bytes.map(|(place, byte)| Damage::TextsByte(place, byte)).collect(),
-    }
-    let rows: Vec<usize> =
-        (0..ENTRIES.len()).filter(|&row| whose < 3 || ENTRIES[row].takes.contains(&Param::Buf)).collect();
-    let damaged = Step::Damaged(faults, Call { row: rows[turn % rows.len()], args });
-    vec![lay(Change::Delete(0, "a".repeat(BLOCK))), seam(whose % 2), damaged]
 }
 
 /// Where the second line of a large text starts.
@@ -266,7 +186,7 @@ fn large_text(len: usize) -> Step {
 fn to_the_last_byte(runner: &mut Runner, n: u64) -> Result<(), String> {
     let sizes = [MAX_TEXT, MAX_RECORDS, MAX_TEXTS];
     for row in 0..ENTRIES.len() {
-        let edit = Step::Edit(Call { row, args: Args { buf: b"-".into(), ..FIRST } });
+        let edit = Step::Call(Call::edit(row, Args { buf: b"-".into(), ..FIRST }));
         for text in [large_text(MAX_TEXT), large_text(MAX_TEXT - 1)] {
             if runner.done + 5 > n {
                 return Ok(());
@@ -286,10 +206,10 @@ fn to_the_last_byte(runner: &mut Runner, n: u64) -> Result<(), String> {
 fn nearly_full(runner: &mut Runner, log: &Log, steps: &[Step]) -> Result<(), String> {
     let sizes = [MAX_TEXT, MAX_RECORDS, MAX_TEXTS];
     for less in [0, 1] {
-        let ends = vec![lay(Change::End); MAX_RECORDS - log.undo.records + less];
+        let ends = vec![Step::lay(Change::End); MAX_RECORDS - log.undo.records + less];
         runner.list(sizes, &[&ends, steps].concat())?;
         if log.undo.texts >= less {
-            let full = lay(Change::Insert(9, "a".repeat(MAX_TEXTS - log.undo.texts + less)));
+            let full = Step::lay(Change::Insert(9, "a".repeat(MAX_TEXTS - log.undo.texts + less)));
             runner.list(sizes, &[&[full], steps].concat())?;
         }
     }
@@ -308,9 +228,9 @@ fn faults(runner: &mut Runner, rng: &mut Rng, n: u64) -> Result<(), String> {
         runner.step(&mut played, text)?;
         let records = rng.below(5);
         for _ in 0..records {
-            runner.step(&mut played, lay(drawn_change(rng, 5)))?;
+            runner.step(&mut played, Step::lay(drawn_change(rng, 5)))?;
         }
-        runner.step(&mut played, seam(rng.below(records + 1)))?;
+        runner.step(&mut played, Step::seam(rng.below(records + 1)))?;
         for _ in 0..EDITS.min((limit - runner.done) as usize) {
             let call = drawn_edit(rng, &played.case, Habit::Any);
             let step = damaged(rng, &played.case, call);
@@ -343,16 +263,16 @@ fn drawn(runner: &mut Runner, rng: &mut Rng, n: u64) -> Result<(), String> {
 
 /// An empty text and an empty log in buffers of drawn sizes.
 fn empty(rng: &mut Rng) -> Played {
-    Played::new(drawn_size(rng, MAX_TEXT), drawn_size(rng, MAX_RECORDS), drawn_size(rng, MAX_TEXTS))
+    Played::new([drawn_size(rng, MAX_TEXT), drawn_size(rng, MAX_RECORDS), drawn_size(rng, MAX_TEXTS)])
 }
 
 /// A log that fills buffers of the largest sizes.
 fn full(runner: &mut Runner, rng: &mut Rng) -> Result<Played, String> {
     let less = [0, 0, 0, 1];
     let (records, texts) = (MAX_RECORDS - rng.pick(&less), MAX_TEXTS - rng.pick(&less));
-    let mut played = Played::new(MAX_TEXT - rng.pick(&less), records, texts);
+    let mut played = Played::new([MAX_TEXT - rng.pick(&less), records, texts]);
     for change in filling(rng, &played.case.log) {
-        runner.step(&mut played, lay(change))?;
+        runner.step(&mut played, Step::lay(change))?;
     }
     Ok(played)
 }

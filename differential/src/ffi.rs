@@ -152,3 +152,20 @@ edits! {
     tlf_line_transpose_words(n: u16);
     tlf_line_indent(mvt: u32, n: u16, at: u32, word: u32, search: u32, ch: u32, amount: u8, dedent: u8);
 }
+
+// U: a text and a log are lent, and the log is not written.
+#[rustfmt::skip]
+unsafe extern "C" {
+    pub fn tlf_log_undo(
+        text: *mut u8, text_len: usize, records: *const u8, records_len: usize, texts: *const u8, texts_len: usize,
+        line: Line, log: Log, n: u16,
+    ) -> EditAnswer;
+    pub fn tlf_log_redo(
+        text: *mut u8, text_len: usize, records: *const u8, records_len: usize, texts: *const u8, texts_len: usize,
+        line: Line, log: Log, n: u16,
+    ) -> EditAnswer;
+    pub fn tlf_log_cancel(
+        text: *mut u8, text_len: usize, records: *const u8, records_len: usize, texts: *const u8, texts_len: usize,
+        line: Line, log: Log, mark: usize,
+    ) -> EditAnswer;
+}

@@ -30,6 +30,17 @@ impl Rng {
     pub fn pick<T: Copy>(&mut self, from: &[T]) -> T {
         from[self.below(from.len())]
     }
+
+    /// A place in these weights, each as often as its weight says.
+    pub fn weighted(&mut self, weights: &[usize]) -> usize {
+        let mut left = self.below(weights.iter().sum());
+        let found = |&weight: &usize| {
+            let found = left < weight;
+            left = left.saturating_sub(weight);
+            found
+        };
+        weights.iter().position(found).unwrap()
+    }
 }
 
 /// One or two of every kind that a motion tells apart: letters of one and two bytes, white space of one and two bytes,
@@ -97,6 +108,7 @@ pub const FIRST: Args = Args {
     buf: Vec::new(),
     amount: 1,
     dedent: 0,
+    mark: 0,
 };
 
 /// The combinations of values for the parameters from the `filled`-th on.
@@ -117,6 +129,7 @@ fn small_values(param: Param, text: &str) -> Vec<usize> {
         Param::Pos | Param::Size | Param::Start | Param::End => (0..=text.len() + 1).collect(),
         Param::Amount => vec![0, 1, 33],
         Param::Dedent => vec![0, 1],
+        Param::Mark => vec![0, 1, 2, 3, usize::MAX],
         Param::Buf => (0..SMALL_BUFS.len()).collect(),
         Param::Prompt => vec![0, 1, 2, MAX_PROMPT, MAX_PROMPT + 1],
         Param::Ch => {
@@ -233,6 +246,7 @@ pub fn drawn_args(rng: &mut Rng, text: &[u8]) -> Args {
         buf: rng.pick(&SMALL_BUFS).into(),
         amount: rng.pick(&[0, 1, 1, 2, little, 31, 32, 33, amount, 255]),
         dedent: rng.pick(&[0, 0, 0, 1, 1, 255]),
+        mark: 0,
     }
 }
 

@@ -80,4 +80,11 @@ impl Lent {
             arena[self.start + place..][..bytes.len()].copy_from_slice(bytes);
         }
     }
+
+    /// A buffer of at least this size, with this byte behind what was lent.
+    pub fn grow(&mut self, size: usize, behind: u8) {
+        let mut buffer = self.bytes().to_vec();
+        buffer.resize(size.max(buffer.len()), behind);
+        *self = Lent::new(&buffer);
+    }
 }

@@ -25,6 +25,7 @@ pub enum Param {
     Buf,
     Amount,
     Dedent,
+    Mark,
 }
 use Param::*;
 
@@ -46,6 +47,7 @@ pub struct Args {
     pub buf: Vec<u8>,
     pub amount: u8,
     pub dedent: u8,
+    pub mark: usize,
 }
 
 /// Texts to put in that recording tells apart: none, one alphanumeric character of one or two bytes, another character,
@@ -73,6 +75,7 @@ impl Args {
             Buf => self.buf.len(),
             Amount => self.amount.into(),
             Dedent => self.dedent.into(),
+            Mark => self.mark,
         }
     }
 
@@ -94,6 +97,7 @@ impl Args {
             Buf => self.buf = SMALL_BUFS[value].into(),
             Amount => self.amount = value as u8,
             Dedent => self.dedent = value as u8,
+            Mark => self.mark = value,
         }
         self
     }

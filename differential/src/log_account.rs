@@ -10,6 +10,7 @@ use crate::log_model::{Bytes, Change, list};
 use crate::log_shrink::Differing;
 
 /// Steps and records of a longer list that are shown.
+const STEPS: usize = 100;
 const SHOWN: usize = 40;
 
 /// A call and the log that it is lent, before the damage that the step may do to it.
@@ -33,7 +34,7 @@ pub fn difference(differing: &Differing) -> String {
 /// The last of these steps, one to a line, with their numbers.
 pub fn numbered(steps: impl Iterator<Item = String>) -> String {
     let steps = folded(steps);
-    let hidden = steps.len().saturating_sub(SHOWN);
+    let hidden = steps.len().saturating_sub(STEPS);
     let mut out = String::new();
     let mut number = 0;
     for (i, (step, count)) in steps.iter().enumerate() {

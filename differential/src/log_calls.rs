@@ -63,6 +63,10 @@ pub struct Entry {
 
 const RECORDS: &[u32] = &[0, 2, 4, 8, 10];
 
+pub const BEGIN: &str = "tlf_log_begin";
+pub const END: &str = "tlf_log_end";
+pub const LAST_INSERT: &str = "tlf_log_last_insert";
+
 pub static ENTRIES: [Entry; 9] = [
     Entry {
         name: "tlf_log_new",
@@ -77,7 +81,7 @@ pub static ENTRIES: [Entry; 9] = [
         grows: log_model::none,
     },
     Entry {
-        name: "tlf_log_begin",
+        name: BEGIN,
         takes: &[],
         gives: &[0, 2, 8, 10],
         lends: ToWrite,
@@ -86,7 +90,7 @@ pub static ENTRIES: [Entry; 9] = [
         grows: log_model::begin,
     },
     Entry {
-        name: "tlf_log_end",
+        name: END,
         takes: &[],
         gives: &[0, 1, 2, 8, 10],
         lends: ToWrite,
@@ -162,7 +166,7 @@ pub static ENTRIES: [Entry; 9] = [
         grows: log_model::truncate,
     },
     Entry {
-        name: "tlf_log_last_insert",
+        name: LAST_INSERT,
         takes: &[],
         gives: &[0, 1, 2, 8],
         lends: ToRead,

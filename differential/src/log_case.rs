@@ -112,6 +112,12 @@ impl Case {
         lists::push(&mut self.rust, change);
     }
 
+    /// Buffers of at least these sizes.
+    pub fn grow(&mut self, records: usize, texts: usize) {
+        self.records.grow(records, STALE[0]);
+        self.texts.grow(texts, STALE[0]);
+    }
+
     pub fn set_level(&mut self, level: usize) {
         self.log.level = level;
         lists::set_level(&mut self.rust, level);

@@ -41,13 +41,7 @@ pub fn drawn_step(rng: &mut Rng, case: &Case, mix: &Mix) -> Step {
 
 /// A fit call.
 fn drawn_call(rng: &mut Rng, case: &Case, mix: &Mix) -> Call {
-    let mut left = rng.below(mix.iter().sum());
-    let drawn = |&weight: &usize| {
-        let found = left < weight;
-        left = left.saturating_sub(weight);
-        found
-    };
-    let row = mix.iter().position(drawn).unwrap();
+    let row = rng.weighted(mix);
     Call { row, args: drawn_args(rng, &ENTRIES[row], case) }
 }
 

@@ -16,7 +16,7 @@ pub enum Change<T> {
 use Change::*;
 
 /// Lists in bytes.
-#[derive(Default)]
+#[derive(Default, PartialEq, Eq)]
 pub struct Bytes {
     pub records: Vec<u8>,
     pub texts: Vec<u8>,

@@ -1,6 +1,8 @@
 //! Compares the library with the unchanged text of rustyline 19.0.0: `differential [N] [SEED]`.
 mod account;
 mod checks;
+mod conclusions;
+mod conditions;
 mod edit_account;
 mod edit_calls;
 mod edit_case;
@@ -8,6 +10,7 @@ mod edit_checks;
 mod edit_gen;
 mod edit_lists;
 mod edit_parts;
+mod edit_runner;
 mod edit_shrink;
 mod ffi;
 mod r#gen;
@@ -26,8 +29,15 @@ mod log_model;
 mod log_parts;
 mod log_shrink;
 mod oracle;
+mod session_gen;
+mod session_parts;
 mod shrink;
 mod tally;
+mod undo_calls;
+mod undo_case;
+mod undo_checks;
+mod undo_gen;
+mod undo_parts;
 
 // rustyline's own modules: line_buffer, undo, kill_ring, layout, and of keymap what build.rs cuts out.
 include!(concat!(env!("OUT_DIR"), "/rustyline.rs"));
@@ -35,10 +45,10 @@ include!(concat!(env!("OUT_DIR"), "/rustyline.rs"));
 use std::process::ExitCode;
 use std::time::Instant;
 
-const DEFAULT: u64 = 600_000;
+const DEFAULT: u64 = 1_000_000;
 
 /// From here on a call must have been seen with every number that it can give.
-const ENOUGH: u64 = 400_000;
+const ENOUGH: u64 = 700_000;
 
 fn main() -> ExitCode {
     let mut words = std::env::args().skip(1).map(|word| word.parse::<u64>());
@@ -52,16 +62,24 @@ fn main() -> ExitCode {
     let lines = line_calls::ENTRIES.iter().map(|entry| (entry.name, entry.gives));
     let logs = log_calls::ENTRIES.iter().map(|entry| (entry.name, entry.gives));
     let edits = edit_calls::ENTRIES.iter().map(|entry| (entry.name, entry.gives));
-    let mut tally = tally::Tally::new(lines.chain(logs).chain(edits));
-    let third = n / 3;
-    let compared = line_parts::run(third, seed, trace, &mut tally)
-        .and_then(|()| log_parts::run(third, seed, trace, &mut tally, line_calls::ENTRIES.len()))
-        .and_then(|()| edit_parts::run(n - 2 * third, seed, trace, &mut tally));
-    if let Err(account) = compared {
-        print!("N {n}, seed {seed}: {account}");
-        return ExitCode::FAILURE;
-    }
+    let undos = undo_calls::ENTRIES.iter().map(|entry| (entry.name, entry.gives));
+    let mut tally = tally::Tally::new(lines.chain(logs).chain(edits).chain(undos));
+    let share = n / 5;
+    let compared = line_parts::run(share, seed, trace, &mut tally)
+        .and_then(|()| log_parts::run(share, seed, trace, &mut tally, line_calls::ENTRIES.len()))
+        .and_then(|()| edit_parts::run(share, seed, trace, &mut tally))
+        .and_then(|()| undo_parts::run(share, seed, trace, &mut tally))
+        .and_then(|()| session_parts::run(n - 4 * share, seed, trace, &mut tally));
+    let sessions = match compared {
+        Ok(sessions) => sessions,
+        Err(account) => {
+            print!("N {n}, seed {seed}: {account}");
+            return ExitCode::FAILURE;
+        }
+    };
     tally.print();
+    let session_parts::Counts { sessions, calls, due, conclusions } = sessions;
+    println!("{sessions} sessions of {calls} calls; at the end of {due} demand 3 is due, {conclusions} conclusions");
     let [tab, cr, newline] = oracle::control_widths();
     println!("the Rust's width of U+0009, \\r, \\n: {tab}, {cr}, {newline}");
     println!("{n} comparisons, seed {seed}, no difference, {:.1} s", began.elapsed().as_secs_f64());

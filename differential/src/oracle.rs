@@ -5,7 +5,7 @@ use crate::layout::{GraphemeClusterMode, Layout};
 use crate::line_buffer::{DeleteListener, Direction, LineBuffer, NoListener, WordAction};
 use crate::line_calls::Args;
 use crate::listeners::Witness;
-use crate::log_model::Bytes;
+use crate::log_model::{Bytes, Change};
 use crate::undo::{Changeset, lists};
 
 /// What the Rust decides: the places of answer 0, or `None` for answer 1. The cursor stays in the line buffer.
@@ -173,4 +173,32 @@ pub fn last_insert(changes: &Changeset) -> Outcome {
     let from = to - text.len();
     assert_eq!(&bytes.texts[from..to], text.as_bytes(), "the places are those of the text");
     Some((from, to))
+}
+
+/// Redoing n is n calls of the Rust's. On an empty list each gives nothing.
+pub fn redo(line: &mut LineBuffer, changes: &mut Changeset, n: u16) -> bool {
+    let mut redone = false;
+    for _ in 0..n {
+        if lists::redo(changes).len() == 0 {
+            break;
+        }
+        redone |= changes.redo(line);
+    }
+    redone
+}
+
+/// Document 01's cancel, which the Rust has not: its undo of the records from the mark on, each of them a unit since no
+/// End is among them. Then they and the redo list are dropped, and the level is lowered by the Begins among them.
+pub fn cancel(line: &mut LineBuffer, changes: &mut Changeset, mark: usize) -> bool {
+    let group: Vec<Change<&str>> = lists::undo(changes).skip(mark).collect();
+    let opens = matches!(group.first(), Some(Change::Begin));
+    if !opens || group.iter().any(|change| matches!(change, Change::End)) {
+        return false;
+    }
+    let begins = group.iter().filter(|change| matches!(change, Change::Begin)).count();
+    let count = u16::try_from(group.len()).expect("check 2");
+    changes.undo(line, count);
+    lists::drop_redo(changes);
+    lists::set_level(changes, lists::level(changes).saturating_sub(begins));
+    true
 }

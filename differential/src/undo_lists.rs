@@ -1,5 +1,7 @@
 //! The two lists and the group level of rustyline's `Changeset`. build.rs puts this module behind the text of undo.rs,
 //! inside `undo`, where the private fields are seen.
+use std::mem;
+
 use super::{Change as Own, Changeset};
 use crate::log_model::Change;
 
@@ -65,4 +67,40 @@ pub fn seam(changes: &mut Changeset, count: usize) {
     while changes.undos.len() < count && !changes.redos.is_empty() {
         changes.undos.extend(changes.redos.pop());
     }
+}
+
+/// The same lists without places and texts, save that each record of a text is still one.
+pub fn bare(changes: &Changeset) -> Changeset {
+    let bare = |change: &Own| match change {
+        Own::Begin => Own::Begin,
+        Own::End => Own::End,
+        Own::Insert { .. } | Own::Delete { .. } | Own::Replace { .. } => Own::Insert { idx: 0, text: String::new() },
+    };
+    let mut all = Changeset::new();
+    all.undos = changes.undos.iter().map(bare).collect();
+    all.redos = changes.redos.iter().map(bare).collect();
+    set_level(&mut all, level(changes));
+    all
+}
+
+/// Does something while the undo list has its newest `count` records alone.
+pub fn with_newest<T>(changes: &mut Changeset, count: usize, go: impl FnOnce(&mut Changeset) -> T) -> T {
+    let newest = changes.undos.split_off(changes.undos.len() - count);
+    let others = mem::replace(&mut changes.undos, newest);
+    let outcome = go(changes);
+    changes.undos.splice(0..0, others);
+    outcome
+}
+
+/// Does something while the redo list has the `count` records alone that are next to be redone.
+pub fn with_next<T>(changes: &mut Changeset, count: usize, go: impl FnOnce(&mut Changeset) -> T) -> T {
+    let next = changes.redos.split_off(changes.redos.len() - count);
+    let others = mem::replace(&mut changes.redos, next);
+    let outcome = go(changes);
+    changes.redos.splice(0..0, others);
+    outcome
+}
+
+pub fn drop_redo(changes: &mut Changeset) {
+    changes.redos.clear();
 }

@@ -1,6 +1,6 @@
--- Sums of used lengths: a part of a buffer, and a sum that need not fit the machine. Assumes nothing.
+-- Sums of used lengths: a part of a buffer, a sum that need not fit the machine, and a difference that is never below 0. Assumes nothing.
 use mathlib.Core.Path.{_≡_, sym, ap, ap₂, _∙_}
-use mathlib.Core.Bool.{Bool}
+use mathlib.Core.Bool.{Bool, cond}
 use mathlib.Core.List.{List}
 use Prim.Native.Nat.{ℕ, _+_, _-_, _≤_}
 use native.Mathlib.Omega.{arith}
@@ -16,6 +16,12 @@ pub over-sum : (len a b : ℕ) → a ≤ len → ltb (len - a) b ≡ ltb len (a 
 over-sum len a b h =
     by-less _ (len - a) b (λ l. lt-ltb (len - a) b l ∙ sym (lt-ltb len (a + b) (omega arith)))
     (λ l. le-ltb (len - a) b l ∙ sym (le-ltb len (a + b) (omega arith)))
+
+-- a number lowered by another, never below 0
+pub lowered : (n a m : ℕ) → m ≡ cond (ltb a n) a n → (m ≤ n) × (n - m ≡ n - a)
+lowered n a m e =
+    by-less _ a n (λ l. let f : m ≡ a = e ∙ rw (lt-ltb a n l) in (omega arith, omega arith))
+    (λ l. let f : m ≡ n = e ∙ rw (le-ltb a n l) in (omega arith, omega arith))
 
 -- the part from a to a + n
 part-sum : (a n : ℕ) (l : List ℕ) → take (a + n - a) (drop a l) ≡ take n (drop a l)

@@ -2,7 +2,7 @@
 // lent log, and what is done with one that they pass, in any format of its records.
 ghost use mathlib.Core.Path.{_≡_};
 ghost use mathlib.Core.Bool.{true, false, cond};
-ghost use Prim.Native.Nat.{_+_, _≤_, _<_};
+ghost use Prim.Native.Nat.{_+_, _-_, _≤_, _<_};
 ghost use lib.Dec.{ltb};
 ghost use lib.ListN.{length};
 ghost use Rattle.unicode.specs.Repertoire.{catalogue};
@@ -182,6 +182,33 @@ impl Log {
         let used = Used { records, texts };
         self.undo = used;
         self.drop_redo()
+    }
+
+    // The seam between the two lists moved: the undo list ends there, and the redo list begins there.
+    pub fn move_seam(mut self, records: usize, texts: usize) -> Log
+        requires { ⌜ (records ≤ self .undo .records + self .redo .records) × (self .undo .records + self .redo .records ≤ 65535) ⌝ }
+        requires { ⌜ (texts ≤ self .undo .texts + self .redo .texts) × (self .undo .texts + self .redo .texts ≤ 65535) ⌝ }
+        ensures { λ r. ⌜ r ≡ record { undo = record { records = records; texts = texts }; redo = record { records = self .undo .records + self .redo .records - records; texts = self .undo .texts + self .redo .texts - texts }; level = self .level } ⌝ }
+    {
+        let u = self.undo;
+        let d = self.redo;
+        let behind = Used {
+            records: u.records + d.records - records,
+            texts: u.texts + d.texts - texts,
+        };
+        let used = Used { records, texts };
+        self.undo = used;
+        self.redo = behind;
+        self
+    }
+
+    // cancel: the undo list with these used lengths, no redo list, and the level lowered by the Begins dropped, never below 0.
+    pub fn cancel(mut self, records: usize, texts: usize, begins: usize) -> Log
+        ensures { λ r. ⌜ r ≡ record { undo = record { records = records; texts = texts }; redo = record { records = 0; texts = 0 }; level = self .level - begins } ⌝ }
+    {
+        let level = self.level;
+        self.level = level - least(begins, level);
+        self.only_undo(records, texts)
     }
 
     // A change recorded, by its kind 3, 4 or 5, its place, its old and its new text: merged where it may be and follows.

@@ -2,23 +2,27 @@
 use Prim.Native.Nat.{ℕ, zero, suc, _+_, _≤_, _<_}
 use native.Mathlib.Omega.{arith}
 use mathlib.Core.Path.{_≡_, refl, sym, ap, ap₂, subst, _∙_}
-use mathlib.Core.Bool.{true}
+use mathlib.Core.Bool.{true, false, not}
 use mathlib.Core.List.{List, [], _∷_, _++_, map, reverse, reverse-reverse}
+use mathlib.Core.Option.{Option}
 use lib.ListN.{length, take, length-append}
+use borrow.Author.Tests.{le-ltb}
 use Rattle.utf8.specs.Chars.{boundary}
-use Rattle.unicode.specs.Repertoire.{catalogue}
+use Rattle.unicode.specs.Repertoire.{Repertoire, catalogue}
 use Rattle.unicode.specs.Text.{isText}
 use Rattle.journal.specs.Change.{Change, turn}
-use Rattle.journal.specs.Layout.{Format, top, AllGood, Layout, decode, encodeRecords, encodeTexts}
+use Rattle.journal.specs.Layout.{Format, top, AllGood, Layout, isSome, decode, encodeRecords, encodeTexts}
 use Rattle.journal.specs.Hold.{Holds}
 use Rattle.journal.specs.Groups as groups
 use Rattle.journal.proofs.Decode.{decode-encode}
 use Rattle.journal.proofs.Groups.{turned-back}
 use Rattle.journal.proofs.Holds.{records-append, texts-append, good-append, front, behind}
 use Rattle.journal.proofs.Undo.{good-oldest}
+use Rattle.checks.specs.Checks.{refusal, ownTests}
+use Rattle.changeset.specs.Logs.{overSizes, broken, damaged}
 use Rattle.changeset.specs.Calls as log
 use Rattle.edit.specs.Plan.{In, State}
-use Rattle.edit.specs.Calls.{Lent, lent, stateOf, Stored, Ready}
+use Rattle.edit.specs.Calls.{Lent, lent, checked, stateOf, Stored, Ready}
 
 -- a list from which n bytes can be taken has as many
 pub take-within : (n : ℕ) (l : List ℕ) → length (take n l) ≡ n → n ≤ length l
@@ -27,7 +31,7 @@ take-within (suc n) [] e = absurd (omega arith)
 take-within (suc n) (b ∷ l) e = let h = take-within n l (omega arith) in omega arith
 
 -- ---- the log
-module _ (F : Format) (g : groups.Log) (rb tb : List ℕ) (s : log.Stored F g rb tb) (gu : AllGood catalogue (F .width) (g .undo)) (gr : AllGood catalogue (F .width) (map turn (g .redo))) where
+module _ (R : Repertoire) (F : Format) (g : groups.Log) (rb tb : List ℕ) (s : log.Stored F g rb tb) (gu : AllGood R (F .width) (g .undo)) (gr : AllGood R (F .width) (map turn (g .redo))) where
   abbrev us : List Change
   us = reverse (g .undo)
 
@@ -43,14 +47,14 @@ module _ (F : Format) (g : groups.Log) (rb tb : List ℕ) (s : log.Stored F g rb
   row-texts : length (encodeTexts us) + length (encodeTexts rs) ≡ length (encodeTexts (us ++ rs))
   row-texts = sym (ap length (texts-append us rs) ∙ length-append (encodeTexts us) (encodeTexts rs))
 
-  stored-holds : Holds catalogue F rb tb (length (encodeRecords F us)) (length (encodeTexts us)) (length (encodeRecords F rs)) (length (encodeTexts rs)) us rs
+  stored-holds : Holds R F rb tb (length (encodeRecords F us)) (length (encodeTexts us)) (length (encodeRecords F rs)) (length (encodeTexts rs)) us rs
   stored-holds =
       record {
         both =
             record {
               records = ap (λ (n : ℕ). take n rb) row-records ∙ s .records;
               texts = ap (λ (n : ℕ). take n tb) row-texts ∙ s .texts;
-              good = good-append catalogue (F .width) us rs (good-oldest catalogue (F .width) (g .undo) gu) gr;
+              good = good-append R (F .width) us rs (good-oldest R (F .width) (g .undo) gu) gr;
             };
         records = refl;
         texts = refl;
@@ -58,44 +62,60 @@ module _ (F : Format) (g : groups.Log) (rb tb : List ℕ) (s : log.Stored F g rb
         space = omega (arith, row-texts, take-within (length (encodeTexts (us ++ rs))) tb (ap length (s .texts)));
       }
 
-  read : (a b : List ℕ) (cs : List Change) → Layout catalogue F a b cs → log.orNil (decode catalogue F a b) ≡ cs
-  read a b cs x = ap₂ (λ (p q : List ℕ). log.orNil (decode catalogue F p q)) (x .records) (x .texts) ∙ ap log.orNil (decode-encode catalogue F cs (x .good))
+  read : (a b : List ℕ) (cs : List Change) → Layout R F a b cs → log.orNil (decode R F a b) ≡ cs
+  read a b cs x = ap₂ (λ (p q : List ℕ). log.orNil (decode R F p q)) (x .records) (x .texts) ∙ ap log.orNil (decode-encode R F cs (x .good))
 
-  undos-held : log.undos catalogue F held ≡ us
+  undos-held : log.undos R F held ≡ us
   unfolding log.undos
-  undos-held = read _ _ us (front catalogue F rb tb (length (encodeRecords F us)) (length (encodeTexts us)) (length (encodeRecords F rs)) (length (encodeTexts rs)) us rs stored-holds)
+  undos-held = read _ _ us (front R F rb tb (length (encodeRecords F us)) (length (encodeTexts us)) (length (encodeRecords F rs)) (length (encodeTexts rs)) us rs stored-holds)
 
-  redos-held : log.redos catalogue F held ≡ rs
+  redos-held : log.redos R F held ≡ rs
   unfolding log.redos
-  redos-held = read _ _ rs (behind catalogue F rb tb (length (encodeRecords F us)) (length (encodeTexts us)) (length (encodeRecords F rs)) (length (encodeTexts rs)) us rs stored-holds)
+  redos-held = read _ _ rs (behind R F rb tb (length (encodeRecords F us)) (length (encodeTexts us)) (length (encodeRecords F rs)) (length (encodeTexts rs)) us rs stored-holds)
 
   -- the log that the bytes hold
-  pub log-held : log.valueOf catalogue F held ≡ g
+  pub log-held : log.valueOf R F held ≡ g
   log-held =
       ap₂ (λ (u r : List Change). record { undo = u; redo = r; level = g .level }) (ap reverse undos-held ∙ reverse-reverse (g .undo)) (ap (map turn) redos-held ∙ turned-back (g .redo))
 
-  -- which checks 2 and 8 pass
-  pub log-ready : length rb ≤ 32768 → length tb ≤ 65535 → 65535 < top (F .width) → g .level ≤ 255 → log.Ready F held
-  log-ready a b w v =
-      record {
-        records = a;
-        texts = b;
-        wide = w;
-        level = v;
-        hold =
-            subst (λ (x : List Change). Holds catalogue F rb tb (length (encodeRecords F us)) (length (encodeTexts us)) (length (encodeRecords F rs)) (length (encodeTexts rs)) x (log.redos catalogue F held)) (sym undos-held)
-            (subst (λ (x : List Change). Holds catalogue F rb tb (length (encodeRecords F us)) (length (encodeTexts us)) (length (encodeRecords F rs)) (length (encodeTexts rs)) us x) (sym redos-held) stored-holds);
-      }
+  pub log-holds : Holds R F rb tb (length (encodeRecords F us)) (length (encodeTexts us)) (length (encodeRecords F rs)) (length (encodeTexts rs)) (log.undos R F held) (log.redos R F held)
+  log-holds =
+      subst (λ (x : List Change). Holds R F rb tb (length (encodeRecords F us)) (length (encodeTexts us)) (length (encodeRecords F rs)) (length (encodeTexts rs)) x (log.redos R F held)) (sym undos-held)
+      (subst (λ (x : List Change). Holds R F rb tb (length (encodeRecords F us)) (length (encodeTexts us)) (length (encodeRecords F rs)) (length (encodeTexts rs)) us x) (sym redos-held) stored-holds)
+
+  -- check 2 passes it
+  pub log-sized : length rb ≤ 32768 → length tb ≤ 65535 → overSizes (log.logOf F g) rb tb ≡ false
+  unfolding overSizes
+  log-sized a b = rw (le-ltb 32768 (length rb) a, le-ltb 65535 (length tb) b, le-ltb (length rb) _ (stored-holds .room), le-ltb (length tb) _ (stored-holds .space))
+
+  whole : (a b : List ℕ) (cs : List Change) → Layout R F a b cs → broken R F a b ≡ false
+  whole a b cs x = ap₂ (λ (p q : List ℕ). broken R F p q) (x .records) (x .texts) ∙ ap (λ (o : Option (List Change)). not (isSome o)) (decode-encode R F cs (x .good))
+
+  -- and so does check 8
+  pub log-whole : g .level ≤ 255 → damaged R F (log.logOf F g) rb tb ≡ false
+  unfolding damaged
+  log-whole v =
+      let f = front R F rb tb (length (encodeRecords F us)) (length (encodeTexts us)) (length (encodeRecords F rs)) (length (encodeTexts rs)) us rs stored-holds in
+      let b = behind R F rb tb (length (encodeRecords F us)) (length (encodeTexts us)) (length (encodeRecords F rs)) (length (encodeTexts rs)) us rs stored-holds in
+      rw (le-ltb 255 (g .level) v, whole _ _ us f, whole _ _ rs b)
 
 -- ---- text, cursor and log
-module _ (F : Format) (s : State) (t rb tb : List ℕ) (q : Stored F s t rb tb) (gu : AllGood catalogue (F .width) (s .log .undo)) (gr : AllGood catalogue (F .width) (map turn (s .log .redo))) where
+module _ (R : Repertoire) (F : Format) (s : State) (t rb tb : List ℕ) (q : Stored F s t rb tb) (gu : AllGood R (F .width) (s .log .undo)) (gr : AllGood R (F .width) (map turn (s .log .redo))) where
   abbrev pub lentNext : Lent
   lentNext = lent t rb tb (record { len = length (s .text); cursor = s .cursor }) (log.logOf F (s .log))
 
-  pub state-held : stateOf catalogue F lentNext ≡ s
-  state-held = ap₂ (λ (x : List ℕ) (g : groups.Log). record { text = x; cursor = s .cursor; log = g }) (q .text) (log-held F (s .log) rb tb (q .log) gu gr)
+  pub state-held : stateOf R F lentNext ≡ s
+  state-held = ap₂ (λ (x : List ℕ) (g : groups.Log). record { text = x; cursor = s .cursor; log = g }) (q .text) (log-held R F (s .log) rb tb (q .log) gu gr)
 
-  pub state-ready : length t ≤ 4096 → length rb ≤ 32768 → length tb ≤ 65535 → 65535 < top (F .width) → s .log .level ≤ 255 → isText catalogue (s .text) ≡ true → In (s .text) (s .cursor) (s .cursor) → Ready F lentNext
+  -- the checks 2 to 8 pass it
+  pub state-passes : length t ≤ 4096 → length rb ≤ 32768 → length tb ≤ 65535 → s .log .level ≤ 255 → isText R (s .text) ≡ true → In (s .text) (s .cursor) (s .cursor) → checked R F lentNext (ownTests false false false) ≡ 0
+  unfolding refusal
+  state-passes a b c v e i =
+      rw (le-ltb 4096 (length t) a, le-ltb (length t) (length (s .text)) (take-within (length (s .text)) t (ap length (q .text))), log-sized R F (s .log) rb tb (q .log) gu gr b c, q .text, e, le-ltb (length (s .text)) (s .cursor) (i .1), i .2, log-whole R F (s .log) rb tb (q .log) gu gr v)
+
+-- over 01's repertoire: what the functions ask for where the checks have passed
+module _ (F : Format) (s : State) (t rb tb : List ℕ) (q : Stored F s t rb tb) (gu : AllGood catalogue (F .width) (s .log .undo)) (gr : AllGood catalogue (F .width) (map turn (s .log .redo))) where
+  pub state-ready : length t ≤ 4096 → length rb ≤ 32768 → length tb ≤ 65535 → 65535 < top (F .width) → s .log .level ≤ 255 → isText catalogue (s .text) ≡ true → In (s .text) (s .cursor) (s .cursor) → Ready F (lentNext catalogue F s t rb tb q gu gr)
   state-ready a b c w v e i =
       record {
         small = a;
@@ -103,5 +123,5 @@ module _ (F : Format) (s : State) (t rb tb : List ℕ) (q : Stored F s t rb tb) 
         text = ap (isText catalogue) (q .text) ∙ e;
         within = i .1;
         edge = ap (λ (x : List ℕ). boundary x (s .cursor)) (q .text) ∙ i .2;
-        log = log-ready F (s .log) rb tb (q .log) gu gr b c w v;
+        log = record { records = b; texts = c; wide = w; level = v; hold = log-holds catalogue F (s .log) rb tb (q .log) gu gr };
       }

@@ -136,7 +136,7 @@ module _ (F : Format) where
 
     pub goes-on : Left F l₀ p xs (lent t rb tb (r .line) (r .log))
     goes-on =
-        let g = state-held F next t rb tb (taken .bytes) goods tt in
+        let g = state-held catalogue F next t rb tb (taken .bytes) goods tt in
         let e = state-ready F next t rb tb (taken .bytes) goods tt (omega (arith, k .ready .small)) (omega (arith, k .ready .log .records)) (omega (arith, k .ready .log .texts)) (k .ready .log .wide) (k .ready .log .level)
         (made-text catalogue x (textOf l) (suits .0) (k .ready .text)) start in
         subst (λ (a : EditAnswer). Left F l₀ p xs (lent t rb tb (a .line) (a .log))) (sym (taken .answer))

@@ -13,6 +13,7 @@ ghost use Rattle.ranges.specs.Ranges as ranges;
 ghost use Rattle.inserts.specs.Inserts as inserts;
 ghost use Rattle.rewrites.specs.Rewrites as rewrites;
 ghost use Rattle.indents.specs.Indents as indents;
+ghost use Rattle.undo.specs.Undo.{undoCall, redoCall, cancelCall};
 ghost use Rattle.kills.specs.Kills.{killCall, killLineCall, killBufferCall, discardLineCall, discardBufferCall, backspaceCall, deletePrevWordCall, deleteWordCall, deleteToCall};
 use changeset::Log;
 use changeset::LogAnswer;
@@ -633,4 +634,52 @@ pub extern "C" fn tlf_log_last_insert(records: &[u8], texts: &[u8], log: Log) ->
         (lastInsertCall catalogue narrow (lent (now (records .entry)) (now (texts .entry)) log)) ⌝ }
 {
     log_calls::last_insert(records, texts, log)
+}
+
+#[no_mangle]
+pub extern "C" fn tlf_log_undo(
+    text: &mut [u8],
+    records: &[u8],
+    texts: &[u8],
+    line: Line,
+    log: Log,
+    n: u16,
+) -> EditAnswer
+    ensures { λ r. ⌜ edits.Edited narrow (edits.lent (now (text .entry)) (now (records .entry)) (now (texts .entry)) line log)
+        (undoCall catalogue narrow (edits.lent (now (text .entry)) (now (records .entry)) (now (texts .entry)) line log) n)
+        r (now (text .exit)) (now (records .entry)) (now (texts .entry)) ⌝ }
+{
+    undo::undo(text, records, texts, line, log, n)
+}
+
+#[no_mangle]
+pub extern "C" fn tlf_log_redo(
+    text: &mut [u8],
+    records: &[u8],
+    texts: &[u8],
+    line: Line,
+    log: Log,
+    n: u16,
+) -> EditAnswer
+    ensures { λ r. ⌜ edits.Edited narrow (edits.lent (now (text .entry)) (now (records .entry)) (now (texts .entry)) line log)
+        (redoCall catalogue narrow (edits.lent (now (text .entry)) (now (records .entry)) (now (texts .entry)) line log) n)
+        r (now (text .exit)) (now (records .entry)) (now (texts .entry)) ⌝ }
+{
+    undo::redo(text, records, texts, line, log, n)
+}
+
+#[no_mangle]
+pub extern "C" fn tlf_log_cancel(
+    text: &mut [u8],
+    records: &[u8],
+    texts: &[u8],
+    line: Line,
+    log: Log,
+    mark: usize,
+) -> EditAnswer
+    ensures { λ r. ⌜ edits.Edited narrow (edits.lent (now (text .entry)) (now (records .entry)) (now (texts .entry)) line log)
+        (cancelCall catalogue narrow (edits.lent (now (text .entry)) (now (records .entry)) (now (texts .entry)) line log) mark)
+        r (now (text .exit)) (now (records .entry)) (now (texts .entry)) ⌝ }
+{
+    undo::cancel(text, records, texts, line, log, mark)
 }

@@ -29,17 +29,17 @@ use Rattle.journal.specs.Change.{Change, edit, insert, delete}
 use Rattle.journal.specs.Layout.{narrow, encodeRecords, encodeTexts, sizeOf, textsAt, changeAt, wholeAt, decodeAt}
 use Rattle.journal.specs.Recording.{note, recordInsert, recordInsertStr, recordDelete}
 use Rattle.journal.specs.Undo.{undoRecords, undoTexts, allSmall, fits}
+use Rattle.journal.specs.Groups.{endAll, endsAny}
 use Rattle.changeset.specs.Logs.{overSizes, damaged}
-use Rattle.changeset.specs.Calls.{undos, redos, row, logOf}
-use Rattle.edit.specs.Plan.{splice, textAfter, listAfter, tooLong, State, Outcome, refused, answered, edited}
-use Rattle.edit.specs.Calls.{Lent, lent}
-use Rattle.inserts.specs.Inserts.{insertCall}
+use Rattle.changeset.specs.Calls.{undos, redos, row, logOf, truncateCall}
+use Rattle.changeset.specs.Outcomes.{beginOut, endOut}
+use Rattle.edit.specs.Plan.{splice, textAfter, listAfter, tooLong, State, Outcome, answered, edited}
+use Rattle.edit.specs.Calls.{Lent, lent, logLent}
 use Rattle.buffer.specs.Edit.{copies}
 use Rattle.rewrites.specs.Rewrites.{actionList, editWordCall, transposeWordsCall}
-
--- a text of len bytes with the cursor at a place
-abbrev at : ℕ → ℕ → Line
-at len cursor = record { len = len; cursor = cursor }
+use Rattle.retrace.specs.Retrace.{misfit, exchanging, undoing as Retrace·undoing}
+use Rattle.undo.specs.Undo as undos
+use Rattle.session.proofs.Played.{at, state, lending, typing, beginning, ending, undoing, cancelling, truncating, after}
 
 -- "e", U+0301, "x"
 abbrev marked : List ℕ
@@ -81,29 +81,6 @@ box = 0x62 ∷ 0x6F ∷ 0x78 ∷ []
 abbrev firstWord : List ℕ
 firstWord = 0x70 ∷ 0x61 ∷ 0x72 ∷ 0x69 ∷ 0x73 ∷ 0x68 ∷ []
 
--- a text, a cursor and an undo list, newest first; nothing to redo and no group open
-abbrev state : List ℕ → ℕ → List Change → State
-state t p u = record { text = t; cursor = p; log = record { undo = u; redo = []; level = 0 } }
-
--- a buffer of n bytes that begins with these
-abbrev buffer : ℕ → List ℕ → List ℕ
-buffer n s = s ++ replicate (n - length s) 0
-
--- the bytes of a state, in buffers of 16, 32 and 32 bytes
-abbrev lending : State → Lent
-lending s =
-    lent (buffer 16 (s .text)) (buffer 32 (encodeRecords narrow (row narrow (s .log)))) (buffer 32 (encodeTexts (row narrow (s .log))))
-    (at (length (s .text)) (s .cursor)) (logOf narrow (s .log))
-
--- what is lent next, after an answer; nothing after a refusal
-abbrev leaving : Outcome → Lent
-leaving (refused k) = lending (state [] 0 [])
-leaving (answered k a b s) = lending s
-
--- a character typed
-abbrev typing : ℕ → Lent → Outcome
-typing c l = insertCall catalogue narrow l c 1
-
 -- codes: words Big 0, Emacs 1, Vi 2; stops Start 0, BeforeEnd 1, AfterEnd 2; search Forward 0; movement LineDown 10; case action Uppercase 2
 pub record Cases : Type 0 where
   -- forward 1 from 0: 3; forward 5: 4
@@ -138,13 +115,17 @@ pub record Cases : Type 0 where
   pub p10 :
       transposeWordsCall catalogue narrow (lending (state (box ++ (0x20 ∷ firstWord)) 10 [])) 1
       ≡ answered 0 0 0 (state parish 10 (edit (insert 0 firstWord) ∷ edit (delete 0 box) ∷ edit (insert 4 box) ∷ edit (delete 4 firstWord) ∷ []))
-  -- type a, b, space, c: two records, "ab" and " c"
+  -- type a, b, space, c: two records, "ab" and " c"; undo 1 leaves "ab"
   pub p11 :
-      typing 0x63 (leaving (typing 0x20 (leaving (typing 0x62 (leaving (typing 0x61 (lending (state [] 0 []))))))))
-      ≡ answered 0 0 0 (state (0x61 ∷ 0x62 ∷ 0x20 ∷ 0x63 ∷ []) 4 (edit (insert 2 (0x20 ∷ 0x63 ∷ [])) ∷ edit (insert 0 (0x61 ∷ 0x62 ∷ [])) ∷ []))
+      (after (typing 0x61 ∷ typing 0x62 ∷ typing 0x20 ∷ typing 0x63 ∷ []) ≡ state (0x61 ∷ 0x62 ∷ 0x20 ∷ 0x63 ∷ []) 4 (edit (insert 2 (0x20 ∷ 0x63 ∷ [])) ∷ edit (insert 0 (0x61 ∷ 0x62 ∷ [])) ∷ []))
+      × (after (typing 0x61 ∷ typing 0x62 ∷ typing 0x20 ∷ typing 0x63 ∷ undoing 1 ∷ []) .text ≡ 0x61 ∷ 0x62 ∷ [])
+  -- type q; begin; truncate to its mark; begin; type r; end; undo 1: empty text. With cancel for truncate: "q"
+  pub p12 :
+      (after (typing 0x71 ∷ beginning ∷ truncating 1 ∷ beginning ∷ typing 0x72 ∷ ending ∷ undoing 1 ∷ []) .text ≡ [])
+      × (after (typing 0x71 ∷ beginning ∷ cancelling 1 ∷ beginning ∷ typing 0x72 ∷ ending ∷ undoing 1 ∷ []) .text ≡ 0x71 ∷ [])
 
 pub cases : Cases
-unfolding within one two lead3 three lead4 four firstOf first charsFrom validFrom startBefore scalar size isMember isControl isMark isAlnum isWhite widthOf isText isChar joined clusters wordList atList searchList columnAfter columnsAfter width sizes nextPos prevPos matches nthMatch afterCluster matchForward matchBackward isStartOfWord landsBehind marks graphemeIndices scan walk landsOn nextWord noWord landed nextWordPos prevWord prevWordPos startOfLine beforeNewline endOfLine nthCluster lineAbove lineBelow lineUp lineDown linesDown nLinesDown movements copied startsAfter refusal called isSmall isCapital upperOf lowerOf encode encodeAll caseAll cased firstAlnum skipWhitespace sizeOf textsAt changeAt wholeAt decodeAt note recordInsert recordInsertStr recordDelete undoRecords undoTexts allSmall fits overSizes damaged undos redos splice textAfter listAfter tooLong edited copies actionList
+unfolding within one two lead3 three lead4 four firstOf first charsFrom validFrom startBefore scalar size isMember isControl isMark isAlnum isWhite widthOf isText isChar joined clusters wordList atList searchList columnAfter columnsAfter width sizes nextPos prevPos matches nthMatch afterCluster matchForward matchBackward isStartOfWord landsBehind marks graphemeIndices scan walk landsOn nextWord noWord landed nextWordPos prevWord prevWordPos startOfLine beforeNewline endOfLine nthCluster lineAbove lineBelow lineUp lineDown linesDown nLinesDown movements copied startsAfter refusal called isSmall isCapital upperOf lowerOf encode encodeAll caseAll cased firstAlnum skipWhitespace sizeOf textsAt changeAt wholeAt decodeAt note recordInsert recordInsertStr recordDelete undoRecords undoTexts allSmall fits overSizes damaged undos redos splice textAfter listAfter tooLong edited copies actionList beginOut endOut endAll endsAny misfit exchanging Retrace·undoing undos.walk undos.undoOut undos.opens undos.walkTo undos.beginsDown undos.cancelOut
 cases =
     record {
       p1 = (refl, refl);
@@ -157,5 +138,6 @@ cases =
       p8 = refl;
       p9 = refl;
       p10 = refl;
-      p11 = refl;
+      p11 = (refl, refl);
+      p12 = (refl, refl);
     }

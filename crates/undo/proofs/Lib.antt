@@ -1,1 +1,12 @@
+pub mod Calls
+pub mod Rows
+pub mod Seams
+pub mod Passes
+pub mod Counts
+pub mod Steps
+pub mod Walks
+pub mod Units
+pub mod Redos
+pub mod Opens
+pub mod Cancels
 pub mod Examples

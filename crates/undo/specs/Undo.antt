@@ -1,42 +1,17 @@
 -- Undo, redo and cancel on values: undo.rs, undo and redo of Changeset, and document 01 for cancel and for the stops 12 and 9. The redo list has every
 -- record turned round, so redo is undo with the two lists exchanged.
 use Prim.Native.Nat.{ℕ, zero, suc, _+_, _-_}
-use mathlib.Core.Bool.{Bool, true, false, cond, not, _&&_}
+use mathlib.Core.Bool.{Bool, true, false, cond, _&&_}
 use mathlib.Core.List.{List, [], _∷_}
-use lib.Dec.{eqb, leb, ltb}
+use lib.Dec.{eqb}
 use lib.ListN.{length}
-use Rattle.utf8.specs.Chars.{boundary}
 use Rattle.unicode.specs.Repertoire.{Repertoire}
 use Rattle.checks.specs.Checks.{ownTests}
-use Rattle.journal.specs.Change.{Edit, Change, begin, end, edit, place, old, new, flipped, turn}
+use Rattle.journal.specs.Change.{Change, begin, end, edit, turn}
 use Rattle.journal.specs.Layout.{Format}
-use Rattle.edit.specs.Plan.{State, Outcome, refused, answered, called, changed}
+use Rattle.edit.specs.Plan.{State, Outcome, refused, answered, called}
 use Rattle.edit.specs.Calls.{Lent, checked, stateOf}
-
--- ---- one record undone
--- a text, a cursor, and whether a record of a text was undone
-pub record Trail : Type 0 where
-  pub text : List ℕ
-  pub cursor : ℕ
-  pub undone : Bool
-
--- what undoing a record leaves, or the number that it stops with
-pub data Tried : Type 0 where
-  done : Trail → Tried
-  stops : ℕ → Tried
-
--- 12: the range of what is to be taken out leaves the text or cuts a character
-unfoldable pub misfit : Edit → List ℕ → Bool
-misfit x t = not (leb (place x + length (new x)) (length t) && (boundary t (place x) && boundary t (place x + length (new x))))
-
--- then 9: the text would be longer than C. The cursor goes behind what was put back
-unfoldable pub undoing : ℕ → Change → Trail → Tried
-undoing C begin s = done s
-undoing C end s = done s
-undoing C (edit x) s =
-    cond (misfit x (s .text)) (stops 12)
-    (cond (ltb C (length (changed (flipped x) (s .text)))) (stops 9)
-    (done (record { text = changed (flipped x) (s .text); cursor = place x + length (old x); undone = true })))
+use Rattle.retrace.specs.Retrace.{Trail, Tried, done, stops, undoing}
 
 -- ---- undo: records until n units are done
 -- waiting_for_begin, the Ends seen less the Begins seen, which may go below 0: `owed n` is n, `below n` is n + 1 below 0
@@ -76,82 +51,87 @@ onSettled false l last go = go l
 onSettled true zero last go = last
 onSettled true (suc l) last go = go l
 
-module _ (C : ℕ) where
-  unfoldable pub walk : ℕ → Waiting → List Change → List Change → Trail → Walked
-  walk l w [] r s = record { from = []; to = r; trail = s; stopped = 0 }
-  walk l w (x ∷ u) r s =
-      onTried (undoing C x s) (λ k. record { from = x ∷ u; to = r; trail = s; stopped = k })
-      (λ s′. onSettled (settled (passing x w)) l (record { from = u; to = turn x ∷ r; trail = s′; stopped = 0 }) (λ l′. walk l′ (passing x w) u (turn x ∷ r) s′))
+-- records undone until l units more are done after this one
+unfoldable pub walk : ℕ → ℕ → Waiting → List Change → List Change → Trail → Walked
+walk C l w [] r s = record { from = []; to = r; trail = s; stopped = 0 }
+walk C l w (x ∷ u) r s =
+    onTried (undoing C x s) (λ k. record { from = x ∷ u; to = r; trail = s; stopped = k })
+    (λ s′. onSettled (settled (passing x w)) l (record { from = u; to = turn x ∷ r; trail = s′; stopped = 0 }) (λ l′. walk C l′ (passing x w) u (turn x ∷ r) s′))
 
-  -- the number: a stop's, else 0 exactly where a record of a text was undone
-  abbrev pub numberOf : ℕ → Bool → ℕ
-  numberOf zero true = 0
-  numberOf zero false = 1
-  numberOf (suc k) b = suc k
+-- the number: a stop's, else 0 exactly where a record of a text was undone
+abbrev pub numberOf : ℕ → Bool → ℕ
+numberOf zero true = 0
+numberOf zero false = 1
+numberOf (suc k) b = suc k
 
-  abbrev pub trailOf : State → Trail
-  trailOf s = record { text = s .text; cursor = s .cursor; undone = false }
+abbrev pub trailOf : State → Trail
+trailOf s = record { text = s .text; cursor = s .cursor; undone = false }
 
-  -- n = 0 acts as 1
-  abbrev pub undoWalk : ℕ → State → Walked
-  undoWalk n s = walk (n - 1) (owed 0) (s .log .undo) (s .log .redo) (trailOf s)
+-- the level stays as it is
+abbrev pub undoneState : Walked → ℕ → State
+undoneState w level = record { text = w .trail .text; cursor = w .trail .cursor; log = record { undo = w .from; redo = w .to; level = level } }
 
-  abbrev pub undoOf : Walked → ℕ → Outcome
-  undoOf w level =
-      answered (numberOf (w .stopped) (w .trail .undone)) 0 0 (record { text = w .trail .text; cursor = w .trail .cursor; log = record { undo = w .from; redo = w .to; level = level } })
+abbrev pub undoOf : Walked → ℕ → Outcome
+undoOf w level = answered (numberOf (w .stopped) (w .trail .undone)) 0 0 (undoneState w level)
 
-  unfoldable pub undoOut : ℕ → State → Outcome
-  undoOut n s = undoOf (undoWalk n s) (s .log .level)
+-- n = 0 acts as 1
+abbrev pub undoWalk : ℕ → ℕ → State → Walked
+undoWalk C n s = walk C (n - 1) (owed 0) (s .log .undo) (s .log .redo) (trailOf s)
 
-  -- ---- redo: n times one unit; 0 where any of them gives 0, else 1; a stop ends them
-  abbrev pub redoWalk : State → Walked
-  redoWalk s = walk 0 (owed 0) (s .log .redo) (s .log .undo) (trailOf s)
+unfoldable pub undoOut : ℕ → ℕ → State → Outcome
+undoOut C n s = undoOf (undoWalk C n s) (s .log .level)
 
-  abbrev pub redoneState : Walked → ℕ → State
-  redoneState w level = record { text = w .trail .text; cursor = w .trail .cursor; log = record { undo = w .to; redo = w .from; level = level } }
+-- ---- redo: n times one unit; 0 where any of them gives 0, else 1; a stop ends them
+abbrev pub redoWalk : ℕ → State → Walked
+redoWalk C s = walk C 0 (owed 0) (s .log .redo) (s .log .undo) (trailOf s)
 
-  -- a 1 behind a 0 is a 0
-  abbrev pub behindNumber : ℕ → Outcome → Outcome
-  behindNumber n (refused k) = refused k
-  behindNumber n (answered k a b s) = answered (cond (eqb n 0 && eqb k 1) 0 k) a b s
+abbrev pub redoneState : Walked → ℕ → State
+redoneState w level = record { text = w .trail .text; cursor = w .trail .cursor; log = record { undo = w .to; redo = w .from; level = level } }
 
-  abbrev pub orStopped : Walked → ℕ → (State → Outcome) → Outcome
-  orStopped w level go = cond (eqb (w .stopped) 0) (behindNumber (numberOf 0 (w .trail .undone)) (go (redoneState w level))) (answered (w .stopped) 0 0 (redoneState w level))
+-- a 1 behind a 0 is a 0
+abbrev pub behindNumber : ℕ → Outcome → Outcome
+behindNumber n (refused k) = refused k
+behindNumber n (answered k a b s) = answered (cond (eqb n 0 && eqb k 1) 0 k) a b s
 
-  unfoldable pub redoOut : ℕ → State → Outcome
-  redoOut zero s = answered 1 0 0 s
-  redoOut (suc n) s = orStopped (redoWalk s) (s .log .level) (redoOut n)
+abbrev pub orStopped : Walked → ℕ → (State → Outcome) → Outcome
+orStopped w level go = cond (eqb (w .stopped) 0) (behindNumber (numberOf 0 (w .trail .undone)) (go (redoneState w level))) (answered (w .stopped) 0 0 (redoneState w level))
 
-  -- ---- cancel
-  -- record number m, from 0, is a Begin with no End after it
-  unfoldable pub opens : ℕ → List Change → Bool
-  opens m [] = false
-  opens m (begin ∷ u) = cond (eqb (length u) m) true (opens m u)
-  opens m (end ∷ u) = false
-  opens m (edit x ∷ u) = opens m u
+unfoldable pub redoOut : ℕ → ℕ → State → Outcome
+redoOut C zero s = answered 1 0 0 s
+redoOut C (suc n) s = orStopped (redoWalk C s) (s .log .level) (redoOut C n)
 
-  -- every record down to the mark undone; one that is stopped leaves what a stopped undo leaves
-  unfoldable pub walkTo : ℕ → List Change → List Change → Trail → Walked
-  walkTo m [] r s = record { from = []; to = r; trail = s; stopped = 0 }
-  walkTo m (x ∷ u) r s =
-      onTried (undoing C x s) (λ k. record { from = x ∷ u; to = r; trail = s; stopped = k })
-      (λ s′. cond (eqb (length u) m) (record { from = u; to = turn x ∷ r; trail = s′; stopped = 0 }) (walkTo m u (turn x ∷ r) s′))
+-- ---- cancel
+-- record number m, from 0, is a Begin with no End after it
+unfoldable pub opens : ℕ → List Change → Bool
+opens m [] = false
+opens m (begin ∷ u) = cond (eqb (length u) m) true (opens m u)
+opens m (end ∷ u) = false
+opens m (edit x ∷ u) = opens m u
 
-  -- the Begins among the newest records down to the mark
-  unfoldable pub beginsDown : ℕ → List Change → ℕ
-  beginsDown m [] = 0
-  beginsDown m (begin ∷ u) = cond (eqb (length u) m) 1 (suc (beginsDown m u))
-  beginsDown m (end ∷ u) = beginsDown m u
-  beginsDown m (edit x ∷ u) = beginsDown m u
+-- every record down to the mark undone; one that is stopped leaves what a stopped undo leaves
+unfoldable pub walkTo : ℕ → ℕ → List Change → List Change → Trail → Walked
+walkTo C m [] r s = record { from = []; to = r; trail = s; stopped = 0 }
+walkTo C m (x ∷ u) r s =
+    onTried (undoing C x s) (λ k. record { from = x ∷ u; to = r; trail = s; stopped = k })
+    (λ s′. cond (eqb (length u) m) (record { from = u; to = turn x ∷ r; trail = s′; stopped = 0 }) (walkTo C m u (turn x ∷ r) s′))
 
-  abbrev pub cancelled : Walked → ℕ → State → Outcome
-  cancelled w m s =
-      cond (eqb (w .stopped) 0)
-      (answered 0 0 0 (record { text = w .trail .text; cursor = w .trail .cursor; log = record { undo = w .from; redo = []; level = s .log .level - beginsDown m (s .log .undo) } }))
-      (undoOf w (s .log .level))
+-- the Begins among the newest records down to the mark
+unfoldable pub beginsDown : ℕ → List Change → ℕ
+beginsDown m [] = 0
+beginsDown m (begin ∷ u) = cond (eqb (length u) m) 1 (suc (beginsDown m u))
+beginsDown m (end ∷ u) = beginsDown m u
+beginsDown m (edit x ∷ u) = beginsDown m u
 
-  unfoldable pub cancelOut : ℕ → State → Outcome
-  cancelOut m s = cond (opens m (s .log .undo)) (cancelled (walkTo m (s .log .undo) (s .log .redo) (trailOf s)) m s) (answered 1 0 0 s)
+-- the records undone are dropped, with the redo list; the level is lowered by the Begins dropped, never below 0
+abbrev pub cancelledState : Walked → ℕ → State
+cancelledState w level = record { text = w .trail .text; cursor = w .trail .cursor; log = record { undo = w .from; redo = []; level = level } }
+
+-- a stopped cancel drops nothing
+abbrev pub cancelled : Walked → ℕ → State → Outcome
+cancelled w m s = cond (eqb (w .stopped) 0) (answered 0 0 0 (cancelledState w (s .log .level - beginsDown m (s .log .undo)))) (undoOf w (s .log .level))
+
+unfoldable pub cancelOut : ℕ → ℕ → State → Outcome
+cancelOut C m s = cond (opens m (s .log .undo)) (cancelled (walkTo C m (s .log .undo) (s .log .redo) (trailOf s)) m s) (answered 1 0 0 s)
 
 -- ---- the calls: checks 2 to 8, then what they do
 module _ (R : Repertoire) (F : Format) (l : Lent) where

@@ -1,1 +1,465 @@
-// Undo, redo and cancel.
+// Undo, redo and cancel: undo.rs, undo and redo of Changeset, and document 01 for cancel and for the stops 12 and 9. Any text,
+// cursor and log may be handed over: what is unfit is turned away by a number of document 01. Records and their texts are only
+// read: the seam between the two lists moves.
+ghost use mathlib.Core.Path.{_≡_};
+ghost use mathlib.Core.Bool.{true, false, cond, _&&_};
+ghost use Prim.Native.Nat.{_≤_, _<_};
+ghost use lib.Dec.{eqb};
+ghost use lib.ListN.{length};
+ghost use Rattle.unicode.specs.Repertoire.{catalogue};
+ghost use Rattle.journal.specs.Layout.{narrow};
+ghost use Rattle.records.specs.Formats.{asFormat, Fit};
+ghost use Rattle.edit.specs.Calls.{lent, stateOf, Edited, Ready};
+ghost use Rattle.retrace.specs.Records.{SizesOf};
+ghost use Rattle.undo.specs.Undo.{opens, beginsDown, numberOf, undoOut, redoOut, cancelOut, undoCall, redoCall, cancelCall};
+ghost use Rattle.undo.specs.Steps.{lineOf, lentBy, PassesOne, Redone, NotedIn, OpenAt};
+use changeset::Log;
+use checks::Line;
+use edit::EditAnswer;
+use edit::Own;
+use edit::refusal;
+use edit::says;
+use keymap::RepeatCount;
+use records::Format;
+use records::record_size;
+use retrace::Step;
+use retrace::note_sizes;
+use retrace::read_record;
+use retrace::retrace;
+
+// The format of the log's records: numbers of 2 bytes, kinds 1 to 5.
+const NARROW: Format = Format {
+    width: 2,
+    offset: 0,
+};
+
+// A record undone or redone: where the walk has come to, the log with its seam there, and the record's kind.
+struct Passed {
+    step: Step,
+    log: Log,
+    kind: usize,
+}
+
+// The newest record undone. The sizes of the undo list's records are noted.
+fn undo_record(
+    f: Format,
+    text: &mut [u8],
+    records: &[u8],
+    texts: &[u8],
+    sizes: &[u8],
+    s: Step,
+    log: Log,
+) -> Passed
+    requires { ⌜ Fit f ⌝ }
+    requires { ⌜ Ready (asFormat f) (lentBy (now text) (now records) (now texts) s log) ⌝ }
+    requires { ⌜ (s .number ≡ 0) × (0 < log .undo .records) × (length (now records) ≤ length (now sizes)) ⌝ }
+    requires { ⌜ SizesOf (asFormat f) (now sizes) (stateOf catalogue (asFormat f) (lentBy (now text) (now records) (now texts) s log) .log .undo) ⌝ }
+    ensures { λ q. ⌜ PassesOne (asFormat f) (lentBy (now (text .entry)) (now (records .entry)) (now (texts .entry)) s log) true (s .undone) q (now (text .exit)) ⌝ }
+{
+    let u = log.undo;
+    let at = u.records;
+    let start = at - sizes[at - 1] as usize;
+    let r = read_record(f, records, start);
+    let first = u.texts - (r.old + r.new);
+    let step = retrace(text, texts, s, r, first, true);
+    let kind = r.kind;
+    if step.number != 0 {
+        return Passed { step, log, kind };
+    }
+    Passed {
+        step,
+        log: log.move_seam(start, first),
+        kind,
+    }
+}
+
+// The next record redone.
+fn redo_record(
+    f: Format,
+    text: &mut [u8],
+    records: &[u8],
+    texts: &[u8],
+    s: Step,
+    log: Log,
+) -> Passed
+    requires { ⌜ Fit f ⌝ }
+    requires { ⌜ Ready (asFormat f) (lentBy (now text) (now records) (now texts) s log) ⌝ }
+    requires { ⌜ (s .number ≡ 0) × (0 < log .redo .records) ⌝ }
+    ensures { λ q. ⌜ PassesOne (asFormat f) (lentBy (now (text .entry)) (now (records .entry)) (now (texts .entry)) s log) false (s .undone) q (now (text .exit)) ⌝ }
+{
+    let u = log.undo;
+    let at = u.records;
+    let t = u.texts;
+    let r = read_record(f, records, at);
+    let step = retrace(text, texts, s, r, t, false);
+    let kind = r.kind;
+    if step.number != 0 {
+        return Passed { step, log, kind };
+    }
+    let end = at + record_size(f, records[at] as usize);
+    Passed {
+        step,
+        log: log.move_seam(end, t + (r.old + r.new)),
+        kind,
+    }
+}
+
+// The answer of a walk: the number of a stop, else 0 exactly where a record of a text was undone.
+fn answer(s: Step, log: Log) -> EditAnswer
+    ensures { λ r. ⌜ r ≡ record { number = numberOf (s .number) (s .undone); from = 0; to = 0; line = lineOf s; log = log } ⌝ }
+{
+    let line = Line {
+        len: s.len,
+        cursor: s.cursor,
+    };
+    if (s.number == 0) & !s.undone {
+        return says(1, line, log);
+    }
+    says(s.number, line, log)
+}
+
+// 1 where a record is of a kind, else 0.
+fn one_if(kind: usize, k: usize) -> usize
+    ensures { λ r. ⌜ (r ≡ cond (eqb kind k) 1 0) × (r ≤ 1) ⌝ }
+{
+    if kind == k {
+        return 1;
+    }
+    0
+}
+
+// undo_units with the sizes of the undo list's records noted. A unit is done where the Ends passed are no more than the Begins.
+fn undo_noted(
+    f: Format,
+    text: &mut [u8],
+    records: &[u8],
+    texts: &[u8],
+    sizes: &[u8],
+    line: Line,
+    log: Log,
+    n: usize,
+) -> EditAnswer
+    requires { ⌜ Fit f ⌝ }
+    requires { ⌜ Ready (asFormat f) (lent (now text) (now records) (now texts) line log) ⌝ }
+    requires { ⌜ length (now records) ≤ length (now sizes) ⌝ }
+    requires { ⌜ SizesOf (asFormat f) (now sizes) (stateOf catalogue (asFormat f) (lent (now text) (now records) (now texts) line log) .log .undo) ⌝ }
+    ensures { λ r. ⌜ Edited (asFormat f) (lent (now (text .entry)) (now (records .entry)) (now (texts .entry)) line log)
+        (undoOut (length (now (text .entry))) n (stateOf catalogue (asFormat f) (lent (now (text .entry)) (now (records .entry)) (now (texts .entry)) line log)))
+        r (now (text .exit)) (now (records .entry)) (now (texts .entry)) ⌝ }
+{
+    let mut s = Step {
+        number: 0,
+        len: line.len,
+        cursor: line.cursor,
+        undone: false,
+    };
+    let mut g = log;
+    let mut left = n;
+    let mut ends: usize = 0;
+    let mut begins: usize = 0;
+    loop {
+        let u = g.undo;
+        if u.records == 0 {
+            return answer(s, g);
+        }
+        let p = undo_record(f, text, records, texts, sizes, s, g);
+        s = p.step;
+        g = p.log;
+        if s.number != 0 {
+            return answer(s, g);
+        }
+        begins += one_if(p.kind, 1);
+        ends += one_if(p.kind, 2);
+        if begins < ends {
+            continue;
+        }
+        if left <= 1 {
+            return answer(s, g);
+        }
+        left -= 1;
+    }
+}
+
+// Undo on a text and a log that the checks pass: the newest records, until n units are done. A unit is done where no End that
+// was passed waits for its Begin.
+fn undo_units(
+    f: Format,
+    text: &mut [u8],
+    records: &[u8],
+    texts: &[u8],
+    line: Line,
+    log: Log,
+    n: usize,
+) -> EditAnswer
+    requires { ⌜ Fit f ⌝ }
+    requires { ⌜ Ready (asFormat f) (lent (now text) (now records) (now texts) line log) ⌝ }
+    ensures { λ r. ⌜ Edited (asFormat f) (lent (now (text .entry)) (now (records .entry)) (now (texts .entry)) line log)
+        (undoOut (length (now (text .entry))) n (stateOf catalogue (asFormat f) (lent (now (text .entry)) (now (records .entry)) (now (texts .entry)) line log)))
+        r (now (text .exit)) (now (records .entry)) (now (texts .entry)) ⌝ }
+{
+    let mut sizes = [0u8; 32768];
+    let u = log.undo;
+    let ur = u.records;
+    note_sizes(f, &records[..ur], &mut sizes);
+    undo_noted(f, text, records, texts, &sizes, line, log, n)
+}
+
+// Wrong answers ruled out: undo 0 that undoes nothing; a unit that goes on over a group's Begin to the end of the list.
+pub fn undo(
+    text: &mut [u8],
+    records: &[u8],
+    texts: &[u8],
+    line: Line,
+    log: Log,
+    n: RepeatCount,
+) -> EditAnswer
+    ensures { λ r. ⌜ Edited narrow (lent (now (text .entry)) (now (records .entry)) (now (texts .entry)) line log)
+        (undoCall catalogue narrow (lent (now (text .entry)) (now (records .entry)) (now (texts .entry)) line log) n)
+        r (now (text .exit)) (now (records .entry)) (now (texts .entry)) ⌝ }
+{
+    let k = refusal(NARROW, text, records, texts, line, log, Own::none());
+    if k != 0 {
+        return says(k, line, log);
+    }
+    undo_units(NARROW, text, records, texts, line, log, n as usize)
+}
+
+// The records of one unit redone. A record redone is passed turned round: a Begin as an End, an End as a Begin.
+fn redo_unit(
+    f: Format,
+    text: &mut [u8],
+    records: &[u8],
+    texts: &[u8],
+    line: Line,
+    log: Log,
+) -> EditAnswer
+    requires { ⌜ Fit f ⌝ }
+    requires { ⌜ Ready (asFormat f) (lent (now text) (now records) (now texts) line log) ⌝ }
+    ensures { λ r. ⌜ Redone (asFormat f) (lent (now (text .entry)) (now (records .entry)) (now (texts .entry)) line log) r (now (text .exit)) ⌝ }
+{
+    let mut s = Step {
+        number: 0,
+        len: line.len,
+        cursor: line.cursor,
+        undone: false,
+    };
+    let mut g = log;
+    let mut ends: usize = 0;
+    let mut begins: usize = 0;
+    loop {
+        let d = g.redo;
+        if d.records == 0 {
+            return answer(s, g);
+        }
+        let p = redo_record(f, text, records, texts, s, g);
+        s = p.step;
+        g = p.log;
+        if s.number != 0 {
+            return answer(s, g);
+        }
+        ends += one_if(p.kind, 1);
+        begins += one_if(p.kind, 2);
+        if ends <= begins {
+            return answer(s, g);
+        }
+    }
+}
+
+// The number of two redos together: a 1 behind a 0 is a 0.
+fn behind(number: u32, k: u32) -> u32
+    ensures { λ r. ⌜ r ≡ cond (eqb number 0 && eqb k 1) 0 k ⌝ }
+{
+    if (number == 0) & (k == 1) {
+        return 0;
+    }
+    k
+}
+
+// Redo on a text and a log that the checks pass: n times the records of one unit. A stop ends them; where no record is left to
+// redo, the units left would change nothing.
+fn redo_units(
+    f: Format,
+    text: &mut [u8],
+    records: &[u8],
+    texts: &[u8],
+    line: Line,
+    log: Log,
+    n: usize,
+) -> EditAnswer
+    requires { ⌜ Fit f ⌝ }
+    requires { ⌜ Ready (asFormat f) (lent (now text) (now records) (now texts) line log) ⌝ }
+    ensures { λ r. ⌜ Edited (asFormat f) (lent (now (text .entry)) (now (records .entry)) (now (texts .entry)) line log)
+        (redoOut (length (now (text .entry))) n (stateOf catalogue (asFormat f) (lent (now (text .entry)) (now (records .entry)) (now (texts .entry)) line log)))
+        r (now (text .exit)) (now (records .entry)) (now (texts .entry)) ⌝ }
+{
+    let mut line_now = line;
+    let mut log_now = log;
+    let mut number: u32 = 1;
+    let mut left = n;
+    loop {
+        let d = log_now.redo;
+        if (left == 0) | (d.records == 0) {
+            return says(number, line_now, log_now);
+        }
+        let a = redo_unit(f, text, records, texts, line_now, log_now);
+        line_now = a.line;
+        log_now = a.log;
+        number = behind(number, a.number);
+        if 1 < number {
+            return says(number, line_now, log_now);
+        }
+        left -= 1;
+    }
+}
+
+// Wrong answers ruled out: redo 0 answered 0; a unit redone without the End that closes it.
+pub fn redo(
+    text: &mut [u8],
+    records: &[u8],
+    texts: &[u8],
+    line: Line,
+    log: Log,
+    n: RepeatCount,
+) -> EditAnswer
+    ensures { λ r. ⌜ Edited narrow (lent (now (text .entry)) (now (records .entry)) (now (texts .entry)) line log)
+        (redoCall catalogue narrow (lent (now (text .entry)) (now (records .entry)) (now (texts .entry)) line log) n)
+        r (now (text .exit)) (now (records .entry)) (now (texts .entry)) ⌝ }
+{
+    let k = refusal(NARROW, text, records, texts, line, log, Own::none());
+    if k != 0 {
+        return says(k, line, log);
+    }
+    redo_units(NARROW, text, records, texts, line, log, n as usize)
+}
+
+// The Begins from the newest record of a list down to a mark, where the record of that number, from 0, is a Begin with no End
+// after it; else 0. The sizes of the records are noted.
+fn open_begins(records: &[u8], sizes: &[u8], count: usize, mark: usize) -> usize
+    requires { ⌜ NotedIn (now records) count (now sizes) ⌝ }
+    requires { ⌜ (length (now records) ≤ length (now sizes)) × (length (now records) ≤ 32768) ⌝ }
+    ensures { λ r. ⌜ OpenAt (now (records .entry)) count (now (sizes .entry)) mark r ⌝ }
+{
+    let mut at = records.len();
+    let mut left = count;
+    let mut begins: usize = 0;
+    while 0 < at {
+        at -= sizes[at - 1] as usize;
+        left -= 1;
+        let kind = records[at] as usize;
+        if kind == 2 {
+            return 0;
+        }
+        begins += one_if(kind, 1);
+        if (kind == 1) & (left == mark) {
+            return begins;
+        }
+    }
+    0
+}
+
+// The group of a mark undone and dropped: count is the number of records, begins that of the Begins dropped.
+fn cancel_noted(
+    f: Format,
+    text: &mut [u8],
+    records: &[u8],
+    texts: &[u8],
+    sizes: &[u8],
+    line: Line,
+    log: Log,
+    count: usize,
+    mark: usize,
+    begins: usize,
+) -> EditAnswer
+    requires { ⌜ Fit f ⌝ }
+    requires { ⌜ Ready (asFormat f) (lent (now text) (now records) (now texts) line log) ⌝ }
+    requires { ⌜ length (now records) ≤ length (now sizes) ⌝ }
+    requires { ⌜ SizesOf (asFormat f) (now sizes) (stateOf catalogue (asFormat f) (lent (now text) (now records) (now texts) line log) .log .undo) ⌝ }
+    requires { ⌜ count ≡ length (stateOf catalogue (asFormat f) (lent (now text) (now records) (now texts) line log) .log .undo) ⌝ }
+    requires { ⌜ opens mark (stateOf catalogue (asFormat f) (lent (now text) (now records) (now texts) line log) .log .undo) ≡ true ⌝ }
+    requires { ⌜ begins ≡ beginsDown mark (stateOf catalogue (asFormat f) (lent (now text) (now records) (now texts) line log) .log .undo) ⌝ }
+    ensures { λ r. ⌜ Edited (asFormat f) (lent (now (text .entry)) (now (records .entry)) (now (texts .entry)) line log)
+        (cancelOut (length (now (text .entry))) mark (stateOf catalogue (asFormat f) (lent (now (text .entry)) (now (records .entry)) (now (texts .entry)) line log)))
+        r (now (text .exit)) (now (records .entry)) (now (texts .entry)) ⌝ }
+{
+    let mut s = Step {
+        number: 0,
+        len: line.len,
+        cursor: line.cursor,
+        undone: false,
+    };
+    let mut g = log;
+    let mut left = count - mark;
+    while 0 < left {
+        let p = undo_record(f, text, records, texts, sizes, s, g);
+        s = p.step;
+        g = p.log;
+        if s.number != 0 {
+            return answer(s, g);
+        }
+        left -= 1;
+    }
+    let u = g.undo;
+    let last = Line {
+        len: s.len,
+        cursor: s.cursor,
+    };
+    says(0, last, g.cancel(u.records, u.texts, begins))
+}
+
+// Cancel on a text and a log that the checks pass: the group of the mark undone and dropped.
+fn cancel_group(
+    f: Format,
+    text: &mut [u8],
+    records: &[u8],
+    texts: &[u8],
+    line: Line,
+    log: Log,
+    mark: usize,
+) -> EditAnswer
+    requires { ⌜ Fit f ⌝ }
+    requires { ⌜ Ready (asFormat f) (lent (now text) (now records) (now texts) line log) ⌝ }
+    ensures { λ r. ⌜ Edited (asFormat f) (lent (now (text .entry)) (now (records .entry)) (now (texts .entry)) line log)
+        (cancelOut (length (now (text .entry))) mark (stateOf catalogue (asFormat f) (lent (now (text .entry)) (now (records .entry)) (now (texts .entry)) line log)))
+        r (now (text .exit)) (now (records .entry)) (now (texts .entry)) ⌝ }
+{
+    let mut sizes = [0u8; 32768];
+    let u = log.undo;
+    let ur = u.records;
+    let count = note_sizes(f, &records[..ur], &mut sizes);
+    let begins = open_begins(&records[..ur], &sizes, count, mark);
+    if begins == 0 {
+        return says(1, line, log);
+    }
+    cancel_noted(
+        f,
+        text,
+        records,
+        texts,
+        &sizes,
+        line,
+        log,
+        count,
+        mark,
+        begins,
+    )
+}
+
+// Wrong answers ruled out: the level of the group left as it was; the redo list kept.
+pub fn cancel(
+    text: &mut [u8],
+    records: &[u8],
+    texts: &[u8],
+    line: Line,
+    log: Log,
+    mark: usize,
+) -> EditAnswer
+    ensures { λ r. ⌜ Edited narrow (lent (now (text .entry)) (now (records .entry)) (now (texts .entry)) line log)
+        (cancelCall catalogue narrow (lent (now (text .entry)) (now (records .entry)) (now (texts .entry)) line log) mark)
+        r (now (text .exit)) (now (records .entry)) (now (texts .entry)) ⌝ }
+{
+    let k = refusal(NARROW, text, records, texts, line, log, Own::none());
+    if k != 0 {
+        return says(k, line, log);
+    }
+    cancel_group(NARROW, text, records, texts, line, log, mark)
+}

@@ -1,0 +1,4 @@
+pub mod Records
+pub mod Sizes
+pub mod Exchanges
+pub mod Faces

@@ -1,0 +1,189 @@
+-- begin, end and last_insert keep the invariant. Assumes nothing.
+use Prim.Native.Nat.{ℕ, zero, suc, _+_, _<_}
+use native.Mathlib.Omega.{arith}
+use mathlib.Core.Path.{_≡_, refl, sym, ap, subst}
+use mathlib.Core.Bool.{Bool, true, false, cond, _&&_}
+use mathlib.Core.List.{List, [], _∷_}
+use mathlib.Core.Option.{Option, some, none}
+use lib.Dec.{ltb}
+use lib.ListN.{length}
+use borrow.Author.Tests.{lt-leb, ne-eqb}
+use Rattle.lists.proofs.Bools.{and-both, by-test}
+use Rattle.unicode.specs.Repertoire.{Repertoire}
+use Rattle.checks.specs.Checks.{Tests, refusal, both, ownTests}
+use Rattle.journal.specs.Change.{Change, begin, end, edit}
+use Rattle.journal.specs.Layout.{Format}
+use Rattle.journal.specs.Groups.{endAll, endsAny, ended}
+use Rattle.journal.specs.Undo.{Places, allSmall, fits, lastInsertAt}
+use Rattle.changeset.specs.Logs.{logTests}
+use Rattle.changeset.specs.Outcomes as log
+use Rattle.changeset.specs.Outcomes.{beginOut, endOut}
+use Rattle.changeset.specs.Calls as logs
+use Rattle.edit.specs.Plan.{State, Outcome, refused}
+use Rattle.edit.specs.Calls.{Lent, logLent, sizesOf, stateOf}
+use Rattle.session.specs.Calls.{Asked, loggedBy, outcomeOf}
+use Rattle.session.specs.Calls as asked
+use Rattle.session.specs.Sessions.{leaves, openAfter}
+use Rattle.session.proofs.Invariant.{Nest, Open, Groups, Chain, Inv}
+
+-- ---- end's loop
+-- a list that has no Begin on top
+abbrev NotBegin : List Change → Type 0
+NotBegin [] = Unit {0}
+NotBegin (begin ∷ u) = ⊥
+NotBegin (end ∷ u) = Unit {0}
+NotBegin (edit x ∷ u) = Unit {0}
+
+-- where no Begin stands on top, each level puts an End
+ends-nest : (k : ℕ) (u : List Change) → Nest k u → NotBegin u → Nest 0 (endAll k u)
+unfolding endAll
+ends-nest zero u h b = h
+ends-nest (suc k) [] h b = absurd (omega arith)
+ends-nest (suc k) (begin ∷ u) h b = absurd b
+ends-nest (suc k) (end ∷ u) h b = ends-nest k (end ∷ end ∷ u) h tt
+ends-nest (suc k) (edit x ∷ u) h b = ends-nest k (end ∷ edit x ∷ u) h tt
+
+-- as many Ends as groups are open would close them
+pub open-nest : (k : ℕ) (u : List Change) → Open k u → Nest k u
+open-nest zero u h = h
+open-nest (suc k) [] h = absurd h
+open-nest (suc k) (begin ∷ u) h = open-nest k u h
+open-nest (suc k) (end ∷ u) h = absurd h
+open-nest (suc k) (edit x ∷ u) h = open-nest (suc k) u h
+
+-- end closes the open groups
+pub end-closes : (k : ℕ) (u : List Change) → Open k u → Nest 0 (endAll k u)
+unfolding endAll
+end-closes zero u h = h
+end-closes (suc k) [] h = absurd h
+end-closes (suc k) (begin ∷ u) h = end-closes k u h
+end-closes (suc k) (end ∷ u) h = absurd h
+end-closes (suc k) (edit x ∷ u) h = ends-nest k (end ∷ edit x ∷ u) (open-nest (suc k) u h) tt
+
+-- and the list leads where it led
+pub end-chain : (R : Repertoire) (Q : List ℕ → Type 0) (e : List ℕ) (k : ℕ) (u : List Change) (t : List ℕ) → Chain R Q e u t → Chain R Q e (endAll k u) t
+unfolding endAll
+end-chain R Q e zero u t h = h
+end-chain R Q e (suc k) [] t h = end-chain R Q e k (end ∷ []) t h
+end-chain R Q e (suc k) (begin ∷ u) t h = end-chain R Q e k u t h
+end-chain R Q e (suc k) (end ∷ u) t h = end-chain R Q e k (end ∷ end ∷ u) t h
+end-chain R Q e (suc k) (edit x ∷ u) t h = end-chain R Q e k (end ∷ edit x ∷ u) t h
+
+-- ---- a refusal by a check
+-- met or not, a test of a number over 1 does not give 1
+later : (b : Bool) (n m : ℕ) → 1 < n → (m ≡ 1 → ⊥) → cond b n m ≡ 1 → ⊥
+later true n m h f e = omega arith
+later false n m h f e = f e
+
+-- a check refuses by 2 or more
+pub not-one : (t : Tests) → refusal t ≡ 1 → ⊥
+unfolding refusal
+not-one t =
+    later (t .sizes) 2 _ (omega arith)
+    (later (t .code) 3 _ (omega arith)
+    (later (t .foreign) 4 _ (omega arith)
+    (later (t .place) 5 _ (omega arith)
+    (later (t .split) 6 _ (omega arith)
+    (later (t .prompt) 7 _ (omega arith)
+    (later (t .damaged) 8 0 (omega arith) (λ e. omega arith)))))))
+
+module _ (R : Repertoire) (F : Format) (Q : List ℕ → Type 0) (t₀ : List ℕ) where
+  -- the invariant of what an outcome leaves of a state, with the groups that are open then
+  abbrev pub Keeps : Asked → Outcome → State → List ℕ → Type 0
+  Keeps a o s g = Inv R F Q t₀ (leaves o s) (openAfter a o g)
+
+  -- a refusal by 2 or more changes nothing, and opens and closes no group
+  pub refused-keeps : (a : Asked) (k : ℕ) (s : State) (g : List ℕ) → Inv R F Q t₀ s g → Keeps a (refused (suc (suc k))) s g
+  refused-keeps (asked.edit x) k s g v = v
+  refused-keeps (asked.move x) k s g v = v
+  refused-keeps asked.begin k s g v = rw (lt-leb (suc (suc k)) 1 (omega arith)) v
+  refused-keeps asked.end k s g v = rw (lt-leb (suc (suc k)) 1 (omega arith)) v
+  refused-keeps asked.lastInsert k s g v = v
+  refused-keeps (asked.undo n) k s g v = v
+  refused-keeps (asked.redo n) k s g v = v
+  refused-keeps (asked.cancel m) k s g v = rw (ne-eqb (suc (suc k)) 0 (λ e. omega arith)) v
+
+  -- ---- on the log that the lent bytes hold
+  module _ (l : Lent) (g : List ℕ) (v : Inv R F Q t₀ (stateOf R F l) g) where
+    abbrev s : State
+    s = stateOf R F l
+
+    abbrev level : ℕ
+    level = s .log .level
+
+    abbrev u : List Change
+    u = s .log .undo
+
+    -- a Begin on top is one group more, and its mark the number of records before it
+    opened : Groups level g u → Groups (level + 1) (length u ∷ g) (begin ∷ u)
+    opened h =
+        let e : level + 1 ≡ suc level = omega arith in
+        rw e (record { opened = h .opened; marks = ap (λ (m : List ℕ). length u ∷ m) (h .marks) })
+
+    -- a Begin: check 10, then a group open with its mark
+    begin-made : Keeps asked.begin (loggedBy R F l (beginOut F (sizesOf l) (s .log))) s g
+    unfolding beginOut fits allSmall
+    begin-made =
+        by-test (Keeps asked.begin (loggedBy R F l (beginOut F (sizesOf l) (s .log))) s g) (ltb level 255 && fits F (sizesOf l) (begin ∷ u))
+        (λ e. rw e (record {
+          here = record { chain = v .here .chain; text = v .here .text; allowed = v .here .allowed; groups = opened (v .here .groups) };
+          goal = s .text;
+          forth = refl;
+          nested = refl;
+          cursor = v .cursor;
+          undo-small = v .undo-small;
+          redo-small = refl;
+        }))
+        (λ e. rw e v)
+
+    -- the Ends: check 10, then no group open, whether one was put or not
+    end-made : Keeps asked.end (loggedBy R F l (endOut F (sizesOf l) (s .log))) s g
+    unfolding endOut fits allSmall
+    end-made =
+        by-test (Keeps asked.end (loggedBy R F l (endOut F (sizesOf l) (s .log))) s g) (fits F (sizesOf l) (endAll level u))
+        (λ e. by-test (Keeps asked.end (loggedBy R F l (endOut F (sizesOf l) (s .log))) s g) (endsAny level u) (λ f. rw (e, f) (left e)) (λ f. rw (e, f) (left e)))
+        (λ e. rw e v)
+      where
+        left : fits F (sizesOf l) (endAll level u) ≡ true → Inv R F Q t₀ (record { text = s .text; cursor = s .cursor; log = ended (s .log) }) []
+        left e = record {
+          here = record { chain = end-chain R Q t₀ level u (s .text) (v .here .chain); text = v .here .text; allowed = v .here .allowed; groups = record { opened = end-closes level u (v .here .groups .opened); marks = refl } };
+          goal = s .text;
+          forth = refl;
+          nested = refl;
+          cursor = v .cursor;
+          undo-small = and-both (allSmall (F .width) (endAll level u)) _ e .0;
+          redo-small = refl;
+        }
+
+    -- places found or none: all is as it was
+    last-insert-made : (p : Option Places) → Keeps asked.lastInsert (loggedBy R F l (log.placesOut p (s .log))) s g
+    last-insert-made none = v
+    last-insert-made (some p) = v
+
+  -- ---- the calls
+  module _ (l : Lent) (s : State) (g : List ℕ) (is : stateOf R F l ≡ s) (v : Inv R F Q t₀ s g) where
+    -- the invariant of what the lent bytes hold
+    abbrev held : Inv R F Q t₀ (stateOf R F l) g
+    held = subst (λ (x : State). Inv R F Q t₀ x g) (sym is) v
+
+    -- refused by 2 or more, or what the call does
+    called-keeps : (a : Asked) (n : ℕ) (o : log.Outcome) → (n ≡ 1 → ⊥) → Keeps a (loggedBy R F l o) (stateOf R F l) g → Keeps a (loggedBy R F l (log.called n o)) s g
+    called-keeps a zero o h k = subst (λ (x : State). Keeps a (loggedBy R F l o) x g) is k
+    called-keeps a (suc zero) o h k = absurd (h refl)
+    called-keeps a (suc (suc n)) o h k = refused-keeps a n s g v
+
+    -- so by the checks of a lent log
+    checked-keeps : (a : Asked) (o : log.Outcome) → Keeps a (loggedBy R F l o) (stateOf R F l) g → Keeps a (loggedBy R F l (log.called (logs.checked R F (logLent l) false) o)) s g
+    checked-keeps a o k = called-keeps a (logs.checked R F (logLent l) false) o (not-one (both (logTests R F (l .log) (l .records) (l .texts)) (ownTests false false false))) k
+
+    -- begin opens a group with the mark that it answers
+    pub begin-keeps : Keeps asked.begin (outcomeOf R F l asked.begin) s g
+    begin-keeps = checked-keeps asked.begin (beginOut F (sizesOf l) (stateOf R F l .log)) (begin-made l g held)
+
+    -- end closes all groups
+    pub end-keeps : Keeps asked.end (outcomeOf R F l asked.end) s g
+    end-keeps = checked-keeps asked.end (endOut F (sizesOf l) (stateOf R F l .log)) (end-made l g held)
+
+    -- last_insert changes nothing
+    pub last-insert-keeps : Keeps asked.lastInsert (outcomeOf R F l asked.lastInsert) s g
+    last-insert-keeps = checked-keeps asked.lastInsert (log.lastInsertOut (stateOf R F l .log)) (last-insert-made l g held (lastInsertAt (stateOf R F l .log .undo)))

@@ -1,0 +1,88 @@
+-- A state that a list of calls leaves, in the next call's buffers: the call finds the state there, and checks 2 to 8 pass it. Assumes nothing.
+use Prim.Native.Nat.{ℕ, zero, suc, _+_, _≤_}
+use native.Mathlib.Omega.{arith}
+use mathlib.Core.Path.{_≡_, refl, ap, _∙_}
+use mathlib.Core.Bool.{true, false, _&&_}
+use mathlib.Core.List.{List, [], _∷_, _++_, map, reverse}
+use lib.Dec.{ltb}
+use lib.ListN.{length, length-append}
+use borrow.Author.Tests.{ltb-true}
+use Rattle.lists.proofs.Bools.{and-both}
+use Rattle.unicode.specs.Repertoire.{Repertoire}
+use Rattle.unicode.specs.Text.{isText}
+use Rattle.checks.specs.Checks.{ownTests}
+use Rattle.journal.specs.Change.{Edit, insert, delete, replace, Change, begin, end, edit, old, new, turn}
+use Rattle.journal.specs.Layout.{Format, top, Good, AllGood, encodeRecords, recordOf}
+use Rattle.journal.specs.Undo.{small, allSmall, undoRecords}
+use Rattle.journal.proofs.Decode.{record-pos}
+use Rattle.journal.proofs.Undo.{records-size}
+use Rattle.journal.proofs.Holds.{records-append}
+use Rattle.edit.specs.Plan.{State}
+use Rattle.edit.specs.Calls.{checked, stateOf}
+use Rattle.edit.proofs.Held.{take-within, state-held, state-passes}
+use Rattle.session.specs.Sessions.{Buffers, Handed, lentFor}
+use Rattle.session.proofs.Invariant.{Chain, Inv}
+
+-- each record takes a byte at least
+pub records-many : (F : Format) (u : List Change) → length u ≤ length (undoRecords F u)
+records-many F [] = omega arith
+records-many F (c ∷ u) = omega (arith, records-many F u, records-size F c u, record-pos F c)
+
+module _ (R : Repertoire) where
+  -- a record whose numbers fit their bytes and whose texts are of the repertoire
+  good-edit : (w : ℕ) (x : Edit) → small w (edit x) ≡ true → isText R (old x) ≡ true → isText R (new x) ≡ true → Good R w (edit x)
+  good-edit w (insert p s) h o n = let b = and-both (ltb p (top w)) (ltb (length s) (top w)) h in ((ltb-true _ _ (b .0), ltb-true _ _ (b .1)), n)
+  good-edit w (delete p s) h o n = let b = and-both (ltb p (top w)) (ltb (length s) (top w)) h in ((ltb-true _ _ (b .0), ltb-true _ _ (b .1)), o)
+  good-edit w (replace p s t) h o n =
+      let b = and-both (ltb p (top w)) (ltb (length s) (top w) && ltb (length t) (top w)) h in
+      let d = and-both (ltb (length s) (top w)) (ltb (length t) (top w)) (b .1) in
+      ((ltb-true _ _ (b .0), ltb-true _ _ (d .0), ltb-true _ _ (d .1)), rw (o, n))
+
+  -- a list that leads from text to text
+  good-chain : (w : ℕ) (Q : List ℕ → Type 0) (e : List ℕ) (u : List Change) (t : List ℕ) → Chain R Q e u t → allSmall w u ≡ true → AllGood R w u
+  unfolding allSmall
+  good-chain w Q e [] t c h = tt
+  good-chain w Q e (begin ∷ u) t c h = ((tt, refl), good-chain w Q e u t c h)
+  good-chain w Q e (end ∷ u) t c h = ((tt, refl), good-chain w Q e u t c h)
+  good-chain w Q e (edit x ∷ u) t c h =
+      let b = and-both (small w (edit x)) (allSmall w u) h in
+      (good-edit w x (b .0) (c .1 .old-text) (c .1 .new-text), good-chain w Q e u (c .0) (c .2) (b .1))
+
+  -- turned round it is as good
+  good-turn : (w : ℕ) (c : Change) → Good R w c → Good R w (turn c)
+  good-turn w begin g = g
+  good-turn w end g = g
+  good-turn w (edit (insert p s)) g = g
+  good-turn w (edit (delete p s)) g = g
+  good-turn w (edit (replace p o n)) g =
+      let b = and-both (isText R o) (isText R n) (g .1) in
+      ((g .0 .0, g .0 .2, g .0 .1), rw (b .0, b .1))
+
+  good-turned : (w : ℕ) (u : List Change) → AllGood R w u → AllGood R w (map turn u)
+  good-turned w [] g = tt
+  good-turned w (c ∷ u) g = (good-turn w c (g .0), good-turned w u (g .1))
+
+  module _ (F : Format) (Q : List ℕ → Type 0) (t₀ : List ℕ) (before : Buffers) (s : State) (g : List ℕ) (v : Inv R F Q t₀ s g) (b : Buffers) (h : Handed F before s b) where
+    undo-good : AllGood R (F .width) (s .log .undo)
+    undo-good = good-chain (F .width) Q t₀ (s .log .undo) (s .text) (v .here .chain) (v .undo-small)
+
+    redo-good : AllGood R (F .width) (map turn (s .log .redo))
+    redo-good = good-turned (F .width) (s .log .redo) (good-chain (F .width) Q (v .goal) (s .log .redo) (s .text) (v .forth) (v .redo-small))
+
+    -- the state is found
+    pub found : stateOf R F (lentFor F s b) ≡ s
+    found = state-held R F s (b .text) (b .records) (b .texts) (h .stored) undo-good redo-good
+
+    -- the checks pass it
+    pub passes : s .log .level ≤ 255 → checked R F (lentFor F s b) (ownTests false false false) ≡ 0
+    passes l =
+        state-passes R F s (b .text) (b .records) (b .texts) (h .stored) undo-good redo-good (h .sized .text) (h .sized .records) (h .sized .texts) l (v .here .text) (v .cursor)
+
+    -- there are no more records than a repeat count can name
+    pub few : length (s .log .undo) ≤ 32768
+    unfolding undoRecords
+    few =
+        omega (arith, records-many F (s .log .undo), rows, take-within (length (encodeRecords F (reverse (s .log .undo) ++ map turn (s .log .redo)))) (b .records) (ap length (h .stored .log .records)), h .sized .records)
+      where
+        rows : length (encodeRecords F (reverse (s .log .undo) ++ map turn (s .log .redo))) ≡ length (undoRecords F (s .log .undo)) + length (encodeRecords F (map turn (s .log .redo)))
+        rows = ap length (records-append F (reverse (s .log .undo)) (map turn (s .log .redo))) ∙ length-append (encodeRecords F (reverse (s .log .undo))) (encodeRecords F (map turn (s .log .redo)))

@@ -1,0 +1,57 @@
+-- That each condition of demand 3 is needed: the smallest lists of calls that break a conclusion without it, computed. Assumes nothing.
+use mathlib.Core.Path.{_≡_, refl}
+use mathlib.Core.List.{List, [], _∷_}
+use Prim.Native.Nat.{ℕ}
+use Rattle.utf8.specs.Utf8.{within, one, two, lead3, three, lead4, four, firstOf, first}
+use Rattle.utf8.specs.Chars.{charsFrom, validFrom, startBefore}
+use Rattle.utf8.specs.Encode.{scalar, size, encode}
+use Rattle.unicode.specs.Repertoire.{isMember, isControl, isMark, isAlnum}
+use Rattle.unicode.specs.Text.{isText, isChar}
+use Rattle.cluster.specs.Clusters.{joined, clusters}
+use Rattle.motion.specs.Steps.{sizes, prevPos}
+use Rattle.copies.specs.Copy.{copied}
+use Rattle.checks.specs.Checks.{refusal}
+use Rattle.journal.specs.Change.{begin, end, edit, insert, delete}
+use Rattle.journal.specs.Layout.{sizeOf, textsAt, changeAt, wholeAt, decodeAt}
+use Rattle.journal.specs.Recording.{note, recordInsert, recordDelete}
+use Rattle.journal.specs.Undo.{undoRecords, undoTexts, allSmall, fits}
+use Rattle.journal.specs.Groups.{endAll, endsAny}
+use Rattle.changeset.specs.Logs.{overSizes, damaged}
+use Rattle.changeset.specs.Calls.{undos, redos}
+use Rattle.changeset.specs.Outcomes.{beginOut, endOut}
+use Rattle.edit.specs.Plan.{State, answered, splice, textAfter, listAfter, tooLong, edited}
+use Rattle.retrace.specs.Retrace.{misfit, exchanging, undoing as Retrace·undoing}
+use Rattle.undo.specs.Undo.{walk, undoOut, redoOut}
+use Rattle.session.specs.Calls as calls
+use Rattle.session.proofs.Played.{state, lendingIn, asking, typing, beginning, ending, undoing, redoing, played, after}
+
+-- a letter, and a space, which is a record of its own
+abbrev a : ℕ
+a = 0x61
+
+abbrev space : ℕ
+space = 0x20
+
+pub record Needed : Type 0 where
+  -- undo where a group is open: type a, begin, undo 1, end leaves an End without a Begin. Undo 1 takes both records as one unit, redo 1 gives back the first alone
+  pub in-group :
+      (after (typing a ∷ beginning ∷ undoing 1 ∷ ending ∷ []) .log .undo ≡ end ∷ edit (insert 0 (a ∷ [])) ∷ [])
+      × (after (typing a ∷ beginning ∷ undoing 1 ∷ ending ∷ undoing 1 ∷ redoing 1 ∷ []) .log .undo ≡ edit (insert 0 (a ∷ [])) ∷ [])
+  -- a group open at the end: begin, type a, end, begin. Undo 1 and undo 1 empty the list, undo 2 stops behind the End
+  pub group-open :
+      (after (beginning ∷ typing a ∷ ending ∷ beginning ∷ undoing 1 ∷ undoing 1 ∷ []) .log .undo ≡ [])
+      × (after (beginning ∷ typing a ∷ ending ∷ beginning ∷ undoing 2 ∷ []) .log .undo ≡ edit (insert 0 (a ∷ [])) ∷ begin ∷ [])
+  -- a text buffer that shrinks: "a" cut from a buffer of one byte, and undone in one of none: 9
+  pub smaller :
+      undoing 1 (lendingIn 0 (played (asking (calls.edit (calls.backspace 1)) ∷ []) (state (a ∷ []) 1 [])))
+      ≡ answered 9 0 0 (state [] 0 (edit (delete 0 (a ∷ [])) ∷ []))
+  -- n above the units: type a, type a space, undo 1 leaves one unit and the text "a". Undo 2 and redo 2 give "a "
+  pub above-units :
+      (after (typing a ∷ typing space ∷ undoing 1 ∷ []) .text ≡ a ∷ [])
+      × (after (typing a ∷ typing space ∷ undoing 1 ∷ undoing 2 ∷ redoing 2 ∷ []) .text ≡ a ∷ space ∷ [])
+  -- n = 0: undo 0 is undo 1, and redo 0 is nothing
+  pub zero : (after (typing a ∷ undoing 0 ∷ redoing 0 ∷ []) .text ≡ [])
+
+pub needed : Needed
+unfolding within one two lead3 three lead4 four firstOf first charsFrom validFrom startBefore scalar size encode isMember isControl isMark isAlnum isText isChar joined clusters sizes prevPos copied refusal sizeOf textsAt changeAt wholeAt decodeAt note recordInsert recordDelete undoRecords undoTexts allSmall fits endAll endsAny overSizes damaged undos redos beginOut endOut splice textAfter listAfter tooLong edited misfit exchanging Retrace·undoing walk undoOut redoOut
+needed = record { in-group = (refl, refl); group-open = (refl, refl); smaller = refl; above-units = (refl, refl); zero = refl }

@@ -1,0 +1,74 @@
+-- Calls played one after the other on values, for cases that are computed: each is lent the bytes of the state that the one before it left. Assumes nothing.
+use Prim.Native.Nat.{ℕ, _-_}
+use mathlib.Core.List.{List, [], _∷_, _++_}
+use lib.ListN.{length, replicate}
+use Rattle.unicode.specs.Repertoire.{catalogue}
+use Rattle.checks.specs.declared.Line.{Line}
+use Rattle.journal.specs.Change.{Change}
+use Rattle.journal.specs.Layout.{narrow, encodeRecords, encodeTexts}
+use Rattle.changeset.specs.Calls.{row, logOf, truncateCall}
+use Rattle.edit.specs.Plan.{State, Outcome}
+use Rattle.edit.specs.Calls.{Lent, lent, logLent}
+use Rattle.session.specs.Calls as calls
+use Rattle.session.specs.Calls.{Asked, loggedBy, outcomeOf}
+use Rattle.session.specs.Sessions.{leaves}
+
+-- a text of len bytes with the cursor at a place
+abbrev pub at : ℕ → ℕ → Line
+at len cursor = record { len = len; cursor = cursor }
+
+-- a text, a cursor and an undo list, newest first; nothing to redo and no group open
+abbrev pub state : List ℕ → ℕ → List Change → State
+state t p u = record { text = t; cursor = p; log = record { undo = u; redo = []; level = 0 } }
+
+-- a buffer of n bytes that begins with these
+abbrev pub buffer : ℕ → List ℕ → List ℕ
+buffer n s = s ++ replicate (n - length s) 0
+
+-- the bytes of a state, in a text buffer of C bytes and 32 bytes each for the log
+abbrev pub lendingIn : ℕ → State → Lent
+lendingIn C s =
+    lent (buffer C (s .text)) (buffer 32 (encodeRecords narrow (row narrow (s .log)))) (buffer 32 (encodeTexts (row narrow (s .log))))
+    (at (length (s .text)) (s .cursor)) (logOf narrow (s .log))
+
+abbrev pub lending : State → Lent
+lending s = lendingIn 16 s
+
+-- a call on what is lent
+abbrev pub Doing : Type 0
+Doing = Lent → Outcome
+
+abbrev pub asking : Asked → Doing
+asking a l = outcomeOf catalogue narrow l a
+
+-- a character typed, and the log's calls
+abbrev pub typing : ℕ → Doing
+typing c = asking (calls.edit (calls.insert c 1))
+
+abbrev pub beginning : Doing
+beginning = asking calls.begin
+
+abbrev pub ending : Doing
+ending = asking calls.end
+
+abbrev pub undoing : ℕ → Doing
+undoing n = asking (calls.undo n)
+
+abbrev pub redoing : ℕ → Doing
+redoing n = asking (calls.redo n)
+
+abbrev pub cancelling : ℕ → Doing
+cancelling mark = asking (calls.cancel mark)
+
+-- truncate is no call of demand 3's list
+abbrev pub truncating : ℕ → Doing
+truncating len l = loggedBy catalogue narrow l (truncateCall catalogue narrow (logLent l) len)
+
+-- what they leave
+abbrev pub played : List Doing → State → State
+played [] s = s
+played (f ∷ fs) s = played fs (leaves (f (lending s)) s)
+
+-- from an empty text and an empty log
+abbrev pub after : List Doing → State
+after fs = played fs (state [] 0 [])

@@ -1,0 +1,129 @@
+-- Every call of document 01, "The list of demand 3", as a value: an edit is a call of LineBuffer that may change the text, a movement one that changes
+-- at most the cursor; begin, end, cancel, undo, redo and last_insert are the log's. What a call takes goes with it, fit or unfit, in the order of the entries for C.
+use Prim.Native.Nat.{ℕ, zero, suc, _≤_}
+use mathlib.Core.Bool.{Bool}
+use mathlib.Core.List.{List}
+use Rattle.unicode.specs.Repertoire.{Repertoire}
+use Rattle.checks.specs.declared.LineAnswer.{LineAnswer}
+use Rattle.movement.specs.Moves as moves
+use Rattle.copies.specs.Copy.{copyCall}
+use Rattle.journal.specs.Layout.{Format}
+use Rattle.changeset.specs.Outcomes as log
+use Rattle.changeset.specs.Calls as logs
+use Rattle.edit.specs.Plan.{State, Outcome, refused, answered}
+use Rattle.edit.specs.Calls.{Lent, logLent, stateOf}
+use Rattle.kills.specs.Kills.{killCall, killLineCall, killBufferCall, discardLineCall, discardBufferCall, deleteCall, backspaceCall, deletePrevWordCall, deleteWordCall, deleteToCall}
+use Rattle.ranges.specs.Ranges.{replaceCall, deleteRangeCall}
+use Rattle.inserts.specs.Inserts.{updateCall, insertCall, yankCall, yankPopCall}
+use Rattle.rewrites.specs.Rewrites.{transposeCharsCall, editWordCall, transposeWordsCall}
+use Rattle.indents.specs.Indents.{indentCall}
+use Rattle.undo.specs.Undo.{undoCall, redoCall, cancelCall}
+
+-- a movement by its numbers: mvt, n, at, word, search, ch
+pub record Codes : Type 0 where
+  pub mvt : ℕ
+  pub n : ℕ
+  pub at : ℕ
+  pub word : ℕ
+  pub search : ℕ
+  pub ch : ℕ
+
+-- indent's amount is a byte
+pub record Amount : Type 0 where
+  pub spaces : ℕ
+  pub byte : spaces ≤ 255
+
+pub data EditCall : Type 0 where
+  update : List ℕ → ℕ → EditCall
+  insert : ℕ → ℕ → EditCall
+  yank : List ℕ → ℕ → EditCall
+  yankPop : ℕ → List ℕ → EditCall
+  delete backspace : ℕ → EditCall
+  killLine killBuffer discardLine discardBuffer transposeChars : EditCall
+  deletePrevWord : ℕ → ℕ → EditCall
+  deleteWord deleteTo : ℕ → ℕ → ℕ → EditCall
+  editWord transposeWords : ℕ → EditCall
+  replace : ℕ → ℕ → List ℕ → EditCall
+  deleteRange : ℕ → ℕ → EditCall
+  kill : Codes → EditCall
+  indent : Codes → Amount → Bool → EditCall
+
+pub data MoveCall : Type 0 where
+  nextPos : ℕ → MoveCall
+  copy : Codes → MoveCall
+  isCursorAtEnd isEndOfInput : MoveCall
+  setPos moveForward moveBackward : ℕ → MoveCall
+  moveBufferStart moveBufferEnd moveHome moveEnd : MoveCall
+  moveToPrevWord : ℕ → ℕ → MoveCall
+  moveToNextWord : ℕ → ℕ → ℕ → MoveCall
+  moveToLineUp moveToLineDown : ℕ → ℕ → MoveCall
+  moveTo : ℕ → ℕ → ℕ → MoveCall
+
+pub data Asked : Type 0 where
+  edit : EditCall → Asked
+  move : MoveCall → Asked
+  begin end lastInsert : Asked
+  undo redo cancel : ℕ → Asked
+
+-- ---- what the call comes to, by the definition that the contract of its public function cites
+module _ (R : Repertoire) (F : Format) (l : Lent) where
+  abbrev pub editOutcome : EditCall → Outcome
+  editOutcome (update s pos) = updateCall R F l s pos
+  editOutcome (insert c n) = insertCall R F l c n
+  editOutcome (yank s n) = yankCall R F l s n
+  editOutcome (yankPop size s) = yankPopCall R F l size s
+  editOutcome (delete n) = deleteCall R F l n
+  editOutcome (backspace n) = backspaceCall R F l n
+  editOutcome killLine = killLineCall R F l
+  editOutcome killBuffer = killBufferCall R F l
+  editOutcome discardLine = discardLineCall R F l
+  editOutcome discardBuffer = discardBufferCall R F l
+  editOutcome transposeChars = transposeCharsCall R F l
+  editOutcome (deletePrevWord w n) = deletePrevWordCall R F l w n
+  editOutcome (deleteWord at w n) = deleteWordCall R F l at w n
+  editOutcome (deleteTo s c n) = deleteToCall R F l s c n
+  editOutcome (editWord a) = editWordCall R F l a
+  editOutcome (transposeWords n) = transposeWordsCall R F l n
+  editOutcome (replace a b s) = replaceCall R F l a b s
+  editOutcome (deleteRange a b) = deleteRangeCall R F l a b
+  editOutcome (kill m) = killCall R F l (m .mvt) (m .n) (m .at) (m .word) (m .search) (m .ch)
+  editOutcome (indent m amount dedent) = indentCall R F l (amount .spaces) dedent (m .mvt) (m .n) (m .at) (m .word) (m .search) (m .ch)
+
+  abbrev pub moveAnswer : MoveCall → LineAnswer
+  moveAnswer (nextPos n) = moves.nextPosCall R (l .text) (l .line) n
+  moveAnswer (copy m) = copyCall R (l .text) (l .line) (m .mvt) (m .n) (m .at) (m .word) (m .search) (m .ch)
+  moveAnswer isCursorAtEnd = moves.isCursorAtEnd R (l .text) (l .line)
+  moveAnswer isEndOfInput = moves.isEndOfInput R (l .text) (l .line)
+  moveAnswer (setPos pos) = moves.setPos R (l .text) (l .line) pos
+  moveAnswer (moveForward n) = moves.moveForward R (l .text) (l .line) n
+  moveAnswer (moveBackward n) = moves.moveBackward R (l .text) (l .line) n
+  moveAnswer moveBufferStart = moves.moveBufferStart R (l .text) (l .line)
+  moveAnswer moveBufferEnd = moves.moveBufferEnd R (l .text) (l .line)
+  moveAnswer moveHome = moves.moveHome R (l .text) (l .line)
+  moveAnswer moveEnd = moves.moveEnd R (l .text) (l .line)
+  moveAnswer (moveToPrevWord w n) = moves.moveToPrevWord R (l .text) (l .line) w n
+  moveAnswer (moveToNextWord at w n) = moves.moveToNextWord R (l .text) (l .line) at w n
+  moveAnswer (moveToLineUp n prompt) = moves.moveToLineUp R (l .text) (l .line) n prompt
+  moveAnswer (moveToLineDown n prompt) = moves.moveToLineDown R (l .text) (l .line) n prompt
+  moveAnswer (moveTo s c n) = moves.moveTo R (l .text) (l .line) s c n
+
+  -- a movement is lent the text to read: what its answer leaves is the cursor
+  abbrev pub movedBy : ℕ → LineAnswer → Outcome
+  movedBy zero a = answered 0 (a .from) (a .to) (record { text = stateOf R F l .text; cursor = a .line .cursor; log = stateOf R F l .log })
+  movedBy (suc zero) a = answered 1 (a .from) (a .to) (record { text = stateOf R F l .text; cursor = a .line .cursor; log = stateOf R F l .log })
+  movedBy (suc (suc k)) a = refused (suc (suc k))
+
+  -- a call of the log is lent no text
+  abbrev pub loggedBy : log.Outcome → Outcome
+  loggedBy (log.refused k) = refused k
+  loggedBy (log.answered k a b g) = answered k a b (record { text = stateOf R F l .text; cursor = l .line .cursor; log = g })
+
+  abbrev pub outcomeOf : Asked → Outcome
+  outcomeOf (edit x) = editOutcome x
+  outcomeOf (move x) = movedBy (moveAnswer x .number) (moveAnswer x)
+  outcomeOf begin = loggedBy (logs.beginCall R F (logLent l))
+  outcomeOf end = loggedBy (logs.endCall R F (logLent l))
+  outcomeOf lastInsert = loggedBy (logs.lastInsertCall R F (logLent l))
+  outcomeOf (undo n) = undoCall R F l n
+  outcomeOf (redo n) = redoCall R F l n
+  outcomeOf (cancel mark) = cancelCall R F l mark

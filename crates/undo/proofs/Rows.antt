@@ -1,0 +1,91 @@
+-- The row of records in the two buffers: the change that stands at a place of it is read there, and the seam between the two lists moves. Assumes nothing.
+use Prim.Native.Nat.{ℕ, _+_, _-_, _≤_, _<_}
+use native.Mathlib.Omega.{arith}
+use mathlib.Core.Path.{_≡_, refl, sym, ap, subst, _∙_}
+use mathlib.Core.List.{List, _∷_, _++_, append-assoc}
+use lib.ListN.{length, getD, take, drop, length-append, take-append-drop}
+use lib.Seq.{length-take-le}
+use Rattle.unicode.specs.Repertoire.{Repertoire}
+use Rattle.journal.specs.Change.{Change}
+use Rattle.journal.specs.Layout.{Format, recordOf, textsOf, encodeRecords, encodeTexts, Small, AllGood, Layout, sizeOf}
+use Rattle.journal.specs.Hold.{Holds}
+use Rattle.journal.proofs.Decode.{Reads, reads, record-pos, text-at}
+use Rattle.journal.proofs.Holds.{records-append, texts-append, good-right}
+use Rattle.retrace.specs.Records.{recordAt, Carries}
+use Rattle.retrace.proofs.Records.{record-is}
+
+-- ---- the change c stands at at and t
+pub record Stands (F : Format) (rb tb : List ℕ) (at t : ℕ) (c : Change) : Type 0 where
+  pub some : 0 < length (recordOf F c)
+  pub size : sizeOf F (getD rb at 0) ≡ length (recordOf F c)
+  pub room : at + length (recordOf F c) ≤ length rb
+  pub space : t + length (textsOf c) ≤ length tb
+  pub carries : Carries c (recordAt F rb at (getD rb at 0)) tb t
+
+module _ {R : Repertoire} {F : Format} {rb tb : List ℕ} {ur ut rr rt : ℕ} {us rs : List Change} (h : Holds R F rb tb ur ut rr rt us rs) (xs ys : List Change) (c : Change) (row : us ++ rs ≡ xs ++ (c ∷ ys)) where
+  abbrev behind : List ℕ
+  behind = encodeRecords F ys ++ drop (ur + rr) rb
+
+  abbrev texts-behind : List ℕ
+  texts-behind = encodeTexts ys ++ drop (ut + rt) tb
+
+  small : Small (F .width) c
+  small = good-right R (F .width) xs (c ∷ ys) (subst (AllGood R (F .width)) row (h .both .good)) .0 .0
+
+  in-records : rb ≡ encodeRecords F xs ++ (recordOf F c ++ behind)
+  in-records =
+      sym (take-append-drop (ur + rr) rb)
+      ∙ ap (λ (l : List ℕ). l ++ drop (ur + rr) rb) (h .both .records ∙ ap (encodeRecords F) row ∙ records-append F xs (c ∷ ys))
+      ∙ simp append-assoc
+
+  in-texts : tb ≡ encodeTexts xs ++ (textsOf c ++ texts-behind)
+  in-texts =
+      sym (take-append-drop (ut + rt) tb)
+      ∙ ap (λ (l : List ℕ). l ++ drop (ut + rt) tb) (h .both .texts ∙ ap encodeTexts row ∙ texts-append xs (c ∷ ys))
+      ∙ simp append-assoc
+
+  module _ {at t : ℕ} (e : at ≡ length (encodeRecords F xs)) (f : t ≡ length (encodeTexts xs)) where
+    reads-in : Reads F c rb tb at t
+    reads-in =
+        subst (λ (z : List ℕ). Reads F c z tb at t) (sym in-records)
+        (subst (λ (z : List ℕ). Reads F c (encodeRecords F xs ++ (recordOf F c ++ behind)) z at t) (sym in-texts)
+        (reads F c (encodeRecords F xs) (encodeTexts xs) behind texts-behind at t (sym e) (sym f) small))
+
+    -- the change between xs and ys stands behind the records and the texts of xs
+    pub stands : Stands F rb tb at t c
+    stands =
+        record {
+          some = record-pos F c;
+          size = reads-in .size;
+          room = omega (arith, e, ap length in-records, length-append (encodeRecords F xs) (recordOf F c ++ behind), length-append (recordOf F c) behind);
+          space = omega (arith, f, ap length in-texts, length-append (encodeTexts xs) (textsOf c ++ texts-behind), length-append (textsOf c) texts-behind);
+          carries =
+              record {
+                numbers = record-is F rb tb at t c reads-in;
+                texts = subst (λ (z : List ℕ). take (length (textsOf c)) (drop t z) ≡ textsOf c) (sym in-texts) (text-at (encodeTexts xs) (textsOf c) texts-behind t (length (textsOf c)) (sym f) refl);
+              };
+        }
+
+-- ---- the seam moved within the row, which stays as it is
+module _ {R : Repertoire} {F : Format} {rb tb : List ℕ} {ur ut rr rt : ℕ} {us rs : List Change} (h : Holds R F rb tb ur ut rr rt us rs) (us′ rs′ : List Change) (row : us ++ rs ≡ us′ ++ rs′) {at t : ℕ} (e : at ≡ length (encodeRecords F us′)) (f : t ≡ length (encodeTexts us′)) where
+  pub seam-within : at ≤ ur + rr
+  seam-within =
+      omega (arith, e, length-take-le (ur + rr) rb (h .room), ap length (h .both .records ∙ ap (encodeRecords F) row ∙ records-append F us′ rs′), length-append (encodeRecords F us′) (encodeRecords F rs′))
+
+  pub texts-within : t ≤ ut + rt
+  texts-within =
+      omega (arith, f, length-take-le (ut + rt) tb (h .space), ap length (h .both .texts ∙ ap encodeTexts row ∙ texts-append us′ rs′), length-append (encodeTexts us′) (encodeTexts rs′))
+
+  pub seam-moved : Holds R F rb tb at t (ur + rr - at) (ut + rt - t) us′ rs′
+  seam-moved =
+      let a : ur + rr ≡ at + (ur + rr - at) = omega (arith, seam-within) in
+      let b : ut + rt ≡ t + (ut + rt - t) = omega (arith, texts-within) in
+      record {
+        both =
+            subst (λ (n : ℕ). Layout R F (take n rb) (take (t + (ut + rt - t)) tb) (us′ ++ rs′)) a
+            (subst (λ (n : ℕ). Layout R F (take (ur + rr) rb) (take n tb) (us′ ++ rs′)) b (subst (Layout R F (take (ur + rr) rb) (take (ut + rt) tb)) row (h .both)));
+        records = e;
+        texts = f;
+        room = omega (arith, a, h .room);
+        space = omega (arith, b, h .space);
+      }

@@ -1,0 +1,121 @@
+-- One record undone or redone, by the numbers that the code computes. Assumes nothing.
+use Prim.Native.Nat.{ℕ, _+_, _-_, _≤_, _<_}
+use native.Mathlib.Omega.{arith}
+use mathlib.Core.Path.{_≡_, refl, ap, subst, _∙_}
+use mathlib.Core.Bool.{Bool, true, false}
+use mathlib.Core.List.{List, _∷_}
+use lib.ListN.{length, getD}
+use Rattle.unicode.specs.Repertoire.{catalogue}
+use Rattle.journal.specs.Change.{Change}
+use Rattle.journal.specs.Layout.{Format, textsOf, sizeOf}
+use Rattle.journal.specs.Groups as groups
+use Rattle.journal.specs.Undo.{undoRecords, undoTexts}
+use Rattle.changeset.specs.declared.Log.{Log}
+use Rattle.changeset.proofs.Answers.{state}
+use Rattle.edit.specs.Calls.{Lent, stateOf, Ready}
+use Rattle.retrace.specs.declared.Record.{Record}
+use Rattle.retrace.specs.declared.Step.{Step}
+use Rattle.retrace.specs.Retrace.{undoing, facing}
+use Rattle.retrace.specs.Records.{numbersOf, recordAt, Carries, SizesOf, Retraced}
+use Rattle.retrace.proofs.Records.{carried-size}
+use Rattle.undo.specs.Steps.{trailBy, lineOf, passLog, Leaves}
+use Rattle.undo.proofs.Rows.{Stands}
+use Rattle.undo.proofs.Seams.{turn-turn, Seam, newest-records, newest-texts, newest-size, newest-stands, newest-seam, next-stands, next-seam}
+use Rattle.undo.proofs.Passes.{numbered, stop-leaves, done-leaves}
+
+-- a record r that was read where the change c stands
+module _ {F : Format} {rb tb : List ℕ} {at t : ℕ} {c : Change} (s : Stands F rb tb at t c) where
+  pub whole : (0 < sizeOf F (getD rb at 0)) × (at + sizeOf F (getD rb at 0) ≤ length rb)
+  whole = (omega (arith, s .some, s .size), omega (arith, s .room, s .size))
+
+  module _ {r : Record} (e : r ≡ recordAt F rb at (getD rb at 0)) where
+    pub is-carried : Carries c r tb t
+    is-carried = record { numbers = e ∙ s .carries .numbers; texts = s .carries .texts }
+
+    pub lengths : r .old + r .new ≡ length (textsOf c)
+    lengths = carried-size c r tb t is-carried
+
+    pub space : t + (r .old + r .new) ≤ length tb
+    space = omega (arith, lengths, s .space)
+
+-- a record turned round twice
+facing-twice : (back : Bool) (x : Change) → facing back (facing back x) ≡ x
+facing-twice true x = refl
+facing-twice false x = turn-turn x
+
+-- the record x undone or redone, where it stands as it was written: s is where the walk was, q where it is
+module _ (F : Format) (l : Lent) (back : Bool) (x : Change) (f : List Change) {at t : ℕ} (c : Stands F (l .records) (l .texts) at t (facing back x)) {r : Record} (e : r ≡ recordAt F (l .records) at (getD (l .records) at 0)) (s q : Step) (t′ : List ℕ) (tried : (c : Change) → Carries c r (l .texts) t → Retraced (undoing (length (l .text)) (facing back c) (trailBy (stateOf catalogue F l) (s .undone))) s q (l .text) t′) where
+  abbrev v : groups.Log
+  v = stateOf catalogue F l .log
+
+  is-tried : Retraced (undoing (length (l .text)) x (trailBy (stateOf catalogue F l) (s .undone))) s q (l .text) t′
+  is-tried =
+      subst (λ (a : Change). Retraced (undoing (length (l .text)) a (trailBy (stateOf catalogue F l) (s .undone))) s q (l .text) t′) (facing-twice back x)
+      (tried (facing back x) (is-carried c e))
+
+  is-kind : r .kind ≡ numbersOf (facing back x) .kind
+  is-kind = ap (λ (a : Record). a .kind) (e ∙ c .carries .numbers)
+
+  pub record-stops : lineOf s ≡ l .line → (q .number ≡ 0 → ⊥) → (r .kind ≡ numbersOf (facing back x) .kind) × Leaves F l (undoing (length (l .text)) x (trailBy (stateOf catalogue F l) (s .undone))) (passLog back x f v) q (l .log) t′
+  record-stops i z = (is-kind, stop-leaves F l (passLog back x f v) (undoing (length (l .text)) x (trailBy (stateOf catalogue F l) (s .undone))) s q t′ i is-tried z)
+
+  pub record-passes : {i j : ℕ} {g : Log} → Seam F l (passLog back x f v) i j → q .number ≡ 0
+      → g ≡ state i j (l .log .undo .records + l .log .redo .records - i) (l .log .undo .texts + l .log .redo .texts - j) (l .log .level)
+      → (r .kind ≡ numbersOf (facing back x) .kind) × Leaves F l (undoing (length (l .text)) x (trailBy (stateOf catalogue F l) (s .undone))) (passLog back x f v) q g t′
+  record-passes {g = g} m z k = (
+    is-kind,
+    done-leaves F l (passLog back x f v) (undoing (length (l .text)) x (trailBy (stateOf catalogue F l) (s .undone))) s q g t′
+        (numbered (length (l .text)) x (trailBy (stateOf catalogue F l) (s .undone))) is-tried z (k ∙ m .state) (m .bytes),
+  )
+
+-- ---- the newest record, whose size n is noted
+module _ {F : Format} {l : Lent} (h : Ready F l) (sizes : List ℕ) (z : SizesOf F sizes (stateOf catalogue F l .log .undo)) {x : Change} {u : List Change} (e : stateOf catalogue F l .log .undo ≡ x ∷ u) where
+  abbrev ur : ℕ
+  ur = l .log .undo .records
+
+  abbrev n : ℕ
+  n = getD sizes (ur - 1) 0
+
+  pub size-within : n ≤ ur
+  size-within = omega (arith, newest-size h e sizes z, newest-records h e)
+
+  start-is : ur - n ≡ length (undoRecords F u)
+  start-is = omega (arith, newest-size h e sizes z, newest-records h e)
+
+  -- it stands there
+  at-start : Stands F (l .records) (l .texts) (ur - n) (length (undoTexts u)) x
+  at-start = newest-stands h e start-is refl
+
+  pub start-whole : (0 < sizeOf F (getD (l .records) (ur - n) 0)) × (ur - n + sizeOf F (getD (l .records) (ur - n) 0) ≤ length (l .records))
+  start-whole = whole at-start
+
+  module _ {r : Record} (i : r ≡ recordAt F (l .records) (ur - n) (getD (l .records) (ur - n) 0)) where
+    long : r .old + r .new ≡ length (textsOf x)
+    long = lengths at-start i
+
+    pub texts-within : r .old + r .new ≤ l .log .undo .texts
+    texts-within = omega (arith, long, newest-texts h e)
+
+    first-is : l .log .undo .texts - (r .old + r .new) ≡ length (undoTexts u)
+    first-is = omega (arith, long, newest-texts h e)
+
+    pub stands-there : Stands F (l .records) (l .texts) (ur - n) (l .log .undo .texts - (r .old + r .new)) x
+    stands-there = newest-stands h e start-is first-is
+
+    pub seam-there : Seam F l (passLog true x u (stateOf catalogue F l .log)) (ur - n) (l .log .undo .texts - (r .old + r .new))
+    seam-there = newest-seam h e start-is first-is
+
+-- ---- the next record, which stands at the seam
+module _ {F : Format} {l : Lent} (h : Ready F l) {x : Change} {d : List Change} (e : stateOf catalogue F l .log .redo ≡ x ∷ d) where
+  pub next-whole : (0 < sizeOf F (getD (l .records) (l .log .undo .records) 0)) × (l .log .undo .records + sizeOf F (getD (l .records) (l .log .undo .records) 0) ≤ length (l .records))
+  next-whole = whole (next-stands h e)
+
+  module _ {r : Record} (i : r ≡ recordAt F (l .records) (l .log .undo .records) (getD (l .records) (l .log .undo .records) 0)) where
+    pub next-space : l .log .undo .texts + (r .old + r .new) ≤ length (l .texts)
+    next-space = space (next-stands h e) i
+
+    pub next-seam-there : {n : ℕ} → n ≡ sizeOf F (getD (l .records) (l .log .undo .records) 0) → Seam F l (passLog false x d (stateOf catalogue F l .log)) (l .log .undo .records + n) (l .log .undo .texts + (r .old + r .new))
+    next-seam-there j =
+        next-seam h e
+        (ap (λ (a : ℕ). l .log .undo .records + a) (j ∙ next-stands h e .size))
+        (ap (λ (a : ℕ). l .log .undo .texts + a) (lengths (next-stands h e) i))

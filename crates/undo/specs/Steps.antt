@@ -1,0 +1,86 @@
+-- One record undone or redone on lent bytes, and a group that is open: what undo, redo and cancel are made of.
+use Prim.Native.Nat.{ℕ}
+use mathlib.Core.Path.{_≡_}
+use mathlib.Core.Bool.{Bool, true, false, cond}
+use mathlib.Core.List.{List, _∷_, reverse}
+use Rattle.unicode.specs.Repertoire.{catalogue}
+use Rattle.checks.specs.declared.Line.{Line}
+use Rattle.journal.specs.Change.{Change, turn}
+use Rattle.journal.specs.Layout.{Format, Layout}
+use Rattle.journal.specs.Hold.{Listed}
+use Rattle.journal.specs.Groups as groups
+use Rattle.changeset.specs.declared.Log.{Log}
+use Rattle.changeset.specs.Calls.{logOf}
+use Rattle.edit.specs.declared.EditAnswer.{EditAnswer}
+use Rattle.edit.specs.Plan.{State, answered}
+use Rattle.edit.specs.Calls.{Lent, lent, stateOf, Stored, Ready}
+use Rattle.retrace.specs.declared.Step.{Step}
+use Rattle.retrace.specs.Retrace.{Trail, Tried, done, stops, undoing, facing}
+use Rattle.retrace.specs.Records.{numbersOf, stepTo, Noted}
+use Rattle.undo.specs.declared.Passed.{Passed}
+use Rattle.undo.specs.Undo.{redoOut, opens, beginsDown}
+use lib.ListN.{length}
+
+-- a text and a cursor, and whether a record of a text was undone
+abbrev pub trailBy : State → Bool → Trail
+trailBy s b = record { text = s .text; cursor = s .cursor; undone = b }
+
+abbrev pub lineOf : Step → Line
+lineOf s = record { len = s .len; cursor = s .cursor }
+
+-- what is lent where a walk has come to s
+abbrev pub lentBy : List ℕ → List ℕ → List ℕ → Step → Log → Lent
+lentBy t rb tb s g = lent t rb tb (lineOf s) g
+
+-- a text, a cursor and a log
+abbrev pub stateAt : Trail → groups.Log → State
+stateAt p v = record { text = p .text; cursor = p .cursor; log = v }
+
+-- the list that is walked over, back or on, and the one that its records go to
+abbrev pub fromOf : Bool → groups.Log → List Change
+fromOf true v = v .undo
+fromOf false v = v .redo
+
+abbrev pub toOf : Bool → groups.Log → List Change
+toOf true v = v .redo
+toOf false v = v .undo
+
+-- the log that has these two lists
+abbrev pub logBy : Bool → List Change → List Change → ℕ → groups.Log
+logBy true f g n = record { undo = f; redo = g; level = n }
+logBy false f g n = record { undo = g; redo = f; level = n }
+
+-- the record x passed, with f left of its list
+abbrev pub passLog : Bool → Change → List Change → groups.Log → groups.Log
+passLog back x f v = logBy back f (turn x ∷ toOf back v) (v .level)
+
+-- what a record that was tried leaves, where it leads to the log v: a stop changes nothing
+abbrev pub Leaves : Format → Lent → Tried → groups.Log → Step → Log → List ℕ → Type 0
+Leaves F l (done p) v s g t = (s ≡ stepTo p) × (g ≡ logOf F v) × Stored F (stateAt p v) t (l .records) (l .texts)
+Leaves F l (stops k) v s g t = (s .number ≡ k) × (lineOf s ≡ l .line) × (g ≡ l .log) × (t ≡ l .text)
+
+-- the newest record undone, or the next one redone: its kind is that of the record as it is written
+abbrev pub PassesOne : Format → Lent → Bool → Bool → Passed → List ℕ → Type 0
+PassesOne F l back b q t =
+    (x : Change) (f : List Change) → fromOf back (stateOf catalogue F l .log) ≡ x ∷ f
+    → (q .kind ≡ numbersOf (facing back x) .kind) × Leaves F l (undoing (length (l .text)) x (trailBy (stateOf catalogue F l) b)) (passLog back x f (stateOf catalogue F l .log)) (q .step) (q .log) t
+
+-- one unit redone: its outcome is the answer r, with what is lent to the next unit, which the checks pass
+pub record Redone (F : Format) (l : Lent) (r : EditAnswer) (t : List ℕ) : Type 0 where
+  pub ready : Ready F (lent t (l .records) (l .texts) (r .line) (r .log))
+  pub out : redoOut (length (l .text)) 1 (stateOf catalogue F l) ≡ answered (r .number) 0 0 (stateOf catalogue F (lent t (l .records) (l .texts) (r .line) (r .log)))
+
+-- the Begins down to the mark m, where the group of that mark is open; else 0
+unfoldable pub openBegins : ℕ → List Change → ℕ
+openBegins m u = cond (opens m u) (beginsDown m u) 0
+
+-- these bytes are the records of a list in some format, and their number and sizes are noted
+pub record NotedIn (rs : List ℕ) (count : ℕ) (sizes : List ℕ) : Type 0 where
+  pub format : Format
+  pub listed : Listed catalogue format rs
+  pub noted : Noted catalogue format rs count sizes
+
+-- of every list that has these records, in every format that they are noted in
+abbrev pub OpenAt : List ℕ → ℕ → List ℕ → ℕ → ℕ → Type 0
+OpenAt rs count sizes m n =
+    (F : Format) → Noted catalogue F rs count sizes → (ts : List ℕ) (us : List Change) → Layout catalogue F rs ts us → n ≡ openBegins m (reverse us)
