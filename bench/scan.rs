@@ -131,7 +131,7 @@ fn whole(call: Undoing, back: bool, text: &mut [u8], records: &[u8], texts: &[u8
 
 fn undo_table() {
     println!("{:34} {:>7} {:>10} {:>10}", "log", "records", "undo ns", "redo ns");
-    let mut row = |name: &str, used: usize, (records, texts): (Vec<u8>, Vec<u8>), count: usize| {
+    let row = |name: &str, used: usize, (records, texts): (Vec<u8>, Vec<u8>), count: usize| {
         let mut text = vec![b'a'; used + 16];
         let undo = whole(tlf_bench_undo, true, &mut text, &records, &texts, count);
         let redo = whole(tlf_bench_redo, false, &mut text, &records, &texts, count);

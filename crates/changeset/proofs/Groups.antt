@@ -12,12 +12,12 @@ use borrow.Author.Tests.{lt-ltb, le-ltb, ne-eqb}
 use Rattle.lists.proofs.Stores.{take-sets}
 use Rattle.unicode.specs.Repertoire.{catalogue}
 use Rattle.journal.specs.Change.{Edit, insert, delete, replace, Change, begin, end, edit, turn}
-use Rattle.journal.specs.Layout.{Format, encodeRecords, encodeTexts, recordOf, Layout}
+use Rattle.journal.specs.Layout.{Format, encodeRecords, encodeTexts, Layout}
 use Rattle.journal.specs.Hold.{Holds, Listed}
 use Rattle.journal.specs.Groups as groups
 use Rattle.journal.specs.Groups.{isBegin, isEnd, passed}
 use Rattle.journal.specs.Undo.{undoRecords, undoTexts, fits, Places, lastInsertAt}
-use Rattle.journal.proofs.Decode.{record-pos}
+use Rattle.journal.proofs.Decode.{records-many}
 use Rattle.journal.proofs.Holds.{records-append, texts-append, holds-alone, pushed, closed, layout-left}
 use Rattle.journal.proofs.Undo.{records-size, texts-size, good-oldest, fits-yes, full-records}
 use Rattle.journal.proofs.Groups.{run, passed-same, passed-run, passed-short, passed-twice, begins-records, begins-texts, begins-size, ends-records, ends-texts, good-ends, good-drop, Ended, ended-least, truncated-is, ends-passed, turned-back}
@@ -47,11 +47,6 @@ kind-end F end = refl
 kind-end F (edit (insert p s)) = ne-eqb (3 + F .offset) 2 (λ e. omega arith)
 kind-end F (edit (delete p s)) = ne-eqb (4 + F .offset) 2 (λ e. omega arith)
 kind-end F (edit (replace p o n)) = ne-eqb (5 + F .offset) 2 (λ e. omega arith)
-
--- a record takes a byte at least
-records-many : (F : Format) (us : List Change) → length us ≤ length (encodeRecords F us)
-records-many F [] = omega arith
-records-many F (c ∷ us) = omega (arith, records-many F us, record-pos F c, length-append (recordOf F c) (encodeRecords F us))
 
 module _ (F : Format) (l : Lent) (h : Ready F l) where
   abbrev us : List Change

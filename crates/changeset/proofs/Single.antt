@@ -1,24 +1,21 @@
 -- A text of one cluster, all alphanumeric. Assumes nothing.
 use Prim.Native.Nat.{ℕ, _≤_, _<_}
 use native.Mathlib.Omega.{arith}
-use mathlib.Core.Path.{_≡_, refl, sym, ap, ap₂, _∙_}
+use mathlib.Core.Path.{_≡_, sym, ap, ap₂, _∙_}
 use mathlib.Core.Bool.{Bool, true, false, _&&_}
-use mathlib.Core.List.{List, [], _∷_}
+use mathlib.Core.List.{List}
 use lib.Dec.{ltb, eqb}
-use lib.ListN.{length, drop, length-drop, drop-of-length-le}
+use lib.ListN.{length}
 use borrow.Author.Tests.{lt-ltb, le-ltb, eq-eqb, ne-eqb}
-use Rattle.lists.specs.Lists.{all, headOr}
+use Rattle.lists.specs.Lists.{all}
 use Rattle.lists.proofs.Bools.{by-less}
-use Rattle.utf8.specs.Chars.{charsFrom}
-use Rattle.utf8.proofs.Append.{valid-cut}
 use Rattle.unicode.specs.Repertoire.{Repertoire}
 use Rattle.unicode.specs.Text.{isText}
 use Rattle.unicode.proofs.Text.{text-valid}
-use Rattle.cluster.specs.Clusters.{clusters, clustersOf, bytes}
+use Rattle.cluster.specs.Clusters.{clustersOf, bytes}
 use Rattle.cluster.specs.Facts.{facts}
 use Rattle.cluster.specs.declared.Cluster.{Cluster}
-use Rattle.cluster.proofs.Parts.{first-cut}
-use Rattle.cluster.proofs.Steps.{firstCluster, step-some, step-none}
+use Rattle.cluster.proofs.Steps.{firstCluster, step-none, step-one, step-two}
 use Rattle.journal.specs.Recording.{isSingle}
 
 module _ (R : Repertoire) (t : List ℕ) where
@@ -36,38 +33,24 @@ module _ (R : Repertoire) (t : List ℕ) where
       (λ h. ap (λ (x : Bool). (x && eqb m (length t)) && all (R .alnum) (firstCluster R t)) (le-ltb 0 (length t) h) ∙ sym (ap (isSingle R) (step-none R t z)))
 
   -- one
-  nothing-left : clustersOf R [] ≡ []
-  unfolding clusters charsFrom
-  nothing-left = refl
-
   one-single : 0 < m → m ≡ length t → told ≡ isSingle R (clustersOf R t)
   one-single h e =
-      let d : drop m t ≡ [] = drop-of-length-le t {i = m} (omega arith) in
-      let s : clustersOf R t ≡ firstCluster R t ∷ [] = step-some R t h ∙ ap (λ (l : List ℕ). firstCluster R t ∷ clustersOf R l) d ∙ ap (λ (ks : List (List ℕ)). firstCluster R t ∷ ks) nothing-left in
       let a : ltb 0 (length t) ≡ true = lt-ltb 0 (length t) (omega arith) in
       let b : eqb m (length t) ≡ true = eq-eqb m (length t) e in
-      ap₂ (λ (x y : Bool). (x && y) && all (R .alnum) (firstCluster R t)) a b ∙ sym (ap (isSingle R) s)
+      ap₂ (λ (x y : Bool). (x && y) && all (R .alnum) (firstCluster R t)) a b ∙ sym (ap (isSingle R) (step-one R t h (omega arith)))
 
   -- more
-  two-single : isText R t ≡ true → 0 < m → m < length t → told ≡ isSingle R (clustersOf R t)
-  two-single v h l = go (clustersOf R (drop m t)) refl
-    where
-      cut-at : 0 < bytes (firstCluster R (drop m t))
-      cut-at =
-          let c = first-cut R t (text-valid R t v) (omega arith) .cut in
-          first-cut R (drop m t) (sym (valid-cut t m (c .edge)) ∙ text-valid R t v) (simp length-drop (omega arith)) .some
-
-      go : (ks : List (List ℕ)) → clustersOf R (drop m t) ≡ ks → told ≡ isSingle R (clustersOf R t)
-      go [] e = absurd (omega (arith, cut-at, ap (λ (x : List (List ℕ)). bytes (headOr [] x)) e))
-      go (k ∷ ks) e =
-          let s : clustersOf R t ≡ firstCluster R t ∷ (k ∷ ks) = step-some R t h ∙ ap (λ (x : List (List ℕ)). firstCluster R t ∷ x) e in
-          let a : ltb 0 (length t) ≡ true = lt-ltb 0 (length t) (omega arith) in
-          let b : eqb m (length t) ≡ false = ne-eqb m (length t) (λ f. omega arith) in
-          ap₂ (λ (x y : Bool). (x && y) && all (R .alnum) (firstCluster R t)) a b ∙ sym (ap (isSingle R) s)
+  two-single : isText R t ≡ true → m < length t → told ≡ isSingle R (clustersOf R t)
+  two-single v l =
+      step-two R (told ≡ isSingle R (clustersOf R t)) t (text-valid R t v) l
+      (λ k ks s.
+      let a : ltb 0 (length t) ≡ true = lt-ltb 0 (length t) (omega arith) in
+      let b : eqb m (length t) ≡ false = ne-eqb m (length t) (λ f. omega arith) in
+      ap₂ (λ (x y : Bool). (x && y) && all (R .alnum) (firstCluster R t)) a b ∙ sym (ap (isSingle R) s))
 
   pub single : isText R t ≡ true → (k : Cluster) → k ≡ facts R (firstCluster R t) → k .len ≤ length t → ((ltb 0 (length t) && eqb (k .len) (length t)) && k .alnum) ≡ isSingle R (clustersOf R t)
   single v k e h =
       ap (λ (x : Cluster). (ltb 0 (length t) && eqb (x .len) (length t)) && x .alnum) e
       ∙ by-less (told ≡ isSingle R (clustersOf R t)) 0 m
-      (λ a. by-less (told ≡ isSingle R (clustersOf R t)) m (length t) (λ b. two-single v a b) (λ b. one-single a (omega (arith, ap (λ (x : Cluster). x .len) e))))
+      (λ a. by-less (told ≡ isSingle R (clustersOf R t)) m (length t) (λ b. two-single v b) (λ b. one-single a (omega (arith, ap (λ (x : Cluster). x .len) e))))
       (λ a. none-single (omega arith))

@@ -207,8 +207,15 @@ impl Log {
         ensures { λ r. ⌜ r ≡ record { undo = record { records = records; texts = texts }; redo = record { records = 0; texts = 0 }; level = self .level - begins } ⌝ }
     {
         let level = self.level;
+        let used = Used { records, texts };
+        let none = Used {
+            records: 0,
+            texts: 0,
+        };
+        self.undo = used;
+        self.redo = none;
         self.level = level - least(begins, level);
-        self.only_undo(records, texts)
+        self
     }
 
     // A change recorded, by its kind 3, 4 or 5, its place, its old and its new text: merged where it may be and follows.

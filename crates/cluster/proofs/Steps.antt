@@ -1,25 +1,25 @@
 -- One cluster after the other, by their lengths in bytes: what next_cluster and prev_cluster tell of a part. Assumes nothing.
-use mathlib.Core.Path.{_≡_, sym, ap, subst, _∙_}
+use mathlib.Core.Path.{_≡_, refl, sym, ap, subst, _∙_}
 use mathlib.Core.Bool.{true}
 use mathlib.Core.List.{List, [], _∷_, _++_}
 use Prim.Native.Nat.{ℕ, _+_, _-_, _<_, _≤_}
 use native.Mathlib.Omega.{arith}
-use lib.ListN.{length, take, drop, length-take}
+use lib.ListN.{length, take, drop, length-take, length-drop, drop-of-length-le}
 use lib.Seq.{take-take, length-take-le}
 use Rattle.lists.specs.Lists.{headOr, lastOr}
 use Rattle.lists.proofs.Bools.{by-less}
 use Rattle.lists.proofs.Parts.{part-tail}
 use Rattle.utf8.specs.Utf8.{char, first}
-use Rattle.utf8.specs.Chars.{chars, boundary}
+use Rattle.utf8.specs.Chars.{chars, charsFrom, valid, boundary}
 use Rattle.utf8.proofs.Chars.{chars-step, size-pos}
-use Rattle.utf8.proofs.Append.{by-first}
+use Rattle.utf8.proofs.Append.{by-first, valid-cut}
 use Rattle.utf8.proofs.Boundary.{boundary-take}
 use Rattle.unicode.specs.Repertoire.{Repertoire}
 use Rattle.cluster.specs.Clusters.{clusters, clustersOf, bytes}
 use Rattle.cluster.specs.Facts.{facts}
 use Rattle.cluster.specs.declared.Cluster.{Cluster}
 use Rattle.cluster.proofs.Clusters.{runOf, clusters-head, clusters-step, clusters-none}
-use Rattle.cluster.proofs.Parts.{last-cut}
+use Rattle.cluster.proofs.Parts.{first-cut, last-cut}
 
 module _ (R : Repertoire) where
   abbrev pub firstCluster : List ℕ → List ℕ
@@ -44,6 +44,34 @@ module _ (R : Repertoire) where
   -- none was
   pub step-none : (t : List ℕ) → bytes (firstCluster t) ≡ 0 → clustersOf R t ≡ []
   step-none t z = by-first _ t (λ c n e. absurd (let p = head-pos t c n e in omega arith)) (λ e. clusters-none R t e)
+
+  -- no bytes, no cluster
+  none-left : clustersOf R [] ≡ []
+  unfolding clusters charsFrom
+  none-left = refl
+
+  -- the first cluster is the whole text
+  pub step-one : (t : List ℕ) → 0 < bytes (firstCluster t) → length t ≤ bytes (firstCluster t) → clustersOf R t ≡ firstCluster t ∷ []
+  step-one t h l =
+      step-some t h ∙ ap (λ (x : List ℕ). firstCluster t ∷ clustersOf R x) (drop-of-length-le t {i = bytes (firstCluster t)} l) ∙
+      ap (λ (ks : List (List ℕ)). firstCluster t ∷ ks) none-left
+
+  -- a text longer than its first cluster has a second one
+  pub step-two : (P : Type 0) (t : List ℕ) → valid t ≡ true → bytes (firstCluster t) < length t →
+      ((k : List ℕ) (ks : List (List ℕ)) → clustersOf R t ≡ firstCluster t ∷ (k ∷ ks) → P) → P
+  step-two P t v l f = go (clustersOf R (drop n t)) refl
+    where
+      n : ℕ
+      n = bytes (firstCluster t)
+
+      next : 0 < bytes (firstCluster (drop n t))
+      next =
+          let c = first-cut R t v (omega arith) .cut in
+          first-cut R (drop n t) (sym (valid-cut t n (c .edge)) ∙ v) (simp length-drop (omega arith)) .some
+
+      go : (ks : List (List ℕ)) → clustersOf R (drop n t) ≡ ks → P
+      go [] e = absurd (omega (arith, next, ap (λ (x : List (List ℕ)). bytes (headOr [] x)) e))
+      go (k ∷ ks) e = f k ks (step-some t (first-cut R t v (omega arith) .some) ∙ ap (λ (x : List (List ℕ)). firstCluster t ∷ x) e)
 
   -- what next_cluster tells of `&s[a..]`
   pub next-told : (s : List ℕ) (a : ℕ) (k : Cluster) → a ≤ length s →

@@ -6,6 +6,7 @@ use mathlib.Core.Path.{_≡_, refl, sym, ap, ap₂, subst, _∙_}
 use mathlib.Core.List.{List, map, reverse}
 use lib.ListN.{length, take}
 use lib.Seq.{length-take-le}
+use Rattle.utf8.specs.Chars.{In}
 use Rattle.unicode.specs.Repertoire.{catalogue}
 use Rattle.journal.specs.Change.{Change, turn}
 use Rattle.journal.specs.Layout.{Format}
@@ -18,7 +19,7 @@ use Rattle.changeset.specs.Calls as log
 use Rattle.changeset.proofs.Answers.{held-state, held-bytes}
 use Rattle.changeset.proofs.Recorded.{holding, fits-now}
 use Rattle.edit.specs.declared.EditAnswer.{EditAnswer}
-use Rattle.edit.specs.Plan.{In, Outcome, Plan, called, nothing, textAfter, listAfter, tooLong, edited}
+use Rattle.edit.specs.Plan.{Outcome, Plan, called, nothing, textAfter, listAfter, tooLong, edited}
 use Rattle.edit.specs.Calls.{Lent, logLent, textOf, sizesOf, stateOf, says, Stored, Edited, Ready}
 
 module _ (F : Format) (l : Lent) where

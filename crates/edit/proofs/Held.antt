@@ -7,7 +7,7 @@ use mathlib.Core.List.{List, [], _∷_, _++_, map, reverse, reverse-reverse}
 use mathlib.Core.Option.{Option}
 use lib.ListN.{length, take, length-append}
 use borrow.Author.Tests.{le-ltb}
-use Rattle.utf8.specs.Chars.{boundary}
+use Rattle.utf8.specs.Chars.{boundary, In}
 use Rattle.unicode.specs.Repertoire.{Repertoire, catalogue}
 use Rattle.unicode.specs.Text.{isText}
 use Rattle.journal.specs.Change.{Change, turn}
@@ -21,7 +21,7 @@ use Rattle.journal.proofs.Undo.{good-oldest}
 use Rattle.checks.specs.Checks.{refusal, ownTests}
 use Rattle.changeset.specs.Logs.{overSizes, broken, damaged}
 use Rattle.changeset.specs.Calls as log
-use Rattle.edit.specs.Plan.{In, State}
+use Rattle.edit.specs.Plan.{State}
 use Rattle.edit.specs.Calls.{Lent, lent, checked, stateOf, Stored, Ready}
 
 -- a list from which n bytes can be taken has as many

@@ -8,6 +8,7 @@ use lib.Dec.{leb, ltb}
 use lib.ListN.{length, take}
 use borrow.Author.Tests.{leb-true}
 use Rattle.lists.proofs.Bools.{and-both, or-none}
+use Rattle.utf8.specs.Chars.{In}
 use Rattle.unicode.specs.Repertoire.{Repertoire, catalogue}
 use Rattle.journal.specs.Change.{Change}
 use Rattle.journal.specs.Layout.{Format, top, AllGood}
@@ -15,11 +16,10 @@ use Rattle.journal.specs.Undo.{undoRecords, undoTexts, allSmall, Sizes, fits}
 use Rattle.changeset.specs.declared.Log.{Log}
 use Rattle.changeset.proofs.Recorded.{good}
 use Rattle.edit.specs.declared.EditAnswer.{EditAnswer}
-use Rattle.edit.specs.Plan.{Piece, In, made, recorded, Plan, once, textAfter, listAfter, redoAfter, AllSuit, Suits, tooLong, State, Outcome, answered, edited}
+use Rattle.edit.specs.Plan.{Piece, made, recorded, Plan, once, textAfter, listAfter, redoAfter, AllSuit, Suits, tooLong, State, Outcome, answered, edited}
 use Rattle.edit.specs.Calls.{Lent, lent, logLent, textOf, sizesOf, stateOf, Edited, Ready}
 use Rattle.edit.proofs.Answers.{log-kept, length-kept, state-kept}
-use Rattle.edit.proofs.Pieces.{startOf, endOf, textIn, made-is, made-text, suits-in, start-in}
-use Rattle.edit.proofs.Splice.{splice-length}
+use Rattle.edit.proofs.Pieces.{startOf, made-text, start-in}
 use Rattle.edit.proofs.Steps.{good-step, room-first}
 use Rattle.edit.proofs.Held.{state-held, state-ready}
 
@@ -124,11 +124,7 @@ module _ (F : Format) where
         (ap₂ (λ (z : Sizes) (c : ℕ). edited catalogue F z c (once x (startOf x)) s) sizes (k .text) ∙ step-taken catalogue F (sizesOf l₀) C x s (startOf x) (shorts .0) room) q
 
     start : In (made x (textOf l)) (startOf x) (startOf x)
-    start =
-        let i = suits-in catalogue x (textOf l) (suits .0) in
-        let a = i .0 in
-        let b = i .1 in
-        start-in catalogue x (textOf l) (suits .0) (omega (arith, ap length (made-is x (textOf l)), splice-length (textOf l) (startOf x) (endOf x) (textIn x) (i .0) (i .1)))
+    start = start-in catalogue x (textOf l) (suits .0)
 
     -- the text afterwards
     pub text-now : take (r .line .len) t ≡ made x (textOf l)

@@ -7,6 +7,7 @@ use mathlib.Core.List.{List, [], _∷_}
 use lib.Dec.{ltb}
 use lib.ListN.{length}
 use borrow.Author.Tests.{lt-ltb, le-ltb}
+use Rattle.utf8.specs.Chars.{In}
 use Rattle.unicode.specs.Repertoire.{catalogue}
 use Rattle.unicode.specs.Text.{isText}
 use Rattle.cluster.specs.Clusters.{clustersOf}
@@ -17,7 +18,7 @@ use Rattle.journal.specs.Undo.{fits}
 use Rattle.recording.specs.Tails.{tailOf, Narrow}
 use Rattle.edit.specs.declared.EditAnswer.{EditAnswer}
 use Rattle.edit.specs.declared.Room.{Room}
-use Rattle.edit.specs.Plan.{Piece, In, part, cutting, pasted, made, recorded, Plan, once, listAfter, Suits, AllSuit, tooLong, edited}
+use Rattle.edit.specs.Plan.{Piece, part, cutting, pasted, made, recorded, Plan, once, listAfter, Suits, AllSuit, tooLong, edited}
 use Rattle.edit.specs.Calls.{Lent, lent, textOf, sizesOf, stateOf, Edited, Ready}
 use Rattle.edit.specs.Room.{roomCut, roomPut}
 use Rattle.edit.proofs.Answers.{length-kept}

@@ -1,14 +1,14 @@
 -- A piece as a part of a text replaced by another text, and as the change that the log notes. Assumes nothing.
-use Prim.Native.Nat.{ℕ, _+_, _≤_, _<_}
+use Prim.Native.Nat.{ℕ, _+_, _-_, _≤_, _<_}
 use native.Mathlib.Omega.{arith}
-use mathlib.Core.Path.{_≡_, refl, sym, ap, _∙_}
+use mathlib.Core.Path.{_≡_, refl, sym, ap, subst, _∙_}
 use mathlib.Core.Bool.{Bool, true, false, _&&_}
 use mathlib.Core.List.{List, [], _∷_, _++_}
 use lib.Dec.{eqb}
 use lib.ListN.{length, take, drop}
 use lib.Seq.{length-take-le, take-at, drop-at}
 use Rattle.lists.proofs.Bools.{by-test, never}
-use Rattle.utf8.specs.Chars.{boundary, valid}
+use Rattle.utf8.specs.Chars.{boundary, In, valid}
 use Rattle.utf8.specs.Encode.{encode}
 use Rattle.utf8.proofs.Chars.{size-pos}
 use Rattle.utf8.proofs.Boundary.{boundary-drop, boundary-take}
@@ -26,8 +26,9 @@ use Rattle.recording.specs.Tails.{kindNumber, tailOf, noted}
 use Rattle.recording.specs.declared.Tail.{Tail}
 use Rattle.recording.proofs.Numbers.{tail-records, tail-texts, tail-place}
 use Rattle.recording.proofs.Put.{put, put-records, put-texts, put-good}
-use Rattle.edit.specs.Plan.{Piece, typed, pasted, cutting, swapping, Suits, In, part, splice, made, recorded, blank, notedOr}
+use Rattle.edit.specs.Plan.{Piece, typed, pasted, cutting, swapping, Suits, part, splice, made, recorded, blank, notedOr}
 use Rattle.edit.proofs.Once.{part-text, noted-insert, noted-delete}
+use Rattle.edit.proofs.Splice.{splice-length}
 
 -- ---- a piece puts a text in the place of the bytes from its start up to its end
 abbrev pub startOf : Piece → ℕ
@@ -96,15 +97,33 @@ module _ (t : List ℕ) (a b : ℕ) (s : List ℕ) (i : In t a b) where
       ∙ ap (λ (l : List ℕ). boundary l p) (drop-at s (drop b t) (length s) refl)
       ∙ sym (boundary-drop t b p (i .3))
 
+  -- a place up to its start stays between characters
+  pub splice-stays : (p : ℕ) → p ≤ a → boundary t p ≡ true → In (splice t a b s) p p
+  splice-stays p h k =
+      let e = splice-before p h ∙ k in
+      (omega arith, omega (arith, i .0, i .1, splice-length t a b s (i .0) (i .1)), e, e)
+
+  -- one from its end on moves with the text behind it
+  pub splice-moves : valid s ≡ true → (p q : ℕ) → b ≤ p → p ≤ length t → boundary t p ≡ true → q ≡ a + length s + (p - b) → In (splice t a b s) q q
+  splice-moves v p q h l k m =
+      let z : b + (p - b) ≡ p = omega arith in
+      let e = ap (boundary (splice t a b s)) m ∙ splice-behind v (p - b) ∙ ap (boundary t) z ∙ k in
+      (omega arith, omega (arith, i .0, splice-length t a b s (i .0) (i .1)), e, e)
+
+  -- its start, and the place behind what is put in
+  pub splice-start : In (splice t a b s) a a
+  splice-start = splice-stays a (omega arith) (i .2)
+
+  pub splice-end : valid s ≡ true → In (splice t a b s) (a + length s) (a + length s)
+  splice-end v = splice-moves v b (a + length s) (omega arith) (i .1) (i .3) (omega arith)
+
 module _ (R : Repertoire) (x : Piece) (t : List ℕ) (h : Suits R x t) where
   pub made-text : isText R t ≡ true → isText R (made x t) ≡ true
   made-text v = ap (isText R) (made-is x t) ∙ splice-text t (startOf x) (endOf x) (textIn x) (suits-in R x t h) R v (suits-text R x t h)
 
   -- its start is a place between characters afterwards too
-  pub start-in : startOf x ≤ length (made x t) → In (made x t) (startOf x) (startOf x)
-  start-in k =
-      let e = ap (λ (l : List ℕ). boundary l (startOf x)) (made-is x t) ∙ splice-before t (startOf x) (endOf x) (textIn x) (suits-in R x t h) (startOf x) (omega arith) ∙ suits-in R x t h .2 in
-      (omega arith, k, e, e)
+  pub start-in : In (made x t) (startOf x) (startOf x)
+  start-in = subst (λ (l : List ℕ). In l (startOf x) (startOf x)) (sym (made-is x t)) (splice-start t (startOf x) (endOf x) (textIn x) (suits-in R x t h))
 
 -- ---- the change that the log notes
 abbrev pub editAt : Piece → List ℕ → Edit
@@ -181,12 +200,16 @@ module _ (F : Format) (j : Bool) (x : Edit) (u : List Change) where
       (noted-place F j (kindNumber x) (place x) (length (old x)) (length (new x)) (tailOf F u) (top (F .width)) (tail-place F R u g w) p)
       (omega (arith, tail-texts F after, ap (λ (t : Tail). t .texts) (put F j x u .tail)))
 
+-- a change of nothing has no text
+pub blank-texts : (x : Edit) → blank x ≡ true → (old x ≡ []) × (new x ≡ [])
+blank-texts (insert p []) h = (refl, refl)
+blank-texts (insert p (b ∷ s)) h = never _ false h refl
+blank-texts (delete p []) h = (refl, refl)
+blank-texts (delete p (b ∷ s)) h = never _ false h refl
+blank-texts (replace p o n) h = never _ false h refl
+
 blank-none : (x : Edit) → blank x ≡ true → length (old x) + length (new x) ≡ 0
-blank-none (insert p []) e = refl
-blank-none (insert p (b ∷ s)) e = never _ false e refl
-blank-none (delete p []) e = refl
-blank-none (delete p (b ∷ s)) e = never _ false e refl
-blank-none (replace p o n) e = never _ false e refl
+blank-none x e = omega (arith, ap length (blank-texts x e .0), ap length (blank-texts x e .1))
 
 module _ (F : Format) (j : Bool) (x : Edit) (u : List Change) where
   pub more-records : length (undoRecords F u) ≤ length (undoRecords F (notedOr j x u))

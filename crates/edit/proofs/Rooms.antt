@@ -9,6 +9,7 @@ use lib.ListN.{length, take}
 use lib.Seq.{length-take-le}
 use borrow.Author.Tests.{eq-eqb, ne-eqb, eqb-true, eqb-false, leb-true}
 use Rattle.lists.proofs.Bools.{by-test, and-both, never}
+use Rattle.utf8.specs.Chars.{In}
 use Rattle.unicode.specs.Repertoire.{Repertoire, catalogue}
 use Rattle.unicode.specs.Text.{isText}
 use Rattle.cluster.specs.Clusters.{clustersOf}
@@ -25,7 +26,7 @@ use Rattle.recording.proofs.Put.{put}
 use Rattle.changeset.specs.Calls as log
 use Rattle.changeset.proofs.Recorded.{lays, good, fits-now}
 use Rattle.edit.specs.declared.Room.{Room}
-use Rattle.edit.specs.Plan.{In, part, cutting, pasted, Piece, Suits, recorded, blank, notedOr}
+use Rattle.edit.specs.Plan.{part, cutting, pasted, Piece, Suits, recorded, blank, notedOr}
 use Rattle.edit.specs.Calls.{Lent, logLent, sizesOf, stateOf, Ready}
 use Rattle.edit.specs.Room.{roomFor, tailCut, tailPut, roomCut, roomPut}
 use Rattle.edit.proofs.Once.{part-length}

@@ -1,28 +1,19 @@
 -- Plans of one change suit the text, and leave the cursor between characters: over any repertoire. Assumes nothing.
 use Prim.Native.Nat.{ℕ, _+_}
-use native.Mathlib.Omega.{arith}
-use mathlib.Core.Path.{_≡_, ap, _∙_}
+use mathlib.Core.Path.{_≡_}
 use mathlib.Core.Bool.{true}
 use mathlib.Core.List.{List, [], _∷_}
 use lib.ListN.{length}
-use Rattle.utf8.specs.Chars.{valid, boundary}
+use Rattle.utf8.specs.Chars.{In}
 use Rattle.unicode.specs.Repertoire.{Repertoire}
 use Rattle.unicode.specs.Text.{isText}
 use Rattle.unicode.proofs.Text.{text-valid}
-use Rattle.edit.specs.Plan.{In, splice, cutting, swapping, nothing, textAfter, AllSuit}
-use Rattle.edit.proofs.Pieces.{splice-before, splice-behind}
-use Rattle.edit.proofs.Splice.{splice-length}
+use Rattle.edit.specs.Plan.{cutting, swapping, Plan, nothing, textAfter, AllSuit}
+use Rattle.edit.proofs.Pieces.{splice-start, splice-end}
 
--- behind what is put in for a part
-pub splice-end : (t : List ℕ) (a b : ℕ) (s : List ℕ) → In t a b → valid s ≡ true → In (splice t a b s) (a + length s) (a + length s)
-splice-end t a b s i v =
-    let n : a + length s ≡ a + length s + 0 = omega arith in
-    let m : b + 0 ≡ b = omega arith in
-    let e = ap (boundary (splice t a b s)) n ∙ splice-behind t a b s i v 0 ∙ ap (boundary t) m ∙ i .3 in
-    let l = splice-length t a b s (i .0) (i .1) in
-    let h = i .0 in
-    let k = i .1 in
-    (omega arith, omega arith, e, e)
+-- a plan suits the text, and leaves the cursor between its characters
+abbrev pub PlanSuits : Repertoire → List ℕ → Plan → Type 0
+PlanSuits R t p = AllSuit R (p .pieces) t × In (textAfter (p .pieces) t) (p .cursor) (p .cursor)
 
 module _ (R : Repertoire) (t : List ℕ) where
   -- nothing
@@ -42,12 +33,7 @@ module _ (R : Repertoire) (t : List ℕ) where
 
     pub cutting-cursor : In (textAfter (cutting a b ∷ []) t) a a
     unfolding textAfter
-    cutting-cursor =
-        let e = splice-before t a b [] i a (omega arith) ∙ i .2 in
-        let l = splice-length t a b [] (i .0) (i .1) in
-        let h = i .0 in
-        let k = i .1 in
-        (omega arith, omega arith, e, e)
+    cutting-cursor = splice-start t a b [] i
 
     -- a replacement
     pub swapping-suits : (s : List ℕ) → isText R s ≡ true → AllSuit R (swapping a b s ∷ []) t

@@ -7,17 +7,32 @@ use lib.ListN.{length}
 use borrow.Author.Tests.{ltb-false, not-false}
 use Rattle.lists.proofs.Bools.{or-none, never}
 use Rattle.utf8.specs.Chars.{valid}
-use Rattle.unicode.specs.Repertoire.{catalogue}
+use Rattle.unicode.specs.Repertoire.{Repertoire, catalogue}
 use Rattle.unicode.specs.Text.{isText}
 use Rattle.unicode.proofs.Text.{text-valid}
 use Rattle.checks.specs.Checks.{Tests, both, refusal, lineTests, ownTests}
-use Rattle.checks.proofs.Fit.{refusal-passed}
-use Rattle.journal.specs.Layout.{narrow}
+use Rattle.checks.proofs.Fit.{Passed, fit}
+use Rattle.journal.specs.Layout.{Format, narrow}
 use Rattle.changeset.specs.Logs.{logTests}
 use Rattle.edit.specs.declared.EditAnswer.{EditAnswer}
 use Rattle.edit.specs.Plan.{Plan}
 use Rattle.edit.specs.Calls.{Lent, textOf, says, Edited, checked, editCall}
 use Rattle.edit.proofs.Answers.{refused-by}
+
+-- where the checks pass, the call's own tests do
+pub own-passed : (R : Repertoire) (F : Format) (l : Lent) (own : Tests) → checked R F l own ≡ 0 → Passed own
+own-passed R F l own e =
+    let log = logTests R F (l .log) (l .records) (l .texts) in
+    let p = fit R (l .text) (l .line) (both log own) e .1 in
+    record {
+      sizes = or-none (log .sizes) (own .sizes) (p .sizes) .1;
+      code = p .code;
+      foreign = p .foreign;
+      place = p .place;
+      split = p .split;
+      prompt = p .prompt;
+      damaged = or-none (log .damaged) (own .damaged) (p .damaged) .1;
+    }
 
 -- the tests t with another answer to 6
 abbrev pub withSplit : Tests → Bool → Tests
@@ -58,20 +73,6 @@ module _ (l : Lent) (t : Tests) where
       skip (T .sizes || (L .sizes || t .sizes)) (false || (false || t .code)) (T .foreign || (false || t .foreign)) (T .place || (false || t .place)) (T .split) (false || (false || t .prompt)) (false || (L .damaged || t .damaged)) a b
       (λ p q r s. e (or-none (T .foreign) (false || t .foreign) q .1))
 
-  -- where all pass, check 2 of the call's own does
-  pub sizes-passed : checked catalogue narrow l t ≡ 0 → t .sizes ≡ false
-  sizes-passed e = or-none (L .sizes) (t .sizes) (or-none (T .sizes) (L .sizes || t .sizes) (refusal-passed (both T (both L t)) e .sizes) .1) .1
-
-  -- where all pass, check 4 of the call's own does
-  pub foreign-passed : checked catalogue narrow l t ≡ 0 → t .foreign ≡ false
-  foreign-passed e = or-none (T .foreign) (false || t .foreign) (refusal-passed (both T (both L t)) e .foreign) .1
-
-  -- where all pass, the call's own do
-  pub own-passed : checked catalogue narrow l t ≡ 0 → (t .place ≡ false) × (t .split ≡ false)
-  own-passed e =
-      let p = refusal-passed (both T (both L t)) e in
-      (or-none (T .place) (false || t .place) (p .place) .1, or-none (T .split) (false || t .split) (p .split) .1)
-
 -- a text that 2 and 4 pass
 pub text-lent : (l : Lent) → lineTests catalogue (l .text) (l .line) .sizes ≡ false → lineTests catalogue (l .text) (l .line) .foreign ≡ false → (l .line .len ≤ length (l .text)) × (valid (textOf l) ≡ true)
 text-lent l s f = (ltb-false _ _ (or-none (ltb 4096 (length (l .text))) (ltb (length (l .text)) (l .line .len)) s .1), text-valid catalogue (textOf l) (not-false (isText catalogue (textOf l)) f))
@@ -82,4 +83,4 @@ pub unnamed : (l : Lent) (p : Plan) (k : ℕ) (r : EditAnswer) → k ≡ checked
 unnamed l p k r e q = refused-by narrow l k (checked catalogue narrow l (ownTests true false false)) _ r (sym e) (λ z. code-named (sym e ∙ z)) q
   where
     code-named : checked catalogue narrow l (ownTests true false false) ≡ 0 → ⊥
-    code-named z = never ⊥ true refl (or-none false true (refusal-passed (both (lineTests catalogue (l .text) (l .line)) (both (logTests catalogue narrow (l .log) (l .records) (l .texts)) (ownTests true false false))) z .code) .1)
+    code-named z = never ⊥ true refl (own-passed catalogue narrow l (ownTests true false false) z .code)

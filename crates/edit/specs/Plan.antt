@@ -1,11 +1,11 @@
 -- Plans: the primitive changes that an edit makes of a text, one after the other, and what they leave. line_buffer.rs with its listener, the log.
-use Prim.Native.Nat.{ℕ, zero, suc, _+_, _-_, _≤_}
+use Prim.Native.Nat.{ℕ, zero, suc, _+_, _-_}
 use mathlib.Core.Path.{_≡_}
 use mathlib.Core.Bool.{Bool, true, false, cond, _||_}
 use mathlib.Core.List.{List, [], _∷_, _++_}
 use lib.Dec.{ltb}
 use lib.ListN.{length, take, drop}
-use Rattle.utf8.specs.Chars.{boundary}
+use Rattle.utf8.specs.Chars.{In}
 use Rattle.utf8.specs.Encode.{encode}
 use Rattle.unicode.specs.Repertoire.{Repertoire}
 use Rattle.unicode.specs.Text.{isText, isChar}
@@ -18,10 +18,6 @@ use Rattle.journal.specs.Undo.{Sizes, fits}
 -- the bytes of t from a up to b
 abbrev pub part : List ℕ → ℕ → ℕ → List ℕ
 part t a b = take (b - a) (drop a t)
-
--- two places in a text, in order and between its characters
-abbrev pub In : List ℕ → ℕ → ℕ → Type 0
-In t a b = (a ≤ b) × (b ≤ length t) × (boundary t a ≡ true) × (boundary t b ≡ true)
 
 -- t with s in the place of its bytes from a up to b
 unfoldable pub splice : List ℕ → ℕ → ℕ → List ℕ → List ℕ

@@ -13,6 +13,7 @@ ghost use Rattle.ranges.specs.Ranges as ranges;
 ghost use Rattle.inserts.specs.Inserts as inserts;
 ghost use Rattle.rewrites.specs.Rewrites as rewrites;
 ghost use Rattle.indents.specs.Indents as indents;
+ghost use Rattle.kill_ring.specs.Calls as rings;
 ghost use Rattle.undo.specs.Undo.{undoCall, redoCall, cancelCall};
 ghost use Rattle.kills.specs.Kills.{killCall, killLineCall, killBufferCall, discardLineCall, discardBufferCall, backspaceCall, deletePrevWordCall, deleteWordCall, deleteToCall};
 use changeset::Log;
@@ -20,6 +21,8 @@ use changeset::LogAnswer;
 use checks::Line;
 use checks::LineAnswer;
 use edit::EditAnswer;
+use kill_ring::Ring;
+use kill_ring::RingAnswer;
 
 #[no_mangle]
 pub extern "C" fn tlf_line_next_pos(text: &[u8], line: Line, n: u16) -> LineAnswer
@@ -682,4 +685,65 @@ pub extern "C" fn tlf_log_cancel(
         r (now (text .exit)) (now (records .entry)) (now (texts .entry)) ⌝ }
 {
     undo::cancel(text, records, texts, line, log, mark)
+}
+
+// The ring's entries: thin functions that take &mut to the ring's record, above the calls by value. Document 01: "The ring's index,
+// count and last action form one record that a kill updates for its caller."
+#[no_mangle]
+pub extern "C" fn tlf_ring_new(ring: &mut Ring, size: usize) -> u32
+    ensures { λ n. ⌜ (n ≡ rings.leftOf (now (ring .entry)) (rings.newCall size) .answer .number)
+        × (now (ring .exit) ≡ rings.leftOf (now (ring .entry)) (rings.newCall size) .ring) ⌝ }
+{
+    let a = kill_ring::new(*ring, size);
+    *ring = a.ring;
+    a.answer.number
+}
+
+#[no_mangle]
+pub extern "C" fn tlf_ring_reset(slots: &[u8], lens: &[u8], ring: &mut Ring) -> RingAnswer
+    ensures { λ r. ⌜ (r ≡ rings.leftOf (now (ring .entry)) (rings.resetCall catalogue (rings.lent (now (slots .entry)) (now (lens .entry)) (now (ring .entry)))) .answer)
+        × (now (ring .exit) ≡ rings.leftOf (now (ring .entry)) (rings.resetCall catalogue (rings.lent (now (slots .entry)) (now (lens .entry)) (now (ring .entry)))) .ring) ⌝ }
+{
+    let a = kill_ring::reset(slots, lens, *ring);
+    *ring = a.ring;
+    a.answer
+}
+
+#[no_mangle]
+pub extern "C" fn tlf_ring_kill(
+    slots: &mut [u8],
+    lens: &mut [u8],
+    ring: &mut Ring,
+    text: &[u8],
+    mode: u32,
+) -> RingAnswer
+    ensures { λ r. ⌜ (r ≡ rings.leftOf (now (ring .entry)) (rings.killCall catalogue (rings.lent (now (slots .entry)) (now (lens .entry)) (now (ring .entry))) (now (text .entry)) mode) .answer)
+        × (now (ring .exit) ≡ rings.leftOf (now (ring .entry)) (rings.killCall catalogue (rings.lent (now (slots .entry)) (now (lens .entry)) (now (ring .entry))) (now (text .entry)) mode) .ring)
+        × rings.Bytes (rings.lent (now (slots .entry)) (now (lens .entry)) (now (ring .entry)))
+        (rings.killCall catalogue (rings.lent (now (slots .entry)) (now (lens .entry)) (now (ring .entry))) (now (text .entry)) mode)
+        (now (slots .exit)) (now (lens .exit)) ⌝ }
+{
+    let a = kill_ring::kill(slots, lens, *ring, text, mode);
+    *ring = a.ring;
+    a.answer
+}
+
+#[no_mangle]
+pub extern "C" fn tlf_ring_yank(slots: &[u8], lens: &[u8], ring: &mut Ring) -> RingAnswer
+    ensures { λ r. ⌜ (r ≡ rings.leftOf (now (ring .entry)) (rings.yankCall catalogue (rings.lent (now (slots .entry)) (now (lens .entry)) (now (ring .entry)))) .answer)
+        × (now (ring .exit) ≡ rings.leftOf (now (ring .entry)) (rings.yankCall catalogue (rings.lent (now (slots .entry)) (now (lens .entry)) (now (ring .entry)))) .ring) ⌝ }
+{
+    let a = kill_ring::yank(slots, lens, *ring);
+    *ring = a.ring;
+    a.answer
+}
+
+#[no_mangle]
+pub extern "C" fn tlf_ring_yank_pop(slots: &[u8], lens: &[u8], ring: &mut Ring) -> RingAnswer
+    ensures { λ r. ⌜ (r ≡ rings.leftOf (now (ring .entry)) (rings.yankPopCall catalogue (rings.lent (now (slots .entry)) (now (lens .entry)) (now (ring .entry)))) .answer)
+        × (now (ring .exit) ≡ rings.leftOf (now (ring .entry)) (rings.yankPopCall catalogue (rings.lent (now (slots .entry)) (now (lens .entry)) (now (ring .entry)))) .ring) ⌝ }
+{
+    let a = kill_ring::yank_pop(slots, lens, *ring);
+    *ring = a.ring;
+    a.answer
 }

@@ -6,7 +6,7 @@ use Prim.Native.Nat.{ℕ, _-_, _≤_}
 use native.Mathlib.Omega.{arith}
 use lib.ListN.{length, take, drop}
 use lib.Seq.{length-take-le}
-use Rattle.utf8.specs.Chars.{valid, boundary}
+use Rattle.utf8.specs.Chars.{valid, boundary, In}
 use Rattle.unicode.specs.Repertoire.{catalogue}
 use Rattle.unicode.proofs.Text.{text-valid}
 use Rattle.keymap.specs.declared.Movement.{Movement}
@@ -16,7 +16,7 @@ use Rattle.checks.proofs.Fit.{Fit, fit, fit-valid}
 use Rattle.copies.specs.Copy.{isForeign}
 use Rattle.journal.specs.Layout.{narrow}
 use Rattle.edit.specs.declared.EditAnswer.{EditAnswer}
-use Rattle.edit.specs.Plan.{part, In, edited}
+use Rattle.edit.specs.Plan.{part, edited}
 use Rattle.edit.specs.Calls.{Lent, textOf, sizesOf, stateOf, says, own, checked, Edited, Ready}
 use Rattle.edit.proofs.Made.{raw-part}
 use Rattle.edit.proofs.Answers.{refused-by, passed-by}
@@ -102,7 +102,7 @@ module _ (l : Lent) (mvt : Movement) (amount : ℕ) (dedent : Bool) where
       indent-whole d =
           ap (λ (q : Span). splits catalogue amount (linesIn (textOf l) q)) e
           ∙ sym (ap (λ (c : Bool). cond c (splits catalogue amount (linesIn (textOf l) (touched catalogue (textOf l) (l .line .cursor) mvt))) false) d)
-          ∙ own-passed l tests (number ∙ z) .1
+          ∙ own-passed catalogue narrow l tests (number ∙ z) .split
 
       pub indent-passed : (d : Bool) → dedent ≡ d → (r : EditAnswer) (tn rb tb : List ℕ)
           → Edited narrow l (edited catalogue narrow (sizesOf l) (length (l .text)) (indentPlan catalogue amount d (l .line .cursor) (s .from) (split (part (textOf l) (s .from) (s .to)))) (stateOf catalogue narrow l)) r tn rb tb

@@ -1,5 +1,5 @@
 -- The cursor that indenting and dedenting leave lies in the text that they leave, between two characters; over any repertoire. Assumes nothing.
-use mathlib.Core.Path.{_≡_, refl, ap, subst, _∙_}
+use mathlib.Core.Path.{_≡_, refl, subst}
 use mathlib.Core.Bool.{Bool, true, false}
 use mathlib.Core.List.{List, [], _∷_, _++_}
 use Prim.Native.Nat.{ℕ, zero, suc, _+_, _-_, _*_, _≤_}
@@ -8,13 +8,12 @@ use lib.Dec.{eqb, ltb}
 use lib.ListN.{length, length-replicate}
 use borrow.Author.Tests.{eqb-true, eqb-false, lt-ltb, le-ltb}
 use Rattle.lists.proofs.Bools.{by-less, by-test}
-use Rattle.utf8.specs.Chars.{validFrom, valid, boundary}
+use Rattle.utf8.specs.Chars.{validFrom, valid, boundary, In}
 use Rattle.unicode.specs.Repertoire.{Repertoire}
 use Rattle.unicode.specs.Text.{isText}
 use Rattle.keymap.specs.declared.Movement.{Movement}
-use Rattle.edit.specs.Plan.{In, Piece, splice, AllSuit, textAfter}
-use Rattle.edit.proofs.Pieces.{splice-before, splice-behind}
-use Rattle.edit.proofs.Splice.{splice-length}
+use Rattle.edit.specs.Plan.{Piece, splice, AllSuit, textAfter}
+use Rattle.edit.proofs.Pieces.{splice-stays, splice-moves, splice-start}
 use Rattle.indents.specs.Indents.{spaces, indentPieces, indentLines, indentCursor, deleting, dedentLines, dedented, dedentCursor, splits, touched, linesIn, indentPlan}
 use Rattle.indents.specs.Counts.{pieceOf, indented}
 use Rattle.indents.proofs.Suits.{spaces-valid, piece-in, indent-suits}
@@ -27,35 +26,14 @@ none-valid : valid [] ≡ true
 unfolding validFrom
 none-valid = refl
 
-module _ (t : List ℕ) (a b : ℕ) (s : List ℕ) (i : In t a b) (v : valid s ≡ true) where
-  size : length (splice t a b s) ≡ length t - (b - a) + length s
-  size = splice-length t a b s (i .0) (i .1)
-
-  -- a place up to the start of what is replaced stays, one from its end on moves with the text behind it
-  stays : (p : ℕ) → p ≤ a → At t p → At (splice t a b s) p
-  stays p h j =
-      let h₀ = i .0 in
-      let h₁ = i .1 in
-      let e = splice-before t a b s i p h ∙ j .2 in
-      (omega arith, omega (arith, size), e, e)
-
-  follows : (p q : ℕ) → b ≤ p → q ≡ a + length s + (p - b) → At t p → At (splice t a b s) q
-  follows p q h e j =
-      let h₀ = i .0 in
-      let h₁ = i .1 in
-      let k = j .1 in
-      let z : b + (p - b) ≡ p = omega arith in
-      let f = ap (boundary (splice t a b s)) e ∙ splice-behind t a b s i v (p - b) ∙ ap (boundary t) z ∙ j .2 in
-      (omega arith, omega (arith, size), f, f)
-
 -- ---- dedenting
 cut-place : (t : List ℕ) (at d pos : ℕ) → In t at (at + d) → At t pos → At (splice t at (at + d) []) (dedented at d pos)
 cut-place t at d pos i j =
     by-less _ pos at
-    (λ h. rw (lt-ltb pos at h) (stays t at (at + d) [] i none-valid pos (omega arith) j))
+    (λ h. rw (lt-ltb pos at h) (splice-stays t at (at + d) [] i pos (omega arith) (j .2)))
     (λ h. by-less _ (pos - at) d
-    (λ k. rw (le-ltb pos at h, lt-ltb (pos - at) d k) (stays t at (at + d) [] i none-valid at (omega arith) (let x = i .0 in let y = i .1 in (omega arith, omega arith, i .2, i .2))))
-    (λ k. rw (le-ltb pos at h, le-ltb (pos - at) d k) (follows t at (at + d) [] i none-valid pos (pos - d) (omega arith) (omega arith) j)))
+    (λ k. rw (le-ltb pos at h, lt-ltb (pos - at) d k) (splice-start t at (at + d) [] i))
+    (λ k. rw (le-ltb pos at h, le-ltb (pos - at) d k) (splice-moves t at (at + d) [] i none-valid pos (pos - d) (omega arith) (j .1) (j .2) (omega arith))))
 
 module _ (R : Repertoire) (m : ℕ) where
   pub dedent-cursor : (xs : List (List ℕ)) (at : ℕ) (t : List ℕ) (pos : ℕ) → AllSuit R (dedentLines R m at xs) t → At t pos → At (textAfter (dedentLines R m at xs) t) (dedentCursor R m at xs pos)
@@ -68,8 +46,8 @@ module _ (R : Repertoire) (m : ℕ) where
 put-place : (t : List ℕ) (at n pos : ℕ) → In t at at → At t pos → At (splice t at at (spaces n)) (indented at n pos)
 put-place t at n pos i j =
     by-less _ pos at
-    (λ h. rw (lt-ltb pos at h) (stays t at at (spaces n) i (spaces-valid n) pos (omega arith) j))
-    (λ h. rw (le-ltb pos at h) (follows t at at (spaces n) i (spaces-valid n) pos (pos + n) h (omega (arith, length-replicate {A = ℕ} n 0x20)) j))
+    (λ h. rw (lt-ltb pos at h) (splice-stays t at at (spaces n) i pos (omega arith) (j .2)))
+    (λ h. rw (le-ltb pos at h) (splice-moves t at at (spaces n) i (spaces-valid n) pos (pos + n) h (j .1) (j .2) (omega (arith, length-replicate {A = ℕ} n 0x20))))
 
 none-indented : (at m pos : ℕ) → m ≡ 0 → pos ≡ indented at m pos
 none-indented at m pos e = by-test _ (ltb pos at) (λ z. rw z) (λ z. rw z (omega arith))

@@ -2,14 +2,15 @@
 use mathlib.Core.Path.{_≡_, refl, sym, ap, subst, _∙_}
 use mathlib.Core.Bool.{true}
 use mathlib.Core.List.{List}
-use Prim.Native.Nat.{ℕ, _+_, _≤_}
+use Prim.Native.Nat.{ℕ, _≤_}
 use native.Mathlib.Omega.{arith}
 use lib.ListN.{length}
-use Rattle.utf8.specs.Chars.{valid, boundary}
+use Rattle.utf8.specs.Chars.{valid, boundary, In}
 use Rattle.utf8.proofs.Boundary.{boundary-zero, boundary-end}
 use Rattle.unicode.specs.Repertoire.{Repertoire}
 use Rattle.keymap.specs.declared.Movement.{Movement}
 use Rattle.keymap.specs.declared.Movement.the-variants as m
+use Rattle.motion.specs.Steps.{orStay}
 use Rattle.motion.specs.declared.Found.{Found}
 use Rattle.motion.specs.declared.Found.the-variants as found
 use Rattle.words.specs.Words.{prevWordPos, nextWordPos}
@@ -19,30 +20,26 @@ use Rattle.lines.specs.declared.Range.{Range}
 use Rattle.lines.specs.declared.Range.the-variants.{Places, Nowhere}
 use Rattle.lines.proofs.Places.{start-of-line-place, lines-up-place, lines-down-place}
 use Rattle.copies.specs.Copy.{upTo, backTo}
-use Rattle.edit.specs.Plan.{In}
+use Rattle.copies.proofs.Places.{no-more, up-in, back-in}
 use Rattle.indents.specs.declared.Span.{Span}
 use Rattle.indents.specs.Indents.{span, orCursor, rangeOf, lastNewline, touched}
-use Rattle.indents.specs.Counts.{orAt}
 use Rattle.indents.proofs.Newlines.{last-in, last-place}
 
 -- ---- the range of a word, by the place that is found
-no-more : (p : ℕ) → p ≡ p + 0
-no-more p = omega arith
-
-found-back : (pos : ℕ) (f : Found) → span (orAt pos f) pos ≡ orCursor pos (backTo pos 0 f)
+found-back : (pos : ℕ) (f : Found) → span (orStay pos f) pos ≡ orCursor pos (backTo pos 0 f)
 found-back pos (found.At p) = ap (λ (i : ℕ). span i pos) (no-more p)
 found-back pos found.Nothing = refl
 
-found-on : (pos : ℕ) (f : Found) → span pos (orAt pos f) ≡ orCursor pos (upTo pos 0 f)
+found-on : (pos : ℕ) (f : Found) → span pos (orStay pos f) ≡ orCursor pos (upTo pos 0 f)
 found-on pos (found.At p) = ap (span pos) (no-more p)
 found-on pos found.Nothing = refl
 
-module _ (pos r : ℕ) (f g : Found) (e : r ≡ orAt pos f) (q : f ≡ g) where
+module _ (pos r : ℕ) (f g : Found) (e : r ≡ orStay pos f) (q : f ≡ g) where
   pub word-back : span r pos ≡ orCursor pos (backTo pos 0 g)
-  word-back = ap (λ (i : ℕ). span i pos) (e ∙ ap (orAt pos) q) ∙ found-back pos g
+  word-back = ap (λ (i : ℕ). span i pos) (e ∙ ap (orStay pos) q) ∙ found-back pos g
 
   pub word-on : span pos r ≡ orCursor pos (upTo pos 0 g)
-  word-on = ap (span pos) (e ∙ ap (orAt pos) q) ∙ found-on pos g
+  word-on = ap (span pos) (e ∙ ap (orStay pos) q) ∙ found-on pos g
 
 -- ---- both places of a range lie in the text and are boundaries
 abbrev pub Inside : List ℕ → Span → Type 0
@@ -56,20 +53,14 @@ module _ (R : Repertoire) (s : List ℕ) (pos : ℕ) (v : valid s ≡ true) (k :
   places-in (Places a b) g = g a b refl
   places-in Nowhere g = here
 
-  back-in : (f : Found) → ((p : ℕ) → f ≡ found.At p → (p ≤ pos) × (boundary s p ≡ true)) → Inside s (orCursor pos (backTo pos 0 f))
-  back-in (found.At p) g = let z = g p refl in subst (λ (i : ℕ). In s i pos) (no-more p) (z .0, h, z .1, k)
-  back-in found.Nothing g = here
-
-  on-in : (f : Found) → ((p : ℕ) → f ≡ found.At p → (pos ≤ p) × (p ≤ length s) × (boundary s p ≡ true)) → Inside s (orCursor pos (upTo pos 0 f))
-  on-in (found.At p) g = let z = g p refl in subst (λ (i : ℕ). In s pos i) (no-more p) (z .0, z .1, k, z .2)
-  on-in found.Nothing g = here
-
   pub range-in : (mvt : Movement) → Inside s (rangeOf R s pos mvt)
   range-in m.WholeLine = here
   range-in m.BeginningOfLine = here
   range-in m.EndOfLine = here
-  range-in (m.BackwardWord n w) = back-in (prevWordPos R s pos w n) (λ p q. prev-word-place R s pos w n p v k h q)
-  range-in (m.ForwardWord n at w) = on-in (nextWordPos R s pos at w n) (λ p q. next-word-place R s pos at w n p v k h q)
+  range-in (m.BackwardWord n w) =
+      places-in (backTo pos 0 (prevWordPos R s pos w n)) (λ a b e. back-in s pos a b k h (prevWordPos R s pos w n) e (λ p q. prev-word-place R s pos w n p v k h q))
+  range-in (m.ForwardWord n at w) =
+      places-in (upTo pos 0 (nextWordPos R s pos at w n)) (λ a b e. up-in s pos a b k h (nextWordPos R s pos at w n) e (λ p q. next-word-place R s pos at w n p v k h q))
   range-in (m.ViCharSearch n cs) = here
   range-in m.ViFirstPrint = here
   range-in (m.BackwardChar n) = here

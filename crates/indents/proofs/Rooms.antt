@@ -11,22 +11,23 @@ use lib.Seq.{length-take-le}
 use borrow.Author.Tests.{le-leb, lt-leb, lt-ltb, le-ltb}
 use Rattle.lists.proofs.Bools.{by-less, by-test}
 use Rattle.lists.proofs.Every.{Every}
-use Rattle.utf8.specs.Chars.{valid}
+use Rattle.utf8.specs.Chars.{valid, In}
 use Rattle.unicode.specs.Repertoire.{catalogue}
 use Rattle.unicode.proofs.Text.{text-valid}
 use Rattle.journal.specs.Change.{Change}
 use Rattle.journal.specs.Layout.{narrow}
 use Rattle.journal.specs.Undo.{undoRecords, undoTexts, fits}
 use Rattle.changeset.proofs.Recorded.{good, records-used, texts-used}
-use Rattle.edit.specs.Plan.{part, In, Piece, AllSuit, tooLong, listAfter}
+use Rattle.edit.specs.Plan.{part, Piece, AllSuit, tooLong, listAfter}
 use Rattle.edit.specs.Calls.{Lent, logLent, textOf, sizesOf, stateOf, Ready}
+use Rattle.edit.proofs.Once.{part-between}
 use Rattle.edit.proofs.Made.{raw-part}
 use Rattle.edit.proofs.Steps.{room-is}
 use Rattle.indents.specs.Indents.{split, indentLines, deleting, dedentLines, splits}
 use Rattle.indents.specs.Counts.{cutsIn, bytesIn}
 use Rattle.indents.proofs.Newlines.{split-some}
 use Rattle.indents.proofs.Joined.{joined, split-joined, split-count, Valid, split-valid}
-use Rattle.indents.proofs.Suits.{parts, opened, part-valid, front-length, dedent-all, indent-all}
+use Rattle.indents.proofs.Suits.{opened, part-valid, front-length, dedent-all, indent-all}
 use Rattle.indents.proofs.Counted.{long-is, puts-records, lines-pasting, lines-total, lines-count, dedent-short, dedent-records, white-other}
 use Rattle.indents.proofs.Spaces.{space-member}
 
@@ -100,7 +101,7 @@ module _ (l : Lent) (h : Ready narrow l) where
       recorded-of [] k j ws q = absurd (omega arith)
       recorded-of (x ∷ xs) k j ws q =
           dedent-records catalogue m white-other (drop to (textOf l)) xs x (take from (textOf l)) (textOf l) from u (i .2) (ws .0) (ws .1) q
-          (opened x xs (take from (textOf l)) (part (textOf l) from to) (drop to (textOf l)) (textOf l) (parts (textOf l) from to (i .0)) j) (front-length (textOf l) from to v i)
+          (opened x xs (take from (textOf l)) (part (textOf l) from to) (drop to (textOf l)) (textOf l) (part-between (textOf l) from to (i .0)) j) (front-length (textOf l) from to v i)
 
       pub dedent-room : (n b : ℕ) → n ≡ cutsIn catalogue m (split (take (to - from) (drop from (l .text)))) → b ≡ bytesIn catalogue m (split (take (to - from) (drop from (l .text))))
           → fits narrow (sizesOf l) (listAfter catalogue (dedentLines catalogue m from lines) (textOf l) u) ≡ (leb (l .log .undo .records + 5 * n) (length (l .records)) && leb (l .log .undo .texts + b) (length (l .texts)))

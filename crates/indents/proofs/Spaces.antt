@@ -10,13 +10,14 @@ use lib.Seq.{length-take-le, take-take}
 use borrow.Author.Tests.{eq-eqb, ne-eqb}
 use Rattle.lists.proofs.Bools.{by-test}
 use Rattle.utf8.specs.Utf8.{within}
+use Rattle.utf8.specs.Chars.{In}
 use Rattle.unicode.specs.Repertoire.{catalogue, isMember}
 use Rattle.unicode.specs.Text.{isText}
 use Rattle.lines.specs.Lines.{endOfLine}
 use Rattle.journal.specs.Layout.{narrow}
 use Rattle.journal.specs.Undo.{fits}
 use Rattle.edit.specs.declared.EditAnswer.{EditAnswer}
-use Rattle.edit.specs.Plan.{part, splice, Piece, pasted, In, once, Plan, AllSuit, tooLong, listAfter, edited}
+use Rattle.edit.specs.Plan.{part, splice, Piece, pasted, once, Plan, AllSuit, tooLong, listAfter, edited}
 use Rattle.edit.specs.Calls.{Lent, lent, textOf, sizesOf, stateOf, Edited, Ready}
 use Rattle.edit.proofs.Splice.{splice-length}
 use Rattle.edit.proofs.Left.{Left, begins, next-suits, goes-on, ends, text-now}

@@ -5,20 +5,21 @@ use mathlib.Core.List.{List, [], _∷_, _++_, append-assoc}
 use Prim.Native.Nat.{ℕ, zero, suc, _+_, _-_, _*_, _<_, _≤_}
 use native.Mathlib.Omega.{arith}
 use lib.Dec.{eqb, ltb}
-use lib.ListN.{length, take, drop, length-append, length-drop, length-replicate, replicate-append-replicate, take-append-drop}
-use lib.Seq.{drop-drop, length-take-le}
+use lib.ListN.{length, take, drop, length-append, length-drop, length-replicate, replicate-append-replicate}
+use lib.Seq.{length-take-le}
 use borrow.Author.Tests.{eqb-true, eqb-false, ltb-true, ltb-false, not-false}
 use Rattle.lists.proofs.Bools.{by-test, or-none}
 use Rattle.lists.proofs.Every.{Every}
 use Rattle.utf8.specs.Utf8.{first, firstOf, one as oneByte}
-use Rattle.utf8.specs.Chars.{validFrom, charsFrom, valid, boundary}
+use Rattle.utf8.specs.Chars.{validFrom, charsFrom, valid, boundary, In}
 use Rattle.utf8.proofs.Append.{valid-append, valid-cut}
 use Rattle.utf8.proofs.Boundary.{boundary-drop}
 use Rattle.unicode.specs.Repertoire.{Repertoire}
 use Rattle.unicode.specs.Text.{isText}
 use Rattle.unicode.proofs.Text.{text-nil, text-append, text-valid}
 use Rattle.keymap.specs.declared.Movement.{Movement}
-use Rattle.edit.specs.Plan.{part, Piece, cutting, In, made, splice, AllSuit}
+use Rattle.edit.specs.Plan.{part, Piece, cutting, made, splice, AllSuit}
+use Rattle.edit.proofs.Once.{part-between}
 use Rattle.indents.specs.Indents.{split, spaces, indentPieces, indentLines, deleting, dedentLines, splits, touched, linesIn, indentPlan}
 use Rattle.indents.specs.Counts.{pieceOf}
 use Rattle.indents.proofs.Newlines.{split-some}
@@ -141,12 +142,6 @@ module _ (R : Repertoire) (mem : R .member 0x20 ≡ true) where
         (indents ys y (a ++ ((spaces m ++ x) ++ (0x0A ∷ []))) (a ++ (spaces m ++ (x ++ (behind (y ∷ ys) ++ b)))) (at + m + length x + 1) (indent-before m a x v w) (ws .0) (ws .1) (indent-next m a x y b ys) (indent-place m a x at f))
 
 -- ---- the lines of the part of a text between two places
-pub parts : (t : List ℕ) (a b : ℕ) → a ≤ b → t ≡ take a t ++ (part t a b ++ drop b t)
-parts t a b h =
-    let z : a + (b - a) ≡ b = omega arith in
-    let e : drop b t ≡ drop (b - a) (drop a t) = sym (drop-drop (b - a) a t ∙ ap (λ (n : ℕ). drop n t) z) in
-    sym (ap (λ (l : List ℕ). take a t ++ (part t a b ++ l)) e ∙ ap (λ (l : List ℕ). take a t ++ l) (take-append-drop (b - a) (drop a t)) ∙ take-append-drop a t)
-
 -- the first of them, and the others
 pub opened : (x : List ℕ) (xs : List (List ℕ)) (a p b t : List ℕ) → t ≡ a ++ (p ++ b) → x ++ behind xs ≡ p → t ≡ a ++ (x ++ (behind xs ++ b))
 opened x xs a p b t e j = e ∙ ap (λ (l : List ℕ). a ++ (l ++ b)) (sym j) ∙ ap (λ (l : List ℕ). a ++ l) (append-assoc x (behind xs) b)
@@ -164,7 +159,7 @@ module _ (t : List ℕ) (from to : ℕ) (v : valid t ≡ true) (i : In t from to
   module _ (R : Repertoire) (m : ℕ) where
     dedents-of : (ls : List (List ℕ)) → 0 < length ls → joined ls ≡ part t from to → Every Valid ls → splits R m ls ≡ false → AllSuit R (dedentLines R m from ls) t
     dedents-of [] h j ws s = absurd (omega arith)
-    dedents-of (x ∷ xs) h j ws s = dedents R m (drop to t) xs x (take from t) t from (i .2) (ws .0) (ws .1) s (opened x xs (take from t) (part t from to) (drop to t) t (parts t from to (i .0)) j) front-length
+    dedents-of (x ∷ xs) h j ws s = dedents R m (drop to t) xs x (take from t) t from (i .2) (ws .0) (ws .1) s (opened x xs (take from t) (part t from to) (drop to t) t (part-between t from to (i .0)) j) front-length
 
     pub dedent-all : splits R m (split (part t from to)) ≡ false → AllSuit R (dedentLines R m from (split (part t from to))) t
     dedent-all s = dedents-of (split (part t from to)) (split-some (part t from to)) (split-joined (part t from to)) (split-valid (part t from to) part-valid) s
@@ -172,7 +167,7 @@ module _ (t : List ℕ) (from to : ℕ) (v : valid t ≡ true) (i : In t from to
     module _ (mem : R .member 0x20 ≡ true) (small : m ≤ 256) where
       indents-of : (ls : List (List ℕ)) → 0 < length ls → joined ls ≡ part t from to → Every Valid ls → AllSuit R (indentLines m from ls) t
       indents-of [] h j ws = absurd (omega arith)
-      indents-of (x ∷ xs) h j ws = indents R mem m (drop to t) small xs x (take from t) t from (i .2) (ws .0) (ws .1) (opened x xs (take from t) (part t from to) (drop to t) t (parts t from to (i .0)) j) front-length
+      indents-of (x ∷ xs) h j ws = indents R mem m (drop to t) small xs x (take from t) t from (i .2) (ws .0) (ws .1) (opened x xs (take from t) (part t from to) (drop to t) t (part-between t from to (i .0)) j) front-length
 
       pub indent-all : AllSuit R (indentLines m from (split (part t from to))) t
       indent-all = indents-of (split (part t from to)) (split-some (part t from to)) (split-joined (part t from to)) (split-valid (part t from to) part-valid)

@@ -8,13 +8,14 @@ use lib.ListN.{length, take, drop, length-drop}
 use lib.Seq.{drop-drop, drop-append-add, length-take-le, take-take}
 use Rattle.lists.proofs.Bools.{by-less}
 use Rattle.lists.proofs.Parts.{drop-take}
+use Rattle.utf8.specs.Chars.{In}
 use Rattle.unicode.specs.Repertoire.{catalogue}
 use Rattle.lines.specs.Lines.{endOfLine}
 use Rattle.lines.proofs.Lines.{end-le}
 use Rattle.journal.specs.Layout.{narrow}
 use Rattle.journal.specs.Undo.{fits}
 use Rattle.edit.specs.declared.EditAnswer.{EditAnswer}
-use Rattle.edit.specs.Plan.{part, splice, Piece, cutting, In, once, Plan, AllSuit, tooLong, listAfter, edited}
+use Rattle.edit.specs.Plan.{part, splice, Piece, cutting, once, Plan, AllSuit, tooLong, listAfter, edited}
 use Rattle.edit.specs.Calls.{Lent, lent, textOf, sizesOf, stateOf, Edited, Ready}
 use Rattle.edit.proofs.Made.{raw-part}
 use Rattle.edit.proofs.Splice.{splice-length}

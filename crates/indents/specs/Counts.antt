@@ -4,14 +4,7 @@ use mathlib.Core.Bool.{cond}
 use mathlib.Core.List.{List, [], _∷_}
 use lib.Dec.{ltb}
 use Rattle.unicode.specs.Repertoire.{Repertoire}
-use Rattle.motion.specs.declared.Found.{Found}
-use Rattle.motion.specs.declared.Found.the-variants as found
 use Rattle.indents.specs.Indents.{deleting}
-
--- a place that is found, another where there is none
-abbrev pub orAt : ℕ → Found → ℕ
-orAt pos (found.At p) = p
-orAt pos found.Nothing = pos
 
 -- the lines of which a dedent by m cuts something
 unfoldable pub cutsIn : Repertoire → ℕ → List (List ℕ) → ℕ

@@ -50,11 +50,12 @@ rangeOf R s pos m.WholeBuffer = span 0 (length s)
 rangeOf R s pos m.BeginningOfBuffer = span 0 pos
 rangeOf R s pos m.EndOfBuffer = span pos (length s)
 
--- the bytes before the last \n, all of them where there is none
+-- is there a \n?
 unfoldable pub hasAny : List ℕ → Bool
 hasAny [] = false
 hasAny (b ∷ s) = newline b || hasAny s
 
+-- the bytes before the last \n, all of them where there is none
 unfoldable pub beforeLast : List ℕ → ℕ
 beforeLast [] = 0
 beforeLast (b ∷ s) = cond (newline b) (cond (hasAny s) (suc (beforeLast s)) 0) (suc (beforeLast s))

@@ -5,15 +5,15 @@ ghost use mathlib.Core.Bool.{true, false, cond, _&&_};
 ghost use Prim.Native.Nat.{_+_, _*_, _≤_, _<_};
 ghost use lib.Dec.{leb};
 ghost use lib.ListN.{length, take};
-ghost use Rattle.utf8.specs.Chars.{valid, boundary};
+ghost use Rattle.utf8.specs.Chars.{valid, boundary, In};
 ghost use Rattle.unicode.specs.Repertoire.{catalogue};
 ghost use Rattle.checks.specs.Checks.{refusal as Checks·refusal, both, lineTests, ownTests};
 ghost use Rattle.journal.specs.Layout.{narrow};
 ghost use Rattle.journal.specs.Undo.{fits};
-ghost use Rattle.edit.specs.Plan.{part, In, AllSuit, tooLong, listAfter, edited};
+ghost use Rattle.edit.specs.Plan.{part, AllSuit, tooLong, listAfter, edited};
 ghost use Rattle.edit.specs.Calls.{lent, sizesOf, stateOf, Edited, Ready};
 ghost use Rattle.indents.specs.Indents.{orCursor, rangeOf, lastNewline, touched as Indents·touched, split, deleting as Indents·deleting, splits as Indents·splits, dedented as Indents·dedented, indentLines, dedentLines, indentPlan, linesIn, indentOf, indentCall};
-ghost use Rattle.indents.specs.Counts.{orAt, cutsIn, bytesIn, pieceOf, indented as Counts·indented};
+ghost use Rattle.indents.specs.Counts.{cutsIn, bytesIn, pieceOf, indented as Counts·indented};
 use changeset::Log;
 use checks::Line;
 use copies::is_foreign;
@@ -31,20 +31,14 @@ use lines::end_of_line;
 use lines::n_lines_down;
 use lines::n_lines_up;
 use lines::start_of_line;
-use motion::Found;
-use records::Format;
+use motion::or_stay;
+use records::NARROW;
 use unicode::is_white;
 use utf8::Decoded;
 use utf8::decode_at;
 use utf8::is_boundary;
 use words::next_word_pos;
 use words::prev_word_pos;
-
-// The format of the log's records: numbers of 2 bytes, kinds 1 to 5.
-const NARROW: Format = Format {
-    width: 2,
-    offset: 0,
-};
 
 // Two places of a text.
 pub struct Span {
@@ -68,16 +62,6 @@ fn last_newline(s: &[u8], pos: usize) -> usize
     last
 }
 
-// A place that is found, the cursor where there is none.
-fn or_at(pos: usize, f: Found) -> usize
-    ensures { λ r. ⌜ r ≡ orAt pos f ⌝ }
-{
-    match f {
-        Found::At(p) => p,
-        Found::Nothing => pos,
-    }
-}
-
 // A range, the cursor twice where it is nowhere.
 fn or_cursor(pos: usize, r: Range) -> Span
     ensures { λ r0. ⌜ r0 ≡ orCursor pos r ⌝ }
@@ -98,12 +82,12 @@ fn range_of(s: &[u8], pos: usize, m: Movement) -> Span
         Movement::BeginningOfLine => Span { from: pos, to: pos },
         Movement::EndOfLine => Span { from: pos, to: pos },
         Movement::BackwardWord(n, w) => Span {
-            from: or_at(pos, prev_word_pos(s, pos, w, n)),
+            from: or_stay(pos, prev_word_pos(s, pos, w, n)),
             to: pos,
         },
         Movement::ForwardWord(n, at, w) => Span {
             from: pos,
-            to: or_at(pos, next_word_pos(s, pos, at, w, n)),
+            to: or_stay(pos, next_word_pos(s, pos, at, w, n)),
         },
         Movement::ViCharSearch(_, _) => Span { from: pos, to: pos },
         Movement::ViFirstPrint => Span { from: pos, to: pos },

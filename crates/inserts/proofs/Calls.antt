@@ -16,7 +16,7 @@ use Rattle.edit.specs.declared.EditAnswer.{EditAnswer}
 use Rattle.edit.specs.Plan.{Plan, typed, pasted, once}
 use Rattle.edit.specs.Calls.{Lent, says, checked, Edited, Ready, editCall}
 use Rattle.edit.proofs.Answers.{refused-by, passed-by, stays}
-use Rattle.edit.proofs.Tests.{sizes-passed, foreign-passed}
+use Rattle.edit.proofs.Tests.{own-passed}
 use Rattle.inserts.specs.Inserts.{insertPlan, yankPlan, textTests, insertCall, yankCall}
 use Rattle.buffer.specs.Edit.{copies}
 use Rattle.inserts.proofs.Puts.{carried}
@@ -40,7 +40,7 @@ module _ (l : Lent) (ch n k : ℕ) (b : Bool) (q : k ≡ checked catalogue narro
   as-char = sym (q ∙ ap (λ (x : Bool). checked catalogue narrow l (ownTests false (not x) false)) e)
 
   pub insert-char : k ≡ 0 → isChar catalogue ch ≡ true
-  insert-char z = not-false (isChar catalogue ch) (foreign-passed l tests (as-char ∙ z))
+  insert-char z = not-false (isChar catalogue ch) (own-passed catalogue narrow l tests (as-char ∙ z) .foreign)
 
   pub insert-refused : (k ≡ 0 → ⊥) → (r : EditAnswer) → r ≡ says k (l .line) (l .log) → Edited narrow l (insertCall catalogue narrow l ch n) r (l .text) (l .records) (l .texts)
   insert-refused h r f = by-check l tests (insertPlan pos ch n) k r as-char h f
@@ -63,8 +63,8 @@ module _ (l : Lent) (s : List ℕ) (place split : Bool) (k : ℕ) (b : Bool) (q 
 
   pub text-passed : k ≡ 0 → (isText catalogue s ≡ true) × (length s ≤ length (l .text))
   text-passed z =
-      let t = textTests catalogue narrow l s place split in
-      (not-false (isText catalogue s) (foreign-passed l t (as-text ∙ z)), ltb-false (length (l .text)) (length s) (sizes-passed l t (as-text ∙ z)))
+      let p = own-passed catalogue narrow l (textTests catalogue narrow l s place split) (as-text ∙ z) in
+      (not-false (isText catalogue s) (p .foreign), ltb-false (length (l .text)) (length s) (p .sizes))
 
 -- ---- yank
 plan-empty : (pos : ℕ) (s : List ℕ) (n : ℕ) → length s ≡ 0 → yankPlan pos [] n ≡ yankPlan pos s n

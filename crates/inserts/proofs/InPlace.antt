@@ -9,6 +9,7 @@ use lib.ListN.{length, take, drop, take-append-drop}
 use lib.Seq.{length-take-le, take-at, drop-at}
 use borrow.Author.Tests.{le-ltb, eqb-true, eqb-false}
 use Rattle.lists.proofs.Bools.{by-test, never}
+use Rattle.utf8.specs.Chars.{In}
 use Rattle.unicode.specs.Repertoire.{catalogue}
 use Rattle.unicode.specs.Text.{isText}
 use Rattle.buffer.specs.Edit.{inserted, cut, copies}
@@ -23,7 +24,7 @@ use Rattle.changeset.specs.Outcomes.{recordOut}
 use Rattle.changeset.specs.declared.LogAnswer.{LogAnswer}
 use Rattle.edit.specs.declared.EditAnswer.{EditAnswer}
 use Rattle.edit.specs.declared.Room.{Room}
-use Rattle.edit.specs.Plan.{In, pasted, made, recorded, once, listAfter, tooLong, blank, changeOut}
+use Rattle.edit.specs.Plan.{pasted, made, recorded, once, listAfter, tooLong, blank, changeOut}
 use Rattle.edit.specs.Calls.{Lent, logLent, textOf, sizesOf, stateOf, says, Edited, Ready}
 use Rattle.edit.specs.Room.{roomPut}
 use Rattle.edit.proofs.Answers.{cursor-in, length-kept, ten}

@@ -1,5 +1,5 @@
 -- The plans of the calls suit the text that they are made in, and their cursors stand between its characters afterwards. Assumes nothing.
-use Prim.Native.Nat.{ℕ, _+_, _-_, _≤_}
+use Prim.Native.Nat.{ℕ, _-_, _≤_}
 use native.Mathlib.Omega.{arith}
 use mathlib.Core.Path.{_≡_, sym, ap, subst, _∙_}
 use mathlib.Core.Bool.{true}
@@ -8,37 +8,18 @@ use lib.Dec.{eqb}
 use lib.ListN.{length}
 use lib.Seq.{drop-length}
 use Rattle.lists.proofs.Bools.{by-test}
-use Rattle.utf8.specs.Chars.{boundary, valid}
+use Rattle.utf8.specs.Chars.{boundary, In}
 use Rattle.utf8.specs.Encode.{encode}
 use Rattle.utf8.proofs.Boundary.{boundary-zero, boundary-end}
 use Rattle.unicode.specs.Repertoire.{Repertoire}
 use Rattle.unicode.specs.Text.{isText, isChar}
 use Rattle.unicode.proofs.Text.{text-valid}
-use Rattle.edit.specs.Plan.{In, splice, AllSuit, textAfter}
-use Rattle.edit.proofs.Splice.{splice-length}
 use Rattle.unicode.proofs.Typed.{char-text}
-use Rattle.edit.proofs.Pieces.{splice-before, splice-behind}
-use Rattle.inserts.specs.Inserts.{insertPlan, yankPlan, yankPopPlan, updatePlan}
 use Rattle.buffer.specs.Edit.{copies}
+use Rattle.edit.specs.Plan.{splice, AllSuit, textAfter}
+use Rattle.edit.proofs.Pieces.{splice-start, splice-end}
+use Rattle.inserts.specs.Inserts.{insertPlan, yankPlan, yankPopPlan, updatePlan}
 use Rattle.inserts.proofs.Copied.{copies-text}
-
--- the place behind a text that replaces a part, and the part's start
-module _ (t : List ℕ) (a b : ℕ) (s : List ℕ) (i : In t a b) where
-  behind-in : valid s ≡ true → In (splice t a b s) (a + length s) (a + length s)
-  behind-in v =
-      let h = i .0 in
-      let k = i .1 in
-      let e : a + length s ≡ a + length s + 0 = omega arith in
-      let f : b + 0 ≡ b = omega arith in
-      let q = ap (boundary (splice t a b s)) e ∙ splice-behind t a b s i v 0 ∙ ap (boundary t) f ∙ i .3 in
-      (omega arith, omega (arith, splice-length t a b s h k), q, q)
-
-  start-in : In (splice t a b s) a a
-  start-in =
-      let h = i .0 in
-      let k = i .1 in
-      let q = splice-before t a b s i a (omega arith) ∙ i .2 in
-      (omega arith, omega (arith, splice-length t a b s h k), q, q)
 
 module _ (R : Repertoire) (t : List ℕ) (pos : ℕ) (i : In t pos pos) where
   pub insert-suits : (c n : ℕ) → isChar R c ≡ true → AllSuit R (insertPlan pos c n .pieces) t
@@ -51,8 +32,8 @@ module _ (R : Repertoire) (t : List ℕ) (pos : ℕ) (i : In t pos pos) where
   insert-cursor c n e =
       let v = char-text R c e in
       by-test (In (textAfter (insertPlan pos c n .pieces) t) (insertPlan pos c n .cursor) (insertPlan pos c n .cursor)) (eqb n 1)
-      (λ f. rw f (behind-in t pos pos (encode c) i (text-valid R (encode c) v)))
-      (λ f. rw f (behind-in t pos pos (copies n (encode c)) i (text-valid R (copies n (encode c)) (copies-text R n (encode c) v))))
+      (λ f. rw f (splice-end t pos pos (encode c) i (text-valid R (encode c) v)))
+      (λ f. rw f (splice-end t pos pos (copies n (encode c)) i (text-valid R (copies n (encode c)) (copies-text R n (encode c) v))))
 
   pub yank-suits : (s : List ℕ) (n : ℕ) → isText R s ≡ true → AllSuit R (yankPlan pos s n .pieces) t
   unfolding AllSuit
@@ -62,7 +43,7 @@ module _ (R : Repertoire) (t : List ℕ) (pos : ℕ) (i : In t pos pos) where
   pub yank-cursor : (s : List ℕ) (n : ℕ) → isText R s ≡ true → In (textAfter (yankPlan pos s n .pieces) t) (yankPlan pos s n .cursor) (yankPlan pos s n .cursor)
   unfolding textAfter
   yank-cursor [] n e = i
-  yank-cursor (b ∷ s) n e = behind-in t pos pos (copies n (b ∷ s)) i (text-valid R (copies n (b ∷ s)) (copies-text R n (b ∷ s) e))
+  yank-cursor (b ∷ s) n e = splice-end t pos pos (copies n (b ∷ s)) i (text-valid R (copies n (b ∷ s)) (copies-text R n (b ∷ s) e))
 
   module _ (size : ℕ) (s : List ℕ) (e : isText R s ≡ true) (f : boundary t (pos - size) ≡ true) where
     cut-in : In t (pos - size) pos
@@ -70,11 +51,11 @@ module _ (R : Repertoire) (t : List ℕ) (pos : ℕ) (i : In t pos pos) where
 
     pub yank-pop-suits : AllSuit R (yankPopPlan pos size s .pieces) t
     unfolding AllSuit
-    yank-pop-suits = (cut-in, ((start-in t (pos - size) pos [] cut-in, e), tt))
+    yank-pop-suits = (cut-in, ((splice-start t (pos - size) pos [] cut-in, e), tt))
 
     pub yank-pop-cursor : In (textAfter (yankPopPlan pos size s .pieces) t) (yankPopPlan pos size s .cursor) (yankPopPlan pos size s .cursor)
     unfolding textAfter
-    yank-pop-cursor = behind-in (splice t (pos - size) pos []) (pos - size) (pos - size) s (start-in t (pos - size) pos [] cut-in) (text-valid R s e)
+    yank-pop-cursor = splice-end (splice t (pos - size) pos []) (pos - size) (pos - size) s (splice-start t (pos - size) pos [] cut-in) (text-valid R s e)
 
 module _ (R : Repertoire) (t : List ℕ) (v : isText R t ≡ true) (s : List ℕ) (pos : ℕ) (e : isText R s ≡ true) where
   all-in : In t 0 (length t)
@@ -82,7 +63,7 @@ module _ (R : Repertoire) (t : List ℕ) (v : isText R t ≡ true) (s : List ℕ
 
   pub update-suits : AllSuit R (updatePlan t s pos .pieces) t
   unfolding AllSuit
-  update-suits = (all-in, ((start-in t 0 (length t) [] all-in, e), tt))
+  update-suits = (all-in, ((splice-start t 0 (length t) [] all-in, e), tt))
 
   -- the new text, and nothing of the old one
   pub update-text : textAfter (updatePlan t s pos .pieces) t ≡ s

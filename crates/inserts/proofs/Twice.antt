@@ -60,9 +60,9 @@ module _ (l : Lent) (size : ℕ) (s : List ℕ) (at k : ℕ) (b x : Bool) (a : a
 
     pub pop-suits : Ready narrow l → AllSuit catalogue (cutting at pos ∷ pasted at s ∷ []) (textOf l)
     pop-suits h =
-        let o = own-passed l popTests (pop-checked ∙ z) in
+        let o = own-passed catalogue narrow l popTests (pop-checked ∙ z) in
         subst (λ (i : ℕ). AllSuit catalogue (cutting i pos ∷ pasted i s ∷ []) (textOf l)) (sym a)
-        (yank-pop-suits catalogue (textOf l) pos (cursor-in narrow l h) size s (text-passed l s (ltb pos size) x k b q e z .0) (not-false _ (o .1)))
+        (yank-pop-suits catalogue (textOf l) pos (cursor-in narrow l h) size s (text-passed l s (ltb pos size) x k b q e z .0) (not-false _ (o .split)))
 
     pub pop-done : (m : ℕ) → m ≡ emptyIs s → (r : EditAnswer) (t rb tb : List ℕ) → Edited narrow l (carried l (pair at pos s (at + length s) m)) r t rb tb → Edited narrow l (yankPopCall catalogue narrow l size s) r t rb tb
     pop-done m f r t rb tb p =

@@ -26,18 +26,12 @@ use edit::room_now;
 use edit::room_put;
 use edit::says;
 use keymap::RepeatCount;
-use records::Format;
+use records::NARROW;
 use unicode::check_char;
 use unicode::check_text;
 use unicode::is_alnum;
 use utf8::encode_at;
 use utf8::is_boundary;
-
-// The format of the log's records: numbers of 2 bytes, kinds 1 to 5.
-const NARROW: Format = Format {
-    width: 2,
-    offset: 0,
-};
 
 // A character typed at the cursor, which goes behind it; s are its bytes.
 fn type_char(

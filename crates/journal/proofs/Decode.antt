@@ -369,6 +369,11 @@ record-pos F (edit (insert a s)) = omega arith
 record-pos F (edit (delete a s)) = omega arith
 record-pos F (edit (replace a s u)) = omega arith
 
+-- there are no more records than bytes
+pub records-many : (F : Format) (us : List Change) → length us ≤ length (encodeRecords F us)
+records-many F [] = omega arith
+records-many F (c ∷ us) = omega (arith, records-many F us, record-pos F c, length-append (recordOf F c) (encodeRecords F us))
+
 -- a list that was written is read, from any place
 module _ (R : Repertoire) (F : Format) where
   pub decode-encode-at : (cs : List Change) (p q : List ℕ) (at t : ℕ) → length p ≡ at → length q ≡ t → AllGood R (F .width) cs

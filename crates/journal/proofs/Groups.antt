@@ -232,7 +232,7 @@ last-insert-at (edit (replace p o n) ∷ u) =
     ∙ ap some (part (undoTexts u ++ o) n i (i + length n) (length-append (undoTexts u) o) refl)
 
 -- ---- a record turned round twice
-turn-turn : (c : Change) → turn (turn c) ≡ c
+pub turn-turn : (c : Change) → turn (turn c) ≡ c
 turn-turn begin = refl
 turn-turn end = refl
 turn-turn (edit (insert p s)) = refl

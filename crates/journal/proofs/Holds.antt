@@ -215,46 +215,6 @@ module _ (R : Repertoire) (F : Format) where
       et : rt ≡ length c′
       et = omega (arith, sym (length-take-le (ut + rt) tb (h .space)) ∙ ap length whole′ ∙ length-append (a′ ++ b′) c′, front-end′)
 
-  -- ---- the seam moved: the bytes stay, only the lengths change
-  module _ (rb tb : List ℕ) (ur ut rr rt n m : ℕ) where
-    -- the records vs, last of the undo list, become the first of the redo list
-    pub moved-back : (us vs rs : List Change) → Holds R F rb tb (ur + n) (ut + m) rr rt (us ++ vs) rs → n ≡ length (encodeRecords F vs) → m ≡ length (encodeTexts vs)
-        → Holds R F rb tb ur ut (n + rr) (m + rt) us (vs ++ rs)
-    moved-back us vs rs h e f =
-        let ar : ur + n + rr ≡ ur + (n + rr) = omega arith in
-        let at : ut + m + rt ≡ ut + (m + rt) = omega arith in
-        record {
-          both = rw (ar, at, append-assoc us vs rs) at (h .both);
-          records = omega (arith, simp (records-append, length-append) at (h .records));
-          texts = omega (arith, simp (texts-append, length-append) at (h .texts));
-          room = omega arith;
-          space = omega arith;
-        }
-
-    -- the records vs, first of the redo list, become the last of the undo list
-    pub moved-on : (us vs rs : List Change) → Holds R F rb tb ur ut (n + rr) (m + rt) us (vs ++ rs) → n ≡ length (encodeRecords F vs) → m ≡ length (encodeTexts vs)
-        → Holds R F rb tb (ur + n) (ut + m) rr rt (us ++ vs) rs
-    moved-on us vs rs h e f =
-        let ar : ur + (n + rr) ≡ ur + n + rr = omega arith in
-        let at : ut + (m + rt) ≡ ut + m + rt = omega arith in
-        record {
-          both = rw (ar, at, ← append-assoc us vs rs) at (h .both);
-          records = simp (records-append, length-append) (omega arith);
-          texts = simp (texts-append, length-append) (omega arith);
-          room = omega arith;
-          space = omega arith;
-        }
-
-    -- the last record of the undo list becomes the first of the redo list
-    pub undone : (us rs : List Change) (c : Change) → Holds R F rb tb (ur + n) (ut + m) rr rt (us ++ (c ∷ [])) rs → n ≡ length (recordOf F c) → m ≡ length (textsOf c)
-        → Holds R F rb tb ur ut (n + rr) (m + rt) us (c ∷ rs)
-    undone us rs c h e f = moved-back us (c ∷ []) rs h (rw (append-nil (recordOf F c)) e) (rw (append-nil (textsOf c)) f)
-
-    -- the first record of the redo list becomes the last of the undo list
-    pub redone : (us rs : List Change) (c : Change) → Holds R F rb tb ur ut (n + rr) (m + rt) us (c ∷ rs) → n ≡ length (recordOf F c) → m ≡ length (textsOf c)
-        → Holds R F rb tb (ur + n) (ut + m) rr rt (us ++ (c ∷ [])) rs
-    redone us rs c h e f = moved-on us (c ∷ []) rs h (rw (append-nil (recordOf F c)) e) (rw (append-nil (textsOf c)) f)
-
   -- ---- the last record of the undo list written over by another, the redo list dropped
   -- the buffers begin with the records and the texts before it and with those of d
   pub replaced-by : (rb tb : List ℕ) (ur ut rr rt : ℕ) (us rs : List Change) (c d : Change) → Holds R F rb tb ur ut rr rt (us ++ (c ∷ [])) rs → Good R (F .width) d
@@ -307,3 +267,27 @@ module _ (R : Repertoire) (F : Format) where
       subst (λ (a : ℕ). Holds R F (sets rb a (recordOf F d)) (sets tb (text + length x) z) (last + length (recordOf F d)) (text + length (textsOf d)) 0 0 (us ++ (d ∷ [])) [])
       (omega arith)
       (replaced-tail rb tb ur ut rr rt last text us rs c d [] (recordOf F c) (recordOf F d) x y z h g i j refl refl ey ez k l)
+
+-- ---- the seam moved within the row of records: the bytes stay, only the lengths change
+module _ {R : Repertoire} {F : Format} {rb tb : List ℕ} {ur ut rr rt : ℕ} {us rs : List Change} (h : Holds R F rb tb ur ut rr rt us rs) (us′ rs′ : List Change) (row : us ++ rs ≡ us′ ++ rs′) {at t : ℕ} (e : at ≡ length (encodeRecords F us′)) (f : t ≡ length (encodeTexts us′)) where
+  pub seam-within : at ≤ ur + rr
+  seam-within =
+      omega (arith, e, length-take-le (ur + rr) rb (h .room), ap length (h .both .records ∙ ap (encodeRecords F) row ∙ records-append F us′ rs′), length-append (encodeRecords F us′) (encodeRecords F rs′))
+
+  pub texts-within : t ≤ ut + rt
+  texts-within =
+      omega (arith, f, length-take-le (ut + rt) tb (h .space), ap length (h .both .texts ∙ ap encodeTexts row ∙ texts-append us′ rs′), length-append (encodeTexts us′) (encodeTexts rs′))
+
+  pub seam-moved : Holds R F rb tb at t (ur + rr - at) (ut + rt - t) us′ rs′
+  seam-moved =
+      let a : ur + rr ≡ at + (ur + rr - at) = omega (arith, seam-within) in
+      let b : ut + rt ≡ t + (ut + rt - t) = omega (arith, texts-within) in
+      record {
+        both =
+            subst (λ (n : ℕ). Layout R F (take n rb) (take (t + (ut + rt - t)) tb) (us′ ++ rs′)) a
+            (subst (λ (n : ℕ). Layout R F (take (ur + rr) rb) (take n tb) (us′ ++ rs′)) b (subst (Layout R F (take (ur + rr) rb) (take (ut + rt) tb)) row (h .both)));
+        records = e;
+        texts = f;
+        room = omega (arith, a, h .room);
+        space = omega (arith, b, h .space);
+      }

@@ -7,6 +7,7 @@ use mathlib.Core.List.{List, [], _∷_}
 use lib.ListN.{length}
 use lib.Dec.{eqb}
 use lib.Seq.{length-take-le}
+use Rattle.utf8.specs.Chars.{In}
 use Rattle.unicode.specs.Repertoire.{catalogue}
 use Rattle.unicode.proofs.Text.{text-valid}
 use Rattle.keymap.specs.declared.Movement.the-variants as m
@@ -22,7 +23,7 @@ use Rattle.copies.specs.Copy.{upTo, copied}
 use Rattle.journal.specs.Layout.{narrow}
 use Rattle.journal.specs.Undo.{fits}
 use Rattle.edit.specs.declared.EditAnswer.{EditAnswer}
-use Rattle.edit.specs.Plan.{In, cutting, nothing, State, Outcome, refused, answered, called, tooLong, textAfter, listAfter, planned, edited}
+use Rattle.edit.specs.Plan.{cutting, nothing, State, Outcome, refused, answered, called, tooLong, textAfter, listAfter, planned, edited}
 use Rattle.edit.specs.Calls.{Lent, textOf, sizesOf, stateOf, checked, Edited}
 use Rattle.edit.proofs.Splice.{splice-length}
 use Rattle.kills.specs.Kills.{killRange, cutPlan, placesPlan, killOf, deleteCall}

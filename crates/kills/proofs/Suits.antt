@@ -3,13 +3,14 @@ use Prim.Native.Nat.{ℕ}
 use mathlib.Core.Path.{_≡_, refl}
 use mathlib.Core.Bool.{true}
 use mathlib.Core.List.{List}
+use Rattle.utf8.specs.Chars.{In}
 use Rattle.unicode.specs.Repertoire.{Repertoire}
 use Rattle.unicode.specs.Text.{isText}
 use Rattle.unicode.proofs.Text.{text-valid}
 use Rattle.keymap.specs.declared.Movement.{Movement}
 use Rattle.lines.specs.declared.Range.{Range}
 use Rattle.lines.specs.declared.Range.the-variants.{Places, Nowhere}
-use Rattle.edit.specs.Plan.{In, textAfter, AllSuit}
+use Rattle.edit.specs.Plan.{textAfter, AllSuit}
 use Rattle.edit.proofs.Suits.{nothing-suits, nothing-cursor, cutting-suits, cutting-cursor}
 use Rattle.kills.specs.Kills.{killRange, cutPlan, placesPlan}
 use Rattle.kills.proofs.Ranges.{kill-in}

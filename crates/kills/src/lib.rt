@@ -27,13 +27,7 @@ use lines::start_of_line;
 use motion::Found;
 use motion::next_pos;
 use motion::prev_pos;
-use records::Format;
-
-// The format of the log's records: numbers of 2 bytes, kinds 1 to 5.
-const NARROW: Format = Format {
-    width: 2,
-    offset: 0,
-};
+use records::NARROW;
 
 // kill_line from a place.
 fn kill_line_range(s: &[u8], pos: usize) -> Range

@@ -10,7 +10,7 @@ use borrow.Author.Tests.{eqb-false, ltb-true}
 use Rattle.lists.specs.Lists.{sum}
 use Rattle.lists.proofs.Bools.{by-less, by-test}
 use Rattle.utf8.specs.Utf8.{tail}
-use Rattle.utf8.specs.Chars.{valid, boundary}
+use Rattle.utf8.specs.Chars.{valid, boundary, In}
 use Rattle.utf8.proofs.Forms.{within-below, first-one, first-drop}
 use Rattle.utf8.proofs.Boundary.{boundary-test, boundary-zero, boundary-end, boundary-drop, boundary-take, boundary-next}
 use Rattle.unicode.specs.Repertoire.{Repertoire}
@@ -105,8 +105,7 @@ first-places : (t : Bool) (x y a b : ℕ) → cond t (Places x y) Nowhere ≡ Pl
 first-places true x y a b e = (refl, cc, cc)
 first-places false x y a b e = let z : _≡_ {A = ℕ} 0 1 = cc in absurd (omega arith)
 
-pub lines-up-place : (s : List ℕ) (pos n a b : ℕ) → valid s ≡ true → boundary s pos ≡ true → pos ≤ length s → nLinesUp s pos n ≡ Places a b →
-    (a ≤ b) × (b ≤ length s) × (boundary s a ≡ true) × (boundary s b ≡ true)
+pub lines-up-place : (s : List ℕ) (pos n a b : ℕ) → valid s ≡ true → boundary s pos ≡ true → pos ≤ length s → nLinesUp s pos n ≡ Places a b → In s a b
 unfolding nLinesUp
 lines-up-place s pos n a b v k h e =
     let c = second-places (eqb (startOfLine s pos) 0) (linesUp s n (startOfLine s pos)) (behindLine s pos) a b e in
@@ -117,8 +116,7 @@ lines-up-place s pos n a b v k h e =
     let d = behind-line-place s pos v h in
     (omega arith, omega arith, rw x at (u .1), rw y at (d .2))
 
-pub lines-down-place : (s : List ℕ) (pos n a b : ℕ) → valid s ≡ true → boundary s pos ≡ true → pos ≤ length s → nLinesDown s pos n ≡ Places a b →
-    (a ≤ b) × (b ≤ length s) × (boundary s a ≡ true) × (boundary s b ≡ true)
+pub lines-down-place : (s : List ℕ) (pos n a b : ℕ) → valid s ≡ true → boundary s pos ≡ true → pos ≤ length s → nLinesDown s pos n ≡ Places a b → In s a b
 unfolding nLinesDown
 lines-down-place s pos n a b v k h e =
     let c = first-places (ltb (endOfLine s pos) (length s)) (startOfLine s pos - 1) (linesDown s n (endOfLine s pos + 1)) a b e in

@@ -1,11 +1,11 @@
 -- Parts of a list, as `&s[a..]` and `&s[a..e]` lend them. Assumes nothing.
-use mathlib.Core.Path.{_≡_, refl, sym}
-use mathlib.Core.List.{List, [], _∷_}
+use mathlib.Core.Path.{_≡_, refl, sym, ap, _∙_}
+use mathlib.Core.List.{List, [], _∷_, _++_}
 use Prim.Native.Nat.{ℕ, zero, suc, _-_, _<_}
 use native.Mathlib.Nat.{not-suc-le-zero, le-of-suc-le-suc}
 use native.Mathlib.Omega.{arith}
 use lib.ListN.{length, getD, take, drop, length-drop}
-use lib.Seq.{take-all, take-nil}
+use lib.Seq.{take-all, take-nil, take-at, drop-at}
 
 -- below the length, what getD gives past the end does not matter
 pub getD-any : (l : List ℕ) (i d e : ℕ) → i < length l → getD l i d ≡ getD l i e
@@ -22,3 +22,10 @@ drop-take zero i s = let q : i - 0 ≡ i = omega arith in rw q
 drop-take (suc n) zero s = let q : 0 - suc n ≡ 0 = omega arith in rw q
 drop-take (suc n) (suc i) [] = sym (take-nil (suc i - suc n))
 drop-take (suc n) (suc i) (x ∷ s) = let q : suc i - suc n ≡ i - n = omega arith in rw q (drop-take n i s)
+
+-- two ways to cut one list at one place are one
+pub halves : (a b a′ b′ : List ℕ) → length a ≡ length a′ → a ++ b ≡ a′ ++ b′ → (a ≡ a′) × (b ≡ b′)
+halves a b a′ b′ h e = (
+  sym (take-at a b (length a) refl) ∙ ap (take (length a)) e ∙ take-at a′ b′ (length a) (sym h),
+  sym (drop-at a b (length a) refl) ∙ ap (drop (length a)) e ∙ drop-at a′ b′ (length a) (sym h),
+)

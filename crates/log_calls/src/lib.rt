@@ -9,17 +9,11 @@ use changeset::LogAnswer;
 use changeset::is_single;
 use changeset::refusal;
 use changeset::says;
-use records::Format;
+use records::NARROW;
 use unicode::check_char;
 use unicode::check_text;
 use unicode::is_alnum;
 use utf8::encode_at;
-
-// The format of the log's records: numbers of 2 bytes, kinds 1 to 5.
-const NARROW: Format = Format {
-    width: 2,
-    offset: 0,
-};
 
 // Wrong answers ruled out: 10 while there is space; a mark one too high.
 pub fn begin(records: &mut [u8], texts: &mut [u8], log: Log) -> LogAnswer

@@ -23,3 +23,8 @@ nextPos R s pos n = cond (leb (length s) pos || eqb n 0) Nothing (At (pos + sum 
 unfoldable pub prevPos : Repertoire → List ℕ → ℕ → ℕ → Found
 prevPos R s pos n =
     cond (eqb pos 0 || eqb n 0) Nothing (At (sum (take (length (sizes R (take pos s)) - n) (sizes R (take pos s)))))
+
+-- a place that is found, another where there is none
+abbrev pub orStay : ℕ → Found → ℕ
+orStay pos (At p) = p
+orStay pos Nothing = pos

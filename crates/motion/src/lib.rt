@@ -7,7 +7,7 @@ ghost use lib.ListN.{length, drop};
 ghost use Rattle.utf8.specs.Chars.{valid, boundary, chars, startBefore};
 ghost use Rattle.utf8.specs.Encode.{size};
 ghost use Rattle.unicode.specs.Repertoire.{catalogue};
-ghost use Rattle.motion.specs.Steps.{nextPos, prevPos};
+ghost use Rattle.motion.specs.Steps.{nextPos, prevPos, orStay};
 ghost use Rattle.motion.specs.Search.{matches, nthMatch, afterCluster, matchForward, matchBackward, moved, FitsBehind, searchCharPos};
 ghost use Rattle.motion.specs.Trim.{trimEnd, skipWhitespace};
 use cluster::next_cluster;
@@ -73,6 +73,16 @@ pub fn prev_pos(s: &[u8], pos: usize, n: RepeatCount) -> Found
         left -= 1;
     }
     Found::At(at)
+}
+
+// A place that is found, another where there is none.
+pub fn or_stay(pos: usize, f: Found) -> usize
+    ensures { λ r. ⌜ r ≡ orStay pos f ⌝ }
+{
+    match f {
+        Found::At(p) => p,
+        Found::Nothing => pos,
+    }
 }
 
 // The n-th match of c from a place on, the last one where there are fewer.

@@ -13,14 +13,8 @@ use edit::cut_out;
 use edit::is_split;
 use edit::refusal;
 use edit::says;
-use records::Format;
+use records::NARROW;
 use unicode::check_text;
-
-// The format of the log's records: numbers of 2 bytes, kinds 1 to 5.
-const NARROW: Format = Format {
-    width: 2,
-    offset: 0,
-};
 
 // Wrong answers ruled out: the redo list kept for an empty range; the cursor left behind the cut.
 pub fn delete_range(

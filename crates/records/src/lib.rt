@@ -17,6 +17,12 @@ pub struct Format {
     pub offset: usize,
 }
 
+// The format of the log's records: numbers of 2 bytes, kinds 1 to 5.
+pub const NARROW: Format = Format {
+    width: 2,
+    offset: 0,
+};
+
 fn wide(b: u8) -> usize
     ensures { λ r. ⌜ (r ≡ b) × (r < 256) ⌝ }
 {

@@ -3,12 +3,12 @@ use Prim.Native.Nat.{ℕ, _+_, _-_, _≤_, _<_}
 use native.Mathlib.Omega.{arith}
 use mathlib.Core.Path.{_≡_, refl, sym, ap, ap₂, subst, _∙_}
 use mathlib.Core.Bool.{Bool, true, false}
-use mathlib.Core.List.{List, _++_, append-nil}
+use mathlib.Core.List.{List, _++_}
 use lib.ListN.{length, take, drop, length-append, length-drop}
 use lib.Seq.{length-take-le, take-take, drop-drop, take-append-seam, drop-append-seam}
 use Rattle.lists.proofs.Parts.{drop-take}
 use Rattle.journal.specs.Change.{Edit, insert, delete, replace, Change, begin, end, edit, place, old, new, flipped}
-use Rattle.journal.specs.Layout.{textsOf}
+use Rattle.recording.proofs.Numbers.{texts-are}
 use Rattle.edit.specs.Plan.{splice}
 use Rattle.retrace.specs.declared.Record.{Record}
 use Rattle.retrace.specs.declared.Step.{Step}
@@ -32,11 +32,6 @@ within true r t out from to m f h = record { order = omega (arith, f .1, f .2); 
 within false r t out from to m f h = record { order = omega (arith, f .1, f .2); last = omega (arith, f .2); taken = omega (arith, f .0) }
 
 -- ---- the texts of an edit
-texts-are : (x : Edit) → textsOf (edit x) ≡ old x ++ new x
-texts-are (insert p s) = refl
-texts-are (delete p s) = sym (append-nil s)
-texts-are (replace p o n) = refl
-
 -- two lists that stand at the front of a list, one behind the other
 front-first : (a b l : List ℕ) → take (length (a ++ b)) l ≡ a ++ b → take (length a) l ≡ a
 front-first a b l e =

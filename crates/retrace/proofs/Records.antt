@@ -1,20 +1,15 @@
--- The record at a place by its numbers: as the code reads them by the kind, as the change c that stands there has them, and the last of a list. Assumes nothing.
+-- The record at a place by its numbers: as the code reads them by the kind, as the change c that stands there has them. Assumes nothing.
 use Prim.Native.Nat.{ℕ, _+_, _-_, _≤_, _<_}
 use native.Mathlib.Omega.{arith}
 use mathlib.Core.Path.{_≡_, refl, sym, ap, ap₂, _∙_}
-use mathlib.Core.List.{List, _∷_, _++_}
+use mathlib.Core.List.{List}
 use lib.ListN.{length, getD, drop, length-take, length-append}
 use borrow.Author.Tests.{eq-eqb, ne-eqb}
-use Rattle.unicode.specs.Repertoire.{Repertoire}
 use Rattle.journal.specs.Change.{Change, begin, end, edit, insert, delete, replace}
-use Rattle.journal.specs.Layout.{Format, numAt, firstLen, secondLen, recordOf, textsOf, encodeRecords, encodeTexts, Layout, sizeOf}
-use Rattle.journal.specs.Undo.{undoRecords}
-use Rattle.journal.proofs.Decode.{KindIs, is-begin, is-end, is-insert, is-delete, is-replace, kind-is, texts-insert, texts-delete, texts-replace, change-insert, change-delete, change-replace, text-at, Reads, record-pos}
-use Rattle.journal.proofs.Holds.{texts-append}
-use Rattle.journal.proofs.Undo.{records-size}
-use Rattle.journal.proofs.Walk.{reads-at, whole-at}
+use Rattle.journal.specs.Layout.{Format, numAt, firstLen, secondLen, textsOf, sizeOf}
+use Rattle.journal.proofs.Decode.{KindIs, is-begin, is-end, is-insert, is-delete, is-replace, kind-is, texts-insert, texts-delete, texts-replace, change-insert, change-delete, change-replace, Reads}
 use Rattle.retrace.specs.declared.Record.{Record}
-use Rattle.retrace.specs.Records.{numbers, numbersOf, recordAt, Carries, SizesOf}
+use Rattle.retrace.specs.Records.{numbers, numbersOf, recordAt, Carries}
 
 -- ---- a record's numbers by its kind
 module _ (F : Format) (rs : List ℕ) (at k : ℕ) where
@@ -109,28 +104,3 @@ numbers-size (edit (replace p o n)) = sym (length-append o n)
 
 pub carried-size : (c : Change) (r : Record) (ts : List ℕ) (t : ℕ) → Carries c r ts t → r .old + r .new ≡ length (textsOf c)
 carried-size c r ts t h = ap (λ (x : Record). x .old + x .new) (h .numbers) ∙ numbers-size c
-
--- the change c of a list in two buffers stands behind the records and the texts of those before it
-module _ (R : Repertoire) (F : Format) (rs ts : List ℕ) (us vs : List Change) (c : Change) (at t : ℕ) (l : Layout R F rs ts (us ++ (c ∷ vs))) (e : at ≡ length (encodeRecords F us)) (f : t ≡ length (encodeTexts us)) where
-  -- its numbers and its texts, and its record is whole
-  pub carries : Carries c (recordAt F rs at (getD rs at 0)) ts t × (0 < sizeOf F (getD rs at 0)) × (at + sizeOf F (getD rs at 0) ≤ length rs)
-  carries =
-      let w = whole-at R F rs ts us vs c at t l e f in (
-        record {
-          numbers = record-is F rs ts at t c (reads-at R F rs ts us vs c at t l e f);
-          texts = rw (l .texts ∙ texts-append us (c ∷ vs)) (text-at (encodeTexts us) (textsOf c) (encodeTexts vs) t (length (textsOf c)) (sym f) refl);
-        },
-        w .kind,
-        w .body,
-      )
-
-  -- its texts lie in their buffer
-  pub carries-room : t + (recordAt F rs at (getD rs at 0) .old + recordAt F rs at (getD rs at 0) .new) ≤ length ts
-  carries-room =
-      let z = carried-size c (recordAt F rs at (getD rs at 0)) ts t (carries .0) in
-      omega (arith, z, whole-at R F rs ts us vs c at t l e f .room, reads-at R F rs ts us vs c at t l e f .texts)
-
--- the newest record's size stands at the list's last byte
-pub last-size : (F : Format) (sizes : List ℕ) (c : Change) (u : List Change) → SizesOf F sizes (c ∷ u)
-    → (getD sizes (length (undoRecords F (c ∷ u)) - 1) 0 ≡ length (recordOf F c)) × (length (undoRecords F (c ∷ u)) ≡ length (undoRecords F u) + length (recordOf F c)) × (0 < length (recordOf F c))
-last-size F sizes c u h = (h .0, records-size F c u, record-pos F c)

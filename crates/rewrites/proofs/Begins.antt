@@ -8,19 +8,20 @@ use lib.Dec.{eqb, ltb}
 use lib.ListN.{length}
 use borrow.Author.Tests.{ltb-false}
 use Rattle.lists.proofs.Bools.{by-test, or-none}
-use Rattle.utf8.specs.Chars.{valid}
+use Rattle.utf8.specs.Chars.{valid, In}
 use Rattle.unicode.specs.Repertoire.{Repertoire}
 use Rattle.unicode.specs.Text.{isText}
 use Rattle.unicode.proofs.Text.{text-valid}
 use Rattle.cluster.specs.Clusters.{clustersOf}
 use Rattle.motion.specs.declared.Found.{Found}
 use Rattle.motion.specs.declared.Found.the-variants.{At, Nothing}
+use Rattle.motion.specs.Steps.{orStay}
 use Rattle.motion.specs.Trim.{skipWhitespace}
 use Rattle.motion.proofs.Places.{skip-place}
-use Rattle.edit.specs.Plan.{In, nothing}
+use Rattle.edit.specs.Plan.{nothing}
 use Rattle.rewrites.specs.declared.WordAction.{WordAction}
 use Rattle.rewrites.specs.declared.Words.{Words}
-use Rattle.rewrites.specs.Rewrites.{orStay, backFrom, wordsOn, startsAt, exchange, exchangeAt, casePlan, casedFrom, editWordPlan, wordsAround, wordsPlan, isOne, wordsOr, transposeWordsPlan, Apart}
+use Rattle.rewrites.specs.Rewrites.{backFrom, wordsOn, startsAt, exchange, exchangeAt, casePlan, casedFrom, editWordPlan, wordsAround, wordsPlan, isOne, wordsOr, transposeWordsPlan, Apart}
 use Rattle.rewrites.proofs.Stays.{back-place}
 use Rattle.rewrites.proofs.Four.{around-apart}
 

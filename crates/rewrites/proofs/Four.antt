@@ -9,13 +9,13 @@ use lib.ListN.{length, take, drop}
 use lib.Seq.{length-take-le, take-at, take-take}
 use borrow.Author.Tests.{lt-ltb, le-ltb}
 use Rattle.lists.proofs.Parts.{drop-take}
-use Rattle.utf8.specs.Chars.{valid, boundary}
+use Rattle.utf8.specs.Chars.{valid, boundary, In}
 use Rattle.unicode.specs.Repertoire.{Repertoire}
 use Rattle.unicode.specs.Text.{isText}
 use Rattle.unicode.proofs.Text.{text-valid, text-nil}
-use Rattle.edit.specs.Plan.{In, part, splice, textAfter, AllSuit, tooLong}
+use Rattle.edit.specs.Plan.{part, splice, textAfter, AllSuit, tooLong}
 use Rattle.edit.proofs.Once.{part-text, part-length}
-use Rattle.edit.proofs.Pieces.{splice-text, splice-before, splice-behind}
+use Rattle.edit.proofs.Pieces.{splice-text, splice-before, splice-behind, splice-start}
 use Rattle.edit.proofs.Splice.{splice-length}
 use Rattle.rewrites.specs.declared.Words.{Words}
 use Rattle.rewrites.specs.Rewrites.{wordsOn, wordsBack, wordsAround, wordsPlan, Apart}
@@ -89,7 +89,7 @@ module _ (R : Repertoire) (t : List ℕ) (is : isText R t ≡ true) (w : Words) 
   long1 = splice-length t c d [] cd dt ∙ omega arith
 
   pub in1 : In m1 c c
-  in1 = let e = splice-before t c d [] (p .second) c (omega arith) ∙ p .second .2 in (omega arith, omega (arith, long1, cd, dt), e, e)
+  in1 = splice-start t c d [] (p .second)
 
   pub is1 : isText R m1 ≡ true
   is1 = splice-text t c d [] (p .second) R is (text-nil R)
@@ -110,7 +110,7 @@ module _ (R : Repertoire) (t : List ℕ) (is : isText R t ≡ true) (w : Words) 
   long3 = splice-length m2 a b [] (in2 .0) (in2 .1) ∙ omega (arith, long2, ab, cd, dt)
 
   pub in3 : In m3 a a
-  in3 = let e = splice-before m2 a b [] in2 a (omega arith) ∙ in2 .2 in (omega arith, omega (arith, long3, ab, cd, dt, p .before), e, e)
+  in3 = splice-start m2 a b [] in2
 
   pub is3 : isText R m3 ≡ true
   is3 = splice-text m2 a b [] in2 R is2 (text-nil R)

@@ -3,17 +3,17 @@ use Prim.Native.Nat.{ℕ}
 use native.Mathlib.Omega.{arith}
 use mathlib.Core.Path.{_≡_, refl}
 use mathlib.Core.Bool.{true}
-use mathlib.Core.List.{List, []}
+use mathlib.Core.List.{List}
 use Rattle.lists.proofs.Bools.{by-test}
-use Rattle.utf8.specs.Chars.{valid}
+use Rattle.utf8.specs.Chars.{valid, In}
 use Rattle.unicode.specs.Repertoire.{Repertoire, Lawful}
 use Rattle.unicode.specs.Text.{isText}
 use Rattle.unicode.proofs.Text.{text-valid}
 use Rattle.motion.specs.Trim.{skipWhitespace}
 use Rattle.motion.specs.declared.Found.{Found}
 use Rattle.motion.specs.declared.Found.the-variants.{At, Nothing}
-use Rattle.edit.specs.Plan.{In, Plan, textAfter, AllSuit}
-use Rattle.edit.proofs.Suits.{nothing-suits, nothing-cursor}
+use Rattle.edit.specs.Plan.{nothing}
+use Rattle.edit.proofs.Suits.{PlanSuits, nothing-suits, nothing-cursor}
 use Rattle.rewrites.specs.declared.WordAction.{WordAction}
 use Rattle.rewrites.specs.Rewrites.{wordsOn, startsAt, exchangeAt, transposeCharsPlan, casedFrom, editWordPlan, wordsAround, isOne, transposeWordsPlan}
 use Rattle.rewrites.proofs.Stays.{words-on-place}
@@ -25,20 +25,17 @@ module _ (R : Repertoire) (t : List ℕ) (is : isText R t ≡ true) (pos : ℕ) 
   v : valid t ≡ true
   v = text-valid R t is
 
-  abbrev Ends : Plan → Type 0
-  Ends p = AllSuit R (p .pieces) t × In (textAfter (p .pieces) t) (p .cursor) (p .cursor)
-
-  stay : Ends (record { pieces = []; cursor = pos; number = 1; from = 0; to = 0 })
+  stay : PlanSuits R t (nothing pos)
   stay = (nothing-suits R t pos, nothing-cursor R t pos i)
 
-  chars-end : (f : Found) → f ≡ startsAt R t pos → Ends (exchangeAt R t pos f)
+  chars-end : (f : Found) → f ≡ startsAt R t pos → PlanSuits R t (exchangeAt R t pos f)
   chars-end (At p) e = let k = starts-in R t v pos i (At p) p e refl in (exchange-suits R t is p k, exchange-cursor R t is p k)
   chars-end Nothing e = stay
 
-  pub transpose-chars-suits : Ends (transposeCharsPlan R t pos)
+  pub transpose-chars-suits : PlanSuits R t (transposeCharsPlan R t pos)
   transpose-chars-suits = chars-end (startsAt R t pos) refl
 
-  case-end : Lawful R → (w : WordAction) (f : Found) → f ≡ skipWhitespace R t pos → Ends (casedFrom R t w pos f)
+  case-end : Lawful R → (w : WordAction) (f : Found) → f ≡ skipWhitespace R t pos → PlanSuits R t (casedFrom R t w pos f)
   case-end law w (At p) e =
       let k = skip-in R t w pos (At p) e is i p refl in
       let q = words-on-place R t v p (k .2) (k .1) 1 in
@@ -46,12 +43,12 @@ module _ (R : Repertoire) (t : List ℕ) (is : isText R t ≡ true) (pos : ℕ) 
       (case-suits R t is law w p (wordsOn R t 1 p) j, case-cursor R t is law w p (wordsOn R t 1 p) j)
   case-end law w Nothing e = stay
 
-  pub edit-word-suits : Lawful R → (w : WordAction) → Ends (editWordPlan R t w pos)
+  pub edit-word-suits : Lawful R → (w : WordAction) → PlanSuits R t (editWordPlan R t w pos)
   edit-word-suits law w = case-end law w (skipWhitespace R t pos) refl
 
-  pub transpose-words-suits : (n : ℕ) → Ends (transposeWordsPlan R t n pos)
+  pub transpose-words-suits : (n : ℕ) → PlanSuits R t (transposeWordsPlan R t n pos)
   transpose-words-suits n =
       let w = wordsAround R t n pos in
-      by-test (Ends (transposeWordsPlan R t n pos)) (isOne (wordsAround R t n pos))
+      by-test (PlanSuits R t (transposeWordsPlan R t n pos)) (isOne (wordsAround R t n pos))
       (λ e. let k = end1-in R t v n pos i in rw e (nothing-suits R t (w .end1), nothing-cursor R t (w .end1) (omega arith, k .1, k .2, k .2)))
       (λ e. let p = words-apart R t n pos (wordsAround R t n pos) refl v i e in rw e (words-suit R t is (wordsAround R t n pos) p, words-cursor R t is (wordsAround R t n pos) p))

@@ -3,37 +3,26 @@ use Prim.Native.Nat.{ℕ, _≤_, _<_}
 use native.Mathlib.Omega.{arith}
 use mathlib.Core.Path.{_≡_, refl, sym, ap, _∙_}
 use mathlib.Core.Bool.{Bool, true, false, cond, _||_}
-use mathlib.Core.List.{List, [], _∷_}
+use mathlib.Core.List.{List, _∷_}
 use lib.Dec.{eqb, ltb, leb}
-use lib.ListN.{length, drop, length-drop, drop-of-length-le}
+use lib.ListN.{length}
 use borrow.Author.Tests.{lt-leb, le-leb, le-ltb}
-use Rattle.lists.specs.Lists.{headOr}
 use Rattle.lists.proofs.Bools.{by-less}
-use Rattle.utf8.specs.Chars.{valid, boundary, charsFrom}
-use Rattle.utf8.proofs.Append.{valid-cut}
+use Rattle.utf8.specs.Chars.{valid, boundary}
 use Rattle.unicode.specs.Repertoire.{Repertoire}
-use Rattle.cluster.specs.Clusters.{clusters, clustersOf, bytes}
+use Rattle.cluster.specs.Clusters.{clustersOf, bytes}
 use Rattle.cluster.specs.Facts.{facts}
 use Rattle.cluster.specs.declared.Cluster.{Cluster}
-use Rattle.cluster.proofs.Parts.{first-cut}
-use Rattle.cluster.proofs.Steps.{firstCluster, step-some, step-none}
+use Rattle.cluster.proofs.Steps.{firstCluster, step-none, step-one, step-two}
 use Rattle.keymap.specs.declared.Word.the-variants.{Emacs}
 use Rattle.keymap.specs.declared.At.the-variants.{AfterEnd}
-use Rattle.motion.specs.Steps.{nextPos, prevPos}
+use Rattle.motion.specs.Steps.{nextPos, prevPos, orStay}
 use Rattle.motion.specs.declared.Found.{Found}
 use Rattle.motion.specs.declared.Found.the-variants.{At, Nothing}
 use Rattle.motion.proofs.Places.{next-pos-place, prev-pos-place}
 use Rattle.words.specs.Words.{prevWordPos, nextWordPos}
 use Rattle.words.proofs.Places.{next-word-place, prev-word-place}
-use Rattle.rewrites.specs.Rewrites.{orStay, onFrom, backFrom, wordsOn, wordsBack, startsAt}
-
--- ---- found, or not
-module _ (pos : ℕ) (f g : Found) (e : f ≡ g) where
-  pub stay-at : (p : ℕ) → f ≡ At p → p ≡ orStay pos g
-  stay-at p h = sym (ap (orStay pos) (sym e ∙ h))
-
-  pub stay-none : f ≡ Nothing → pos ≡ orStay pos g
-  stay-none h = sym (ap (orStay pos) (sym e ∙ h))
+use Rattle.rewrites.specs.Rewrites.{onFrom, backFrom, wordsOn, wordsBack, startsAt}
 
 -- ---- places of a text
 module _ (R : Repertoire) (t : List ℕ) (v : valid t ≡ true) (pos : ℕ) (b : boundary t pos ≡ true) (h : pos ≤ length t) where
@@ -69,36 +58,19 @@ module _ (R : Repertoire) (t : List ℕ) where
   abbrev m : ℕ
   m = bytes (firstCluster R t)
 
-  nothing-left : clustersOf R [] ≡ []
-  unfolding clusters charsFrom
-  nothing-left = refl
-
   none-two : m ≡ 0 → length t ≤ m → leb (length t) m ≡ ltb (length (clustersOf R t)) 2
   none-two z l = le-leb (length t) m l ∙ sym (ap (λ (ks : List (List ℕ)). ltb (length ks) 2) (step-none R t z))
 
   one-two : 0 < m → length t ≤ m → leb (length t) m ≡ ltb (length (clustersOf R t)) 2
   one-two h l =
-      let d : drop m t ≡ [] = drop-of-length-le t {i = m} l in
-      le-leb (length t) m l
-      ∙ sym (ap (λ (ks : List (List ℕ)). ltb (length ks) 2) (step-some R t h ∙ ap (λ (x : List ℕ). firstCluster R t ∷ clustersOf R x) d ∙ ap (λ (ks : List (List ℕ)). firstCluster R t ∷ ks) nothing-left))
+      le-leb (length t) m l ∙ sym (ap (λ (ks : List (List ℕ)). ltb (length ks) 2) (step-one R t h l))
 
   more-two : valid t ≡ true → m < length t → leb (length t) m ≡ ltb (length (clustersOf R t)) 2
-  more-two v l = go (clustersOf R (drop m t)) refl
-    where
-      some : 0 < m
-      some = first-cut R t v (omega arith) .some
-
-      next : 0 < bytes (firstCluster R (drop m t))
-      next =
-          let c = first-cut R t v (omega arith) .cut in
-          first-cut R (drop m t) (sym (valid-cut t m (c .edge)) ∙ v) (simp length-drop (omega arith)) .some
-
-      go : (ks : List (List ℕ)) → clustersOf R (drop m t) ≡ ks → leb (length t) m ≡ ltb (length (clustersOf R t)) 2
-      go [] e = absurd (omega (arith, next, ap (λ (x : List (List ℕ)). bytes (headOr [] x)) e))
-      go (k ∷ ks) e =
-          let s : clustersOf R t ≡ firstCluster R t ∷ (k ∷ ks) = step-some R t some ∙ ap (λ (x : List (List ℕ)). firstCluster R t ∷ x) e in
-          let n : 2 ≤ length (firstCluster R t ∷ (k ∷ ks)) = omega arith in
-          lt-leb (length t) m l ∙ sym (ap (λ (x : List (List ℕ)). ltb (length x) 2) s ∙ le-ltb (length (firstCluster R t ∷ (k ∷ ks))) 2 n)
+  more-two v l =
+      step-two R (leb (length t) m ≡ ltb (length (clustersOf R t)) 2) t v l
+      (λ k ks s.
+      let n : 2 ≤ length (firstCluster R t ∷ (k ∷ ks)) = omega arith in
+      lt-leb (length t) m l ∙ sym (ap (λ (x : List (List ℕ)). ltb (length x) 2) s ∙ le-ltb (length (firstCluster R t ∷ (k ∷ ks))) 2 n))
 
   pub under-two : valid t ≡ true → (k : Cluster) → k ≡ facts R (firstCluster R t) → leb (length t) (k .len) ≡ ltb (length (clustersOf R t)) 2
   under-two v k e =

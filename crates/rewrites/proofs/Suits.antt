@@ -1,19 +1,17 @@
 -- The plans suit the text, and leave the cursor between characters: over any repertoire. Assumes nothing.
-use Prim.Native.Nat.{ℕ, _+_, _-_}
+use Prim.Native.Nat.{ℕ, _+_}
 use native.Mathlib.Omega.{arith}
-use mathlib.Core.Path.{_≡_, _∙_}
+use mathlib.Core.Path.{_≡_}
 use mathlib.Core.Bool.{true}
 use mathlib.Core.List.{List, []}
 use lib.ListN.{length}
-use Rattle.utf8.specs.Chars.{valid}
+use Rattle.utf8.specs.Chars.{valid, In}
 use Rattle.unicode.specs.Repertoire.{Repertoire, Lawful}
 use Rattle.unicode.specs.Text.{isText}
 use Rattle.unicode.proofs.Text.{text-valid, text-nil}
-use Rattle.edit.specs.Plan.{In, part, splice, textAfter, AllSuit}
+use Rattle.edit.specs.Plan.{part, splice, textAfter, AllSuit}
 use Rattle.edit.proofs.Once.{part-text}
-use Rattle.edit.proofs.Pieces.{splice-text, splice-before}
-use Rattle.edit.proofs.Suits.{splice-end}
-use Rattle.edit.proofs.Splice.{splice-length}
+use Rattle.edit.proofs.Pieces.{splice-text, splice-stays, splice-start, splice-end}
 use Rattle.rewrites.specs.declared.WordAction.{WordAction}
 use Rattle.rewrites.specs.Rewrites.{onFrom, backFrom, transposed, exchange, inCase, casePlan}
 use Rattle.rewrites.proofs.Cased.{case-text}
@@ -37,17 +35,8 @@ module _ (R : Repertoire) (t : List ℕ) (is : isText R t ≡ true) where
     pub cut-in : In t p q
     cut-in = let a = on-place R t v p (i .2) (i .1) in (a .0, a .1, i .2, a .2)
 
-    mid-length : length mid ≡ length t - (q - p)
-    mid-length = splice-length t p q [] (cut-in .0) (cut-in .1) ∙ omega arith
-
     put-at : In mid o o
-    put-at =
-        let b = back-place R t v p (i .2) (i .1) in
-        let c = b .0 in
-        let d = cut-in .1 in
-        let f = cut-in .0 in
-        let e = splice-before t p q [] cut-in o (b .0) ∙ b .1 in
-        (omega arith, omega (arith, mid-length), e, e)
+    put-at = let b = back-place R t v p (i .2) (i .1) in splice-stays t p q [] cut-in o (b .0) (b .1)
 
     pub exchange-suits : AllSuit R (exchange R t p .pieces) t
     unfolding AllSuit
@@ -75,18 +64,10 @@ module _ (R : Repertoire) (t : List ℕ) (is : isText R t ≡ true) where
     word-text : isText R word ≡ true
     word-text = case-text R (part t a b) (part-text R t a b i is) law w
 
-    without : In (splice t a b []) a a
-    without =
-        let e = splice-before t a b [] i a (omega arith) ∙ i .2 in
-        let l = splice-length t a b [] (i .0) (i .1) in
-        let h = i .0 in
-        let k = i .1 in
-        (omega arith, omega arith, e, e)
-
     pub case-suits : AllSuit R (casePlan R t w a b .pieces) t
     unfolding AllSuit
-    case-suits = (i, ((without, word-text), tt))
+    case-suits = (i, ((splice-start t a b [] i, word-text), tt))
 
     pub case-cursor : In (textAfter (casePlan R t w a b .pieces) t) (casePlan R t w a b .cursor) (casePlan R t w a b .cursor)
     unfolding textAfter
-    case-cursor = splice-end (splice t a b []) a a word without (text-valid R word word-text)
+    case-cursor = splice-end (splice t a b []) a a word (splice-start t a b [] i) (text-valid R word word-text)

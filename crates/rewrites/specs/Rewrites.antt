@@ -7,31 +7,27 @@ use lib.Dec.{eqb, ltb}
 use lib.ListN.{length, take, drop, getD}
 use lib.Seq.{sets}
 use Rattle.lists.specs.Lists.{headOr}
+use Rattle.utf8.specs.Chars.{In}
 use Rattle.unicode.specs.Repertoire.{Repertoire}
 use Rattle.unicode.specs.Case.{cased}
 use Rattle.unicode.specs.declared.Case.the-variants.{Upper, Lower}
 use Rattle.cluster.specs.Clusters.{clustersOf, bytes}
 use Rattle.keymap.specs.declared.Word.the-variants.{Emacs}
 use Rattle.keymap.specs.declared.At.the-variants.{AfterEnd}
-use Rattle.motion.specs.Steps.{nextPos, prevPos}
+use Rattle.motion.specs.Steps.{nextPos, prevPos, orStay}
 use Rattle.motion.specs.Trim.{skipWhitespace}
 use Rattle.motion.specs.declared.Found.{Found}
 use Rattle.motion.specs.declared.Found.the-variants.{At, Nothing}
 use Rattle.words.specs.Words.{prevWordPos, nextWordPos}
 use Rattle.checks.specs.Checks.{ownTests}
 use Rattle.journal.specs.Layout.{Format}
-use Rattle.edit.specs.Plan.{In, part, splice, pasted, cutting, Plan, nothing, Outcome}
+use Rattle.edit.specs.Plan.{part, splice, pasted, cutting, Plan, nothing, Outcome}
 use Rattle.edit.specs.Calls.{Lent, textOf, editCall}
 use Rattle.rewrites.specs.declared.WordAction.{WordAction}
 use Rattle.rewrites.specs.declared.WordAction.the-variants.{Capitalize, Lowercase, Uppercase}
 use Rattle.rewrites.specs.declared.ActionCode.{ActionCode}
 use Rattle.rewrites.specs.declared.Words.{Words}
 use Rattle.rewrites.specs.declared.ActionCode.the-variants as code
-
--- a movement's place, the cursor where it finds none
-abbrev pub orStay : ℕ → Found → ℕ
-orStay pos (At p) = p
-orStay pos Nothing = pos
 
 module _ (R : Repertoire) (t : List ℕ) where
   -- one cluster on, and one back
@@ -121,7 +117,8 @@ actionOf k = getD actionList k code.Unknown
 abbrev pub actionIs : WordAction → ActionCode
 actionIs w = code.Is w
 
--- ---- transpose_words: the word w2 behind the n-th word from the cursor on, and the n-th word w1 before it
+-- ---- transpose_words: w2 is the n-th word from the cursor on, and w1 the n-th word before w2; with fewer words each movement goes as far as it
+-- can, and at the text's end w2 reaches from the start of the last word up to there
 abbrev pub wordsAround : Repertoire → List ℕ → ℕ → ℕ → Words
 wordsAround R t n pos =
     let end2 = wordsOn R t n pos in

@@ -5,13 +5,13 @@ ghost use mathlib.Core.Bool.{true, false};
 ghost use Prim.Native.Nat.{_+_, _≤_, _<_};
 ghost use lib.Dec.{ltb};
 ghost use lib.ListN.{length, take};
-ghost use Rattle.utf8.specs.Chars.{valid, boundary};
+ghost use Rattle.utf8.specs.Chars.{valid, boundary, In};
 ghost use Rattle.unicode.specs.Repertoire.{catalogue};
 ghost use Rattle.unicode.specs.Case.{cased};
 ghost use Rattle.cluster.specs.Clusters.{clustersOf};
 ghost use Rattle.journal.specs.Layout.{narrow};
 ghost use Rattle.journal.specs.Undo.{fits};
-ghost use Rattle.edit.specs.Plan.{part, In, listAfter, tooLong, edited};
+ghost use Rattle.edit.specs.Plan.{part, listAfter, tooLong, edited};
 ghost use Rattle.edit.specs.Calls.{lent, sizesOf, stateOf, Edited, Ready};
 ghost use Rattle.rewrites.specs.declared.WordAction.the-variants.{Capitalize};
 ghost use Rattle.rewrites.specs.Rewrites.{onFrom, backFrom, wordsOn, wordsBack, startsAt, exchange, inCase, Written, WrittenAt, casePlan, actionOf, actionIs, editWordBy, wordsAround, wordsPlan, Apart, transposeCharsCall, editWordCall, transposeWordsCall};
@@ -35,19 +35,14 @@ use keymap::RepeatCount;
 use keymap::Word;
 use motion::Found;
 use motion::next_pos;
+use motion::or_stay;
 use motion::prev_pos;
 use motion::skip_whitespace;
-use records::Format;
+use records::NARROW;
 use unicode::Case;
 use unicode::change_case;
 use words::next_word_pos;
 use words::prev_word_pos;
-
-// The format of the log's records: numbers of 2 bytes, kinds 1 to 5.
-const NARROW: Format = Format {
-    width: 2,
-    offset: 0,
-};
 
 pub enum WordAction {
     Capitalize,
@@ -78,11 +73,7 @@ impl WordAction {
 fn on_from(s: &[u8], pos: usize) -> usize
     ensures { λ r. ⌜ r ≡ onFrom catalogue (now (s .entry)) pos ⌝ }
 {
-    let f = next_pos(s, pos, 1);
-    match f {
-        Found::At(p) => p,
-        Found::Nothing => pos,
-    }
+    or_stay(pos, next_pos(s, pos, 1))
 }
 
 // One cluster back.
@@ -90,11 +81,7 @@ fn back_from(s: &[u8], pos: usize) -> usize
     requires { ⌜ (valid (now s) ≡ true) × (boundary (now s) pos ≡ true) × (pos ≤ length (now s)) ⌝ }
     ensures { λ r. ⌜ r ≡ backFrom catalogue (now (s .entry)) pos ⌝ }
 {
-    let f = prev_pos(s, pos, 1);
-    match f {
-        Found::At(p) => p,
-        Found::Nothing => pos,
-    }
+    or_stay(pos, prev_pos(s, pos, 1))
 }
 
 // Behind the n-th word from a place on.
@@ -102,11 +89,7 @@ fn words_on(s: &[u8], pos: usize, n: RepeatCount) -> usize
     requires { ⌜ pos ≤ length (now s) ⌝ }
     ensures { λ r. ⌜ r ≡ wordsOn catalogue (now (s .entry)) n pos ⌝ }
 {
-    let f = next_word_pos(s, pos, At::AfterEnd, Word::Emacs, n);
-    match f {
-        Found::At(p) => p,
-        Found::Nothing => pos,
-    }
+    or_stay(pos, next_word_pos(s, pos, At::AfterEnd, Word::Emacs, n))
 }
 
 // At the start of the n-th word before a place.
@@ -114,11 +97,7 @@ fn words_back(s: &[u8], pos: usize, n: RepeatCount) -> usize
     requires { ⌜ (valid (now s) ≡ true) × (boundary (now s) pos ≡ true) × (pos ≤ length (now s)) ⌝ }
     ensures { λ r. ⌜ r ≡ wordsBack catalogue (now (s .entry)) n pos ⌝ }
 {
-    let f = prev_word_pos(s, pos, Word::Emacs, n);
-    match f {
-        Found::At(p) => p,
-        Found::Nothing => pos,
-    }
+    or_stay(pos, prev_word_pos(s, pos, Word::Emacs, n))
 }
 
 // Has a text fewer than two clusters?

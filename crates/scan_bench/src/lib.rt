@@ -10,13 +10,7 @@ ghost use Rattle.undo.specs.Undo.{undoCall, redoCall};
 use changeset::Log;
 use checks::Line;
 use edit::EditAnswer;
-use records::Format;
-
-// The format of the log's records: numbers of 2 bytes, kinds 1 to 5.
-const NARROW: Format = Format {
-    width: 2,
-    offset: 0,
-};
+use records::NARROW;
 
 #[no_mangle]
 pub extern "C" fn tlf_bench_check_text(s: &[u8]) -> bool

@@ -9,19 +9,21 @@ use lib.Dec.{eqb}
 use lib.ListN.{length}
 use borrow.Author.Tests.{eqb-true, le-leb, lt-leb}
 use Rattle.lists.proofs.Bools.{by-test, cond-cases}
+use Rattle.utf8.specs.Chars.{In}
 use Rattle.unicode.specs.Repertoire.{Repertoire}
 use Rattle.unicode.specs.Text.{isText}
-use Rattle.journal.specs.Change.{Edit, Change, begin, end, edit, place, old, turn}
+use Rattle.journal.specs.Change.{Change, begin, end, edit, place, old, turn}
 use Rattle.journal.specs.Layout.{Format}
 use Rattle.journal.specs.Undo.{allSmall}
-use Rattle.edit.specs.Plan.{In, State}
+use Rattle.edit.specs.Plan.{State}
 use Rattle.retrace.specs.Retrace.{Trail, undoing}
 use Rattle.undo.specs.Undo.{Walked, trailOf, opens, walkTo, beginsDown, cancelOut}
 use Rattle.session.specs.Calls.{cancel}
 use Rattle.session.specs.Sessions.{leaves, below, openAfter}
-use Rattle.session.proofs.Invariant.{openMarks, Groups, Bound, Chain, Inv}
+use Rattle.session.proofs.Invariant.{openMarks, Groups, Bound, Chain, Inv, no-redo}
 use Rattle.session.proofs.Links.{undo-link, cursor-link, text-link}
 use Rattle.session.proofs.Walks.{small-tail}
+use Rattle.session.proofs.Recorded.{groups-drop}
 
 -- the mark of an open group lies below the length
 opens-lt : (m : ℕ) (u : List Change) → opens m u ≡ true → m < length u
@@ -45,11 +47,6 @@ below-all m (suc k) [] h = refl
 below-all m (suc k) (begin ∷ u) h = rw (lt-leb m (length u) h, below-all m k u (omega arith))
 below-all m (suc k) (end ∷ u) h = refl
 below-all m (suc k) (edit x ∷ u) h = below-all m (suc k) u (omega arith)
-
--- a record of a text belongs to no mark
-groups-tail : (k : ℕ) (g : List ℕ) (x : Edit) (u : List Change) → Groups k g (edit x ∷ u) → Groups k g u
-groups-tail zero g x u z = record { opened = z .opened; marks = z .marks }
-groups-tail (suc k) g x u z = record { opened = z .opened; marks = z .marks }
 
 module _ (R : Repertoire) (F : Format) (Q : List ℕ → Type 0) (t₀ : List ℕ) where
   -- an undo list u that leads from the text to the first one, at level k with the groups g open
@@ -107,7 +104,7 @@ module _ (R : Repertoire) (F : Format) (Q : List ℕ → Type 0) (t₀ : List �
       (down C h m u (turn (edit x) ∷ r) k g (record { text = z .chain .0; cursor = place x + length (old x); undone = true }) o
       (record {
         chain = z .chain .2;
-        groups = groups-tail k g x u (z .groups);
+        groups = groups-drop k g x u (z .groups);
         small = small-tail (F .width) (edit x) u (z .small);
         text = text-link R l;
         allowed = l .first;
@@ -116,7 +113,7 @@ module _ (R : Repertoire) (F : Format) (Q : List ℕ → Type 0) (t₀ : List �
 
   -- cancel keeps the invariant, whether the mark is an open group's or not
   pub cancel-keeps : (C m : ℕ) (s : State) (g : List ℕ) → Bound Q C → Inv R F Q t₀ s g → Inv R F Q t₀ (leaves (cancelOut C m s) s) (openAfter (cancel m) (cancelOut C m s) g)
-  unfolding cancelOut allSmall
+  unfolding cancelOut
   cancel-keeps C m s g h v =
       by-test _ (opens m (s .log .undo))
       (λ o.
@@ -126,13 +123,5 @@ module _ (R : Repertoire) (F : Format) (Q : List ℕ → Type 0) (t₀ : List �
       in
       let z = d .left in
       rw (o, d .runs)
-      (record {
-        here = record { chain = z .chain; text = z .text; allowed = z .allowed; groups = z .groups };
-        goal = walkTo C m (s .log .undo) (s .log .redo) (trailOf s) .trail .text;
-        forth = refl;
-        nested = refl;
-        cursor = z .cursor;
-        undo-small = z .small;
-        redo-small = refl;
-      }))
+      (no-redo R F Q t₀ _ _ _ _ _ (record { chain = z .chain; text = z .text; allowed = z .allowed; groups = z .groups }) (z .cursor) (z .small)))
       (λ o. rw o v)

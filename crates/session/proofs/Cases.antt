@@ -2,7 +2,6 @@
 use mathlib.Core.Path.{_≡_, refl}
 use mathlib.Core.List.{List, [], _∷_, _++_}
 use Prim.Native.Nat.{ℕ, _-_}
-use lib.ListN.{length, replicate}
 use Rattle.utf8.specs.Utf8.{within, one, two, lead3, three, lead4, four, firstOf, first}
 use Rattle.utf8.specs.Chars.{charsFrom, validFrom, startBefore}
 use Rattle.utf8.specs.Encode.{scalar, size, encode, encodeAll}
@@ -22,23 +21,25 @@ use Rattle.lines.specs.Lines.{startOfLine, beforeNewline, endOfLine, linesDown,
 use Rattle.lines.specs.Columns.{nthCluster, lineAbove, lineBelow, lineUp, lineDown}
 use Rattle.checks.specs.Checks.{refusal}
 use Rattle.checks.specs.Answers.{says, places}
-use Rattle.checks.specs.declared.Line.{Line}
 use Rattle.copies.specs.Copy.{copied, startsAfter, copyCall}
 use Rattle.movement.specs.Moves.{called, moveForward, moveToPrevWord, moveToNextWord, moveTo, moveToLineUp}
-use Rattle.journal.specs.Change.{Change, edit, insert, delete}
-use Rattle.journal.specs.Layout.{narrow, encodeRecords, encodeTexts, sizeOf, textsAt, changeAt, wholeAt, decodeAt}
+use Rattle.journal.specs.Change.{edit, insert, delete}
+use Rattle.journal.specs.Layout.{narrow, sizeOf, textsAt, changeAt, wholeAt, decodeAt}
 use Rattle.journal.specs.Recording.{note, recordInsert, recordInsertStr, recordDelete}
 use Rattle.journal.specs.Undo.{undoRecords, undoTexts, allSmall, fits}
 use Rattle.journal.specs.Groups.{endAll, endsAny}
 use Rattle.changeset.specs.Logs.{overSizes, damaged}
-use Rattle.changeset.specs.Calls.{undos, redos, row, logOf, truncateCall}
+use Rattle.changeset.specs.Calls.{undos, redos}
 use Rattle.changeset.specs.Outcomes.{beginOut, endOut}
-use Rattle.edit.specs.Plan.{splice, textAfter, listAfter, tooLong, State, Outcome, answered, edited}
-use Rattle.edit.specs.Calls.{Lent, lent, logLent}
+use Rattle.edit.specs.Plan.{splice, textAfter, listAfter, tooLong, answered, edited}
 use Rattle.buffer.specs.Edit.{copies}
 use Rattle.rewrites.specs.Rewrites.{actionList, editWordCall, transposeWordsCall}
 use Rattle.retrace.specs.Retrace.{misfit, exchanging, undoing as Retrace·undoing}
 use Rattle.undo.specs.Undo as undos
+use Rattle.kill_ring.specs.declared.Action.the-variants.{Yank}
+use Rattle.kill_ring.specs.Ring as ring
+use Rattle.kill_ring.specs.Calls as ringCalls
+use Rattle.session.proofs.PlayedRing as playedRing
 use Rattle.session.proofs.Played.{at, state, lending, typing, beginning, ending, undoing, cancelling, truncating, after}
 
 -- "e", U+0301, "x"
@@ -80,6 +81,10 @@ box = 0x62 ∷ 0x6F ∷ 0x78 ∷ []
 -- "parish"
 abbrev firstWord : List ℕ
 firstWord = 0x70 ∷ 0x61 ∷ 0x72 ∷ 0x69 ∷ 0x73 ∷ 0x68 ∷ []
+
+-- a ring of 2 with the slots c and b, its index, after a yank of one byte
+abbrev cb : ℕ → ring.KillRing
+cb i = record { size = 2; slots = (0x63 ∷ []) ∷ (0x62 ∷ []) ∷ []; index = i; action = Yank 1 }
 
 -- codes: words Big 0, Emacs 1, Vi 2; stops Start 0, BeforeEnd 1, AfterEnd 2; search Forward 0; movement LineDown 10; case action Uppercase 2
 pub record Cases : Type 0 where
@@ -123,9 +128,13 @@ pub record Cases : Type 0 where
   pub p12 :
       (after (typing 0x71 ∷ beginning ∷ truncating 1 ∷ beginning ∷ typing 0x72 ∷ ending ∷ undoing 1 ∷ []) .text ≡ [])
       × (after (typing 0x71 ∷ beginning ∷ cancelling 1 ∷ beginning ∷ typing 0x72 ∷ ending ∷ undoing 1 ∷ []) .text ≡ 0x71 ∷ [])
+  -- ring of 2, kills a, b, c with resets: yank c, pops b, c
+  pub p13 :
+      (ringCalls.yankCall catalogue (playedRing.lending (playedRing.after 2 (playedRing.killing (0x61 ∷ []) ∷ playedRing.resetting ∷ playedRing.killing (0x62 ∷ []) ∷ playedRing.resetting ∷ playedRing.killing (0x63 ∷ []) ∷ []))) ≡ ring.answered 0 0 0 (cb 0))
+      × (ringCalls.yankPopCall catalogue (playedRing.lending (cb 0)) ≡ ring.answered 0 1 1 (cb 1)) × (ringCalls.yankPopCall catalogue (playedRing.lending (cb 1)) ≡ ring.answered 0 0 1 (cb 0))
 
 pub cases : Cases
-unfolding within one two lead3 three lead4 four firstOf first charsFrom validFrom startBefore scalar size isMember isControl isMark isAlnum isWhite widthOf isText isChar joined clusters wordList atList searchList columnAfter columnsAfter width sizes nextPos prevPos matches nthMatch afterCluster matchForward matchBackward isStartOfWord landsBehind marks graphemeIndices scan walk landsOn nextWord noWord landed nextWordPos prevWord prevWordPos startOfLine beforeNewline endOfLine nthCluster lineAbove lineBelow lineUp lineDown linesDown nLinesDown movements copied startsAfter refusal called isSmall isCapital upperOf lowerOf encode encodeAll caseAll cased firstAlnum skipWhitespace sizeOf textsAt changeAt wholeAt decodeAt note recordInsert recordInsertStr recordDelete undoRecords undoTexts allSmall fits overSizes damaged undos redos splice textAfter listAfter tooLong edited copies actionList beginOut endOut endAll endsAny misfit exchanging Retrace·undoing undos.walk undos.undoOut undos.opens undos.walkTo undos.beginsDown undos.cancelOut
+unfolding within one two lead3 three lead4 four firstOf first charsFrom validFrom startBefore scalar size isMember isControl isMark isAlnum isWhite widthOf isText isChar joined clusters wordList atList searchList columnAfter columnsAfter width sizes nextPos prevPos matches nthMatch afterCluster matchForward matchBackward isStartOfWord landsBehind marks graphemeIndices scan walk landsOn nextWord noWord landed nextWordPos prevWord prevWordPos startOfLine beforeNewline endOfLine nthCluster lineAbove lineBelow lineUp lineDown linesDown nLinesDown movements copied startsAfter refusal called isSmall isCapital upperOf lowerOf encode encodeAll caseAll cased firstAlnum skipWhitespace sizeOf textsAt changeAt wholeAt decodeAt note recordInsert recordInsertStr recordDelete undoRecords undoTexts allSmall fits overSizes damaged undos redos splice textAfter listAfter tooLong edited copies actionList beginOut endOut endAll endsAny misfit exchanging Retrace·undoing undos.walk undos.undoOut undos.opens undos.walkTo undos.beginsDown undos.cancelOut ring.putAt ring.killOut ring.yankOut ring.yankPopOut ringCalls.slotsFrom ringCalls.anyOver ringCalls.overSizes ringCalls.actionBreaks ringCalls.anyForeign ringCalls.damaged ringCalls.modeList
 cases =
     record {
       p1 = (refl, refl);
@@ -140,4 +149,5 @@ cases =
       p10 = refl;
       p11 = (refl, refl);
       p12 = (refl, refl);
+      p13 = (refl, refl, refl);
     }

@@ -1,5 +1,5 @@
 -- From the invariant of the state that a list of calls leaves to what demand 3 says of it. Assumes nothing.
-use Prim.Native.Nat.{ℕ, zero, suc, _+_, _≤_}
+use Prim.Native.Nat.{ℕ, _+_, _≤_}
 use native.Mathlib.Omega.{arith}
 use mathlib.Core.Path.{_≡_, sym, ap, _∙_, subst}
 use mathlib.Core.Bool.{false}
@@ -11,7 +11,7 @@ use Rattle.checks.specs.Checks.{ownTests}
 use Rattle.edit.specs.Plan.{State, Outcome, called}
 use Rattle.edit.specs.Calls.{checked, stateOf}
 use Rattle.undo.specs.Undo.{undoOut, redoOut}
-use Rattle.session.specs.Sessions.{Buffers, Handed, lentFor, leaves, numberIn}
+use Rattle.session.specs.Sessions.{Buffers, Handed, lentFor, leaves}
 use Rattle.session.specs.Demand.{Undo, SameTextAndLog, undid, redid, afterUndo, afterRedo, Answered, undoAll, AllHanded, AllAnswered, Units, Demand3}
 use Rattle.session.proofs.Invariant.{Bound, Inv}
 use Rattle.session.proofs.Handed.{found, passes, few}

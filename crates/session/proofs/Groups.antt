@@ -19,12 +19,12 @@ use Rattle.changeset.specs.Logs.{logTests}
 use Rattle.changeset.specs.Outcomes as log
 use Rattle.changeset.specs.Outcomes.{beginOut, endOut}
 use Rattle.changeset.specs.Calls as logs
-use Rattle.edit.specs.Plan.{State, Outcome, refused}
+use Rattle.edit.specs.Plan.{State, Outcome, refused, called}
 use Rattle.edit.specs.Calls.{Lent, logLent, sizesOf, stateOf}
 use Rattle.session.specs.Calls.{Asked, loggedBy, outcomeOf}
 use Rattle.session.specs.Calls as asked
 use Rattle.session.specs.Sessions.{leaves, openAfter}
-use Rattle.session.proofs.Invariant.{Nest, Open, Groups, Chain, Inv}
+use Rattle.session.proofs.Invariant.{Nest, Open, Groups, Chain, Inv, no-redo}
 
 -- ---- end's loop
 -- a list that has no Begin on top
@@ -125,35 +125,28 @@ module _ (R : Repertoire) (F : Format) (Q : List ℕ → Type 0) (t₀ : List �
     unfolding beginOut fits allSmall
     begin-made =
         by-test (Keeps asked.begin (loggedBy R F l (beginOut F (sizesOf l) (s .log))) s g) (ltb level 255 && fits F (sizesOf l) (begin ∷ u))
-        (λ e. rw e (record {
-          here = record { chain = v .here .chain; text = v .here .text; allowed = v .here .allowed; groups = opened (v .here .groups) };
-          goal = s .text;
-          forth = refl;
-          nested = refl;
-          cursor = v .cursor;
-          undo-small = v .undo-small;
-          redo-small = refl;
-        }))
+        (λ e. rw e
+        (no-redo R F Q t₀ _ _ _ _ _ (record { chain = v .here .chain; text = v .here .text; allowed = v .here .allowed; groups = opened (v .here .groups) }) (v .cursor) (v .undo-small)))
         (λ e. rw e v)
 
     -- the Ends: check 10, then no group open, whether one was put or not
     end-made : Keeps asked.end (loggedBy R F l (endOut F (sizesOf l) (s .log))) s g
-    unfolding endOut fits allSmall
+    unfolding endOut fits
     end-made =
         by-test (Keeps asked.end (loggedBy R F l (endOut F (sizesOf l) (s .log))) s g) (fits F (sizesOf l) (endAll level u))
         (λ e. by-test (Keeps asked.end (loggedBy R F l (endOut F (sizesOf l) (s .log))) s g) (endsAny level u) (λ f. rw (e, f) (left e)) (λ f. rw (e, f) (left e)))
         (λ e. rw e v)
       where
         left : fits F (sizesOf l) (endAll level u) ≡ true → Inv R F Q t₀ (record { text = s .text; cursor = s .cursor; log = ended (s .log) }) []
-        left e = record {
-          here = record { chain = end-chain R Q t₀ level u (s .text) (v .here .chain); text = v .here .text; allowed = v .here .allowed; groups = record { opened = end-closes level u (v .here .groups .opened); marks = refl } };
-          goal = s .text;
-          forth = refl;
-          nested = refl;
-          cursor = v .cursor;
-          undo-small = and-both (allSmall (F .width) (endAll level u)) _ e .0;
-          redo-small = refl;
-        }
+        left e =
+            no-redo R F Q t₀ (s .text) (s .cursor) 0 (endAll level u) []
+            (record {
+              chain = end-chain R Q t₀ level u (s .text) (v .here .chain);
+              text = v .here .text;
+              allowed = v .here .allowed;
+              groups = record { opened = end-closes level u (v .here .groups .opened); marks = refl };
+            })
+            (v .cursor) (and-both (allSmall (F .width) (endAll level u)) _ e .0)
 
     -- places found or none: all is as it was
     last-insert-made : (p : Option Places) → Keeps asked.lastInsert (loggedBy R F l (log.placesOut p (s .log))) s g
@@ -167,14 +160,21 @@ module _ (R : Repertoire) (F : Format) (Q : List ℕ → Type 0) (t₀ : List �
     held = subst (λ (x : State). Inv R F Q t₀ x g) (sym is) v
 
     -- refused by 2 or more, or what the call does
-    called-keeps : (a : Asked) (n : ℕ) (o : log.Outcome) → (n ≡ 1 → ⊥) → Keeps a (loggedBy R F l o) (stateOf R F l) g → Keeps a (loggedBy R F l (log.called n o)) s g
-    called-keeps a zero o h k = subst (λ (x : State). Keeps a (loggedBy R F l o) x g) is k
-    called-keeps a (suc zero) o h k = absurd (h refl)
-    called-keeps a (suc (suc n)) o h k = refused-keeps a n s g v
+    pub by-checks : (a : Asked) (n : ℕ) (o : Outcome) → (n ≡ 1 → ⊥) → (n ≡ 0 → Keeps a o (stateOf R F l) g) → Keeps a (called n o) s g
+    by-checks a zero o h k = subst (λ (x : State). Keeps a o x g) is (k refl)
+    by-checks a (suc zero) o h k = absurd (h refl)
+    by-checks a (suc (suc n)) o h k = refused-keeps a n s g v
+
+    -- the log's refusals are the call's
+    logged : (n : ℕ) (o : log.Outcome) → called n (loggedBy R F l o) ≡ loggedBy R F l (log.called n o)
+    logged zero o = refl
+    logged (suc n) o = refl
 
     -- so by the checks of a lent log
     checked-keeps : (a : Asked) (o : log.Outcome) → Keeps a (loggedBy R F l o) (stateOf R F l) g → Keeps a (loggedBy R F l (log.called (logs.checked R F (logLent l) false) o)) s g
-    checked-keeps a o k = called-keeps a (logs.checked R F (logLent l) false) o (not-one (both (logTests R F (l .log) (l .records) (l .texts)) (ownTests false false false))) k
+    checked-keeps a o k =
+        let n = logs.checked R F (logLent l) false in
+        subst (λ (x : Outcome). Keeps a x s g) (logged n o) (by-checks a n (loggedBy R F l o) (not-one (both (logTests R F (l .log) (l .records) (l .texts)) (ownTests false false false))) (λ e. k))
 
     -- begin opens a group with the mark that it answers
     pub begin-keeps : Keeps asked.begin (outcomeOf R F l asked.begin) s g

@@ -1,32 +1,25 @@
 -- A state that a list of calls leaves, in the next call's buffers: the call finds the state there, and checks 2 to 8 pass it. Assumes nothing.
-use Prim.Native.Nat.{ℕ, zero, suc, _+_, _≤_}
+use Prim.Native.Nat.{ℕ, _≤_}
 use native.Mathlib.Omega.{arith}
-use mathlib.Core.Path.{_≡_, refl, ap, _∙_}
+use mathlib.Core.Path.{_≡_, refl, ap}
 use mathlib.Core.Bool.{true, false, _&&_}
 use mathlib.Core.List.{List, [], _∷_, _++_, map, reverse}
 use lib.Dec.{ltb}
-use lib.ListN.{length, length-append}
+use lib.ListN.{length, length-append, length-reverse}
 use borrow.Author.Tests.{ltb-true}
 use Rattle.lists.proofs.Bools.{and-both}
 use Rattle.unicode.specs.Repertoire.{Repertoire}
 use Rattle.unicode.specs.Text.{isText}
 use Rattle.checks.specs.Checks.{ownTests}
 use Rattle.journal.specs.Change.{Edit, insert, delete, replace, Change, begin, end, edit, old, new, turn}
-use Rattle.journal.specs.Layout.{Format, top, Good, AllGood, encodeRecords, recordOf}
-use Rattle.journal.specs.Undo.{small, allSmall, undoRecords}
-use Rattle.journal.proofs.Decode.{record-pos}
-use Rattle.journal.proofs.Undo.{records-size}
-use Rattle.journal.proofs.Holds.{records-append}
+use Rattle.journal.specs.Layout.{Format, top, Good, AllGood, encodeRecords}
+use Rattle.journal.specs.Undo.{small, allSmall}
+use Rattle.journal.proofs.Decode.{records-many}
 use Rattle.edit.specs.Plan.{State}
 use Rattle.edit.specs.Calls.{checked, stateOf}
 use Rattle.edit.proofs.Held.{take-within, state-held, state-passes}
 use Rattle.session.specs.Sessions.{Buffers, Handed, lentFor}
 use Rattle.session.proofs.Invariant.{Chain, Inv}
-
--- each record takes a byte at least
-pub records-many : (F : Format) (u : List Change) → length u ≤ length (undoRecords F u)
-records-many F [] = omega arith
-records-many F (c ∷ u) = omega (arith, records-many F u, records-size F c u, record-pos F c)
 
 module _ (R : Repertoire) where
   -- a record whose numbers fit their bytes and whose texts are of the repertoire
@@ -80,9 +73,7 @@ module _ (R : Repertoire) where
 
     -- there are no more records than a repeat count can name
     pub few : length (s .log .undo) ≤ 32768
-    unfolding undoRecords
     few =
-        omega (arith, records-many F (s .log .undo), rows, take-within (length (encodeRecords F (reverse (s .log .undo) ++ map turn (s .log .redo)))) (b .records) (ap length (h .stored .log .records)), h .sized .records)
-      where
-        rows : length (encodeRecords F (reverse (s .log .undo) ++ map turn (s .log .redo))) ≡ length (undoRecords F (s .log .undo)) + length (encodeRecords F (map turn (s .log .redo)))
-        rows = ap length (records-append F (reverse (s .log .undo)) (map turn (s .log .redo))) ∙ length-append (encodeRecords F (reverse (s .log .undo))) (encodeRecords F (map turn (s .log .redo)))
+        let u = s .log .undo in
+        let r = map turn (s .log .redo) in
+        omega (arith, length-reverse u, length-append (reverse u) r, records-many F (reverse u ++ r), take-within (length (encodeRecords F (reverse u ++ r))) (b .records) (ap length (h .stored .log .records)), h .sized .records)

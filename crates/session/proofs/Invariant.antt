@@ -1,16 +1,17 @@
 -- What every list of calls keeps: the undo list leads from the text back to the first one, the redo list onward; groups are closed but for the open ones.
 -- Q is what holds of every text on the way. Assumes nothing.
 use Prim.Native.Nat.{ℕ, zero, suc, _≤_}
-use mathlib.Core.Path.{_≡_}
+use mathlib.Core.Path.{_≡_, refl}
 use mathlib.Core.Bool.{true}
 use mathlib.Core.List.{List, [], _∷_, _++_}
 use lib.ListN.{length}
+use Rattle.utf8.specs.Chars.{In}
 use Rattle.unicode.specs.Repertoire.{Repertoire}
 use Rattle.unicode.specs.Text.{isText}
 use Rattle.journal.specs.Change.{Change, begin, end, edit, place, old, new}
 use Rattle.journal.specs.Layout.{Format}
 use Rattle.journal.specs.Undo.{allSmall}
-use Rattle.edit.specs.Plan.{In, State}
+use Rattle.edit.specs.Plan.{State}
 
 -- d Ends wait for their Begin, and each Begin down the list has its End
 abbrev pub Nest : ℕ → List Change → Type 0
@@ -83,3 +84,9 @@ module _ (R : Repertoire) where
     pub cursor : In (s .text) (s .cursor) (s .cursor)
     pub undo-small : allSmall (F .width) (s .log .undo) ≡ true
     pub redo-small : allSmall (F .width) (s .log .redo) ≡ true
+
+  -- with nothing to redo
+  pub no-redo : (F : Format) (Q : List ℕ → Type 0) (t₀ t : List ℕ) (c k : ℕ) (u : List Change) (g : List ℕ) → Here Q t₀ k g t u → In t c c → allSmall (F .width) u ≡ true
+      → Inv F Q t₀ (record { text = t; cursor = c; log = record { undo = u; redo = []; level = k } }) g
+  unfolding allSmall
+  no-redo F Q t₀ t c k u g h i e = record { here = h; goal = t; forth = refl; nested = refl; cursor = i; undo-small = e; redo-small = refl }

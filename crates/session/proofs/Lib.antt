@@ -16,4 +16,5 @@ pub mod Next
 pub mod Played
 pub mod Needed
 pub mod Example
+pub mod PlayedRing
 pub mod Cases

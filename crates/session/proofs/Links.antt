@@ -1,20 +1,20 @@
 -- The laws of a link: its record is undone without a stop, and turned round it leads back. Assumes nothing.
-use Prim.Native.Nat.{ℕ, _+_, _≤_}
+use Prim.Native.Nat.{ℕ, _+_, _-_, _≤_}
 use native.Mathlib.Omega.{arith}
 use mathlib.Core.Path.{_≡_, ap, _∙_}
-use mathlib.Core.Bool.{true, false}
+use mathlib.Core.Bool.{true}
 use mathlib.Core.List.{List, _++_}
 use lib.ListN.{length, length-append}
 use lib.Seq.{take-append-seam, drop-append-seam, take-append-add, drop-append-add}
-use borrow.Author.Tests.{le-leb, le-ltb}
-use Rattle.utf8.specs.Chars.{boundary, valid}
+use Rattle.utf8.specs.Chars.{boundary, In, valid}
 use Rattle.utf8.proofs.Append.{valid-append}
 use Rattle.unicode.specs.Repertoire.{Repertoire}
 use Rattle.unicode.specs.Text.{isText}
 use Rattle.unicode.proofs.Text.{text-append, text-valid}
 use Rattle.journal.specs.Change.{Edit, insert, delete, replace, edit, place, old, new, flipped}
-use Rattle.edit.specs.Plan.{In, splice}
-use Rattle.retrace.specs.Retrace.{Trail, done, misfit, exchanging, undoing}
+use Rattle.edit.specs.Plan.{splice}
+use Rattle.retrace.specs.Retrace.{Trail, done, exchanging, undoing}
+use Rattle.retrace.proofs.Exchanges.{swaps}
 use Rattle.session.proofs.Invariant.{Bound, Link}
 
 -- ---- a text n between two others, a and b
@@ -31,22 +31,21 @@ boundary-behind a n b v w =
 within : (a n b : List ℕ) → length a + length n ≤ length (a ++ (n ++ b))
 within a n b = simp length-append (omega arith)
 
--- it is taken out without a stop by 12
-not-misfit : (a n b : List ℕ) → valid a ≡ true → valid n ≡ true → misfit (a ++ (n ++ b)) (length a) (length n) ≡ false
-unfolding misfit
-not-misfit a n b v w =
-    rw (le-leb (length a + length n) (length (a ++ (n ++ b))) (within a n b), boundary-before a (n ++ b) v, boundary-behind a n b v w)
-
 -- o in its place
 splice-between : (a n b o : List ℕ) → splice (a ++ (n ++ b)) (length a) (length a + length n) o ≡ a ++ (o ++ b)
 unfolding splice
 splice-between a n b o = rw (take-append-seam, drop-append-add, drop-append-seam)
 
--- and where the text is no longer than C, without a stop by 9
+-- it is taken out without a stop by 12, and where the text is then no longer than C, without a stop by 9
 exchanged : (C : ℕ) (a n b o : List ℕ) → valid a ≡ true → valid n ≡ true → length (a ++ (o ++ b)) ≤ C
     → exchanging C (length a) (length n) o (a ++ (n ++ b)) ≡ done (record { text = a ++ (o ++ b); cursor = length a + length o; undone = true })
-unfolding exchanging
-exchanged C a n b o v w h = rw (not-misfit a n b v w, splice-between a n b o, le-ltb C (length (a ++ (o ++ b))) h)
+exchanged C a n b o v w h =
+    swaps C (length a) (length n) o (a ++ (n ++ b))
+    (record { ends = within a n b; first = boundary-before a (n ++ b) v; last = boundary-behind a n b v w; room = room })
+    ∙ ap (λ (t : List ℕ). done (record { text = t; cursor = length a + length o; undone = true })) (splice-between a n b o)
+  where
+    room : length (a ++ (n ++ b)) - length n + length o ≤ C
+    room = omega (arith, length-append a (n ++ b), length-append n b, length-append a (o ++ b), length-append o b)
 
 module _ (R : Repertoire) {Q : List ℕ → Type 0} where
   -- the record of a link undone: its first text, with the cursor behind what was put back
@@ -60,7 +59,7 @@ module _ (R : Repertoire) {Q : List ℕ → Type 0} where
       rw (← l .place, l .there, l .here) (exchanged C a (new x) b (old x) (text-valid R a (l .before-text)) (text-valid R (new x) (l .new-text)) k)
 
   -- a link seen from its other text
-  turned : {p : ℕ} {o n t t′ : List ℕ} → Link R Q p o n t t′ → Link R Q p n o t′ t
+  pub turned : {p : ℕ} {o n t t′ : List ℕ} → Link R Q p o n t t′ → Link R Q p n o t′ t
   turned l =
       record {
         before = l .before;

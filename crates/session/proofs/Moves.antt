@@ -7,7 +7,7 @@ use mathlib.Core.List.{List}
 use lib.Dec.{eqb, leb}
 use lib.ListN.{length}
 use borrow.Author.Tests.{ltb-false, not-false}
-use Rattle.utf8.specs.Chars.{valid, boundary}
+use Rattle.utf8.specs.Chars.{valid, boundary, In}
 use Rattle.utf8.proofs.Boundary.{boundary-zero, boundary-end}
 use Rattle.unicode.specs.Repertoire.{Repertoire}
 use Rattle.unicode.specs.Text.{isText, isChar}
@@ -43,7 +43,7 @@ use Rattle.movement.specs.Moves as moves
 use Rattle.movement.specs.Moves.{called, elsewhere, tells, placeTests, promptTests}
 use Rattle.copies.specs.Copy.{ranged, copied, copyBy, copyTests}
 use Rattle.journal.specs.Layout.{Format}
-use Rattle.edit.specs.Plan.{In, State}
+use Rattle.edit.specs.Plan.{State}
 use Rattle.edit.specs.Calls.{Lent, textOf, stateOf}
 use Rattle.session.specs.Calls.{MoveCall, moveAnswer, movedBy}
 use Rattle.session.specs.Calls as asked

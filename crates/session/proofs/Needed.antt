@@ -1,6 +1,6 @@
 -- That each condition of demand 3 is needed: the smallest lists of calls that break a conclusion without it, computed. Assumes nothing.
 use mathlib.Core.Path.{_≡_, refl}
-use mathlib.Core.List.{List, [], _∷_}
+use mathlib.Core.List.{[], _∷_}
 use Prim.Native.Nat.{ℕ}
 use Rattle.utf8.specs.Utf8.{within, one, two, lead3, three, lead4, four, firstOf, first}
 use Rattle.utf8.specs.Chars.{charsFrom, validFrom, startBefore}
@@ -19,7 +19,7 @@ use Rattle.journal.specs.Groups.{endAll, endsAny}
 use Rattle.changeset.specs.Logs.{overSizes, damaged}
 use Rattle.changeset.specs.Calls.{undos, redos}
 use Rattle.changeset.specs.Outcomes.{beginOut, endOut}
-use Rattle.edit.specs.Plan.{State, answered, splice, textAfter, listAfter, tooLong, edited}
+use Rattle.edit.specs.Plan.{answered, splice, textAfter, listAfter, tooLong, edited}
 use Rattle.retrace.specs.Retrace.{misfit, exchanging, undoing as Retrace·undoing}
 use Rattle.undo.specs.Undo.{walk, undoOut, redoOut}
 use Rattle.session.specs.Calls as calls

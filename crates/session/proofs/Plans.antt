@@ -2,13 +2,13 @@
 use Prim.Native.Nat.{ℕ, _+_, _-_, _≤_}
 use native.Mathlib.Omega.{arith}
 use mathlib.Core.Path.{_≡_, refl}
-use mathlib.Core.Bool.{Bool, true, false, cond, not, _||_}
+use mathlib.Core.Bool.{Bool, true, false, cond, not}
 use mathlib.Core.List.{List}
 use lib.Dec.{ltb}
 use lib.ListN.{length}
 use borrow.Author.Tests.{ltb-false, not-false}
-use Rattle.lists.proofs.Bools.{or-none, never}
-use Rattle.utf8.specs.Chars.{boundary}
+use Rattle.lists.proofs.Bools.{never}
+use Rattle.utf8.specs.Chars.{boundary, In}
 use Rattle.unicode.specs.Repertoire.{Repertoire, Lawful}
 use Rattle.unicode.specs.Text.{isText, isChar}
 use Rattle.keymap.specs.Codes.{movementOf}
@@ -16,17 +16,18 @@ use Rattle.keymap.specs.declared.Movement.{Movement}
 use Rattle.keymap.specs.declared.Movement.the-variants as m
 use Rattle.keymap.specs.declared.MovementCode.{MovementCode}
 use Rattle.keymap.specs.declared.MovementCode.the-variants as code
-use Rattle.checks.specs.Checks.{Tests, both, ownTests}
-use Rattle.checks.proofs.Fit.{Passed, fit}
+use Rattle.checks.specs.Checks.{Tests, ownTests}
+use Rattle.checks.proofs.Fit.{Passed}
 use Rattle.copies.specs.Copy.{isForeign}
 use Rattle.journal.specs.Layout.{Format}
-use Rattle.changeset.specs.Logs.{logTests}
-use Rattle.edit.specs.Plan.{In, Plan, Outcome, once, nothing, cutting, swapping, AllSuit, textAfter}
+use Rattle.edit.specs.Plan.{Plan, Outcome, once, nothing, cutting, swapping}
 use Rattle.edit.specs.Calls.{Lent, textOf, checked, editCall}
-use Rattle.edit.proofs.Suits.{nothing-suits, nothing-cursor, cutting-suits, cutting-cursor, swapping-suits, swapping-cursor}
+use Rattle.edit.proofs.Tests.{own-passed}
+use Rattle.edit.proofs.Suits.{PlanSuits, nothing-suits, nothing-cursor, cutting-suits, cutting-cursor, swapping-suits, swapping-cursor}
 use Rattle.kills.specs.Kills.{killRange, cutPlan, killOf, killBy, placesPlan}
 use Rattle.kills.proofs.Suits.{kill-suits, kill-cursor, delete-suits, delete-cursor}
 use Rattle.ranges.specs.Ranges.{rangeTests, replaceTests}
+use Rattle.ranges.proofs.Tests.{range-in}
 use Rattle.inserts.specs.Inserts.{textTests, insertPlan, yankPlan, yankPopPlan, updatePlan}
 use Rattle.inserts.proofs.Suits.{insert-suits, insert-cursor, yank-suits, yank-cursor, yank-pop-suits, yank-pop-cursor, update-suits, update-cursor}
 use Rattle.rewrites.specs.Rewrites.{transposeCharsPlan, editWordPlan, transposeWordsPlan, actionOf, editWordBy}
@@ -44,22 +45,7 @@ pub record Planned (R : Repertoire) (F : Format) (l : Lent) (o : Outcome) : Type
   pub own : Tests
   pub plan : Plan
   pub is : o ≡ editCall R F l own plan
-  pub suits : checked R F l own ≡ 0 → AllSuit R (plan .pieces) (textOf l) × In (textAfter (plan .pieces) (textOf l)) (plan .cursor) (plan .cursor)
-
--- where the checks pass, the call's own tests do
-pub own-passed : (R : Repertoire) (F : Format) (l : Lent) (own : Tests) → checked R F l own ≡ 0 → Passed own
-own-passed R F l own e =
-    let log = logTests R F (l .log) (l .records) (l .texts) in
-    let p = fit R (l .text) (l .line) (both log own) e .1 in
-    record {
-      sizes = or-none (log .sizes) (own .sizes) (p .sizes) .1;
-      code = p .code;
-      foreign = p .foreign;
-      place = p .place;
-      split = p .split;
-      prompt = p .prompt;
-      damaged = or-none (log .damaged) (own .damaged) (p .damaged) .1;
-    }
+  pub suits : checked R F l own ≡ 0 → PlanSuits R (textOf l) plan
 
 module _ (R : Repertoire) (law : Lawful R) (space : R .member 0x20 ≡ true) (F : Format) (l : Lent) (v : isText R (textOf l) ≡ true) (i : In (textOf l) (l .line .cursor) (l .line .cursor)) (len : l .line .len ≡ length (textOf l)) where
   abbrev t : List ℕ
@@ -68,12 +54,8 @@ module _ (R : Repertoire) (law : Lawful R) (space : R .member 0x20 ≡ true) (F 
   abbrev pos : ℕ
   pos = l .line .cursor
 
-  -- a plan that suits the text and leaves the cursor between characters
-  abbrev Fits : Plan → Type 0
-  Fits p = AllSuit R (p .pieces) t × In (textAfter (p .pieces) t) (p .cursor) (p .cursor)
-
   -- a call by its tests and its plan
-  by-plan : (own : Tests) (p : Plan) → (Passed own → Fits p) → Planned R F l (editCall R F l own p)
+  by-plan : (own : Tests) (p : Plan) → (Passed own → PlanSuits R t p) → Planned R F l (editCall R F l own p)
   by-plan own p f = record { own = own; plan = p; is = refl; suits = λ e. f (own-passed R F l own e) }
 
   -- a code that names nothing
@@ -97,26 +79,18 @@ module _ (R : Repertoire) (law : Lawful R) (space : R .member 0x20 ≡ true) (F 
       (λ q. (delete-suits R t v pos i (m.ForwardChar n), delete-cursor R t v pos i (m.ForwardChar n)))
 
   -- ---- the calls with places of their own
-  -- places that 5 and 6 pass
-  range-in : (a b : ℕ) → ltb (l .line .len) b || ltb b a ≡ false → not (boundary t a) || not (boundary t b) ≡ false → In t a b
-  range-in a b p s =
-      let q = or-none (ltb (l .line .len) b) (ltb b a) p in
-      let w = or-none (not (boundary t a)) (not (boundary t b)) s in
-      let h = ltb-false (l .line .len) b (q .0) in
-      (ltb-false b a (q .1), omega (arith, len), not-false (boundary t a) (w .0), not-false (boundary t b) (w .1))
-
   -- delete_range
   range-deleted : (a b : ℕ) → Planned R F l (editOutcome R F l (asked.deleteRange a b))
   range-deleted a b =
       by-plan (rangeTests R F l a b) (once (cutting a b) a)
-      (λ q. let j = range-in a b (q .place) (q .split) in (cutting-suits R t a b j, cutting-cursor R t a b j))
+      (λ q. let j = range-in l a b len (q .place) (q .split) in (cutting-suits R t a b j, cutting-cursor R t a b j))
 
   -- replace
   replaced : (a b : ℕ) (s : List ℕ) → Planned R F l (editOutcome R F l (asked.replace a b s))
   replaced a b s =
       by-plan (replaceTests R F l a b s) (once (swapping a b s) (a + length s))
       (λ q.
-      let j = range-in a b (q .place) (q .split) in
+      let j = range-in l a b len (q .place) (q .split) in
       let w = not-false (isText R s) (q .foreign) in
       (swapping-suits R t a b j s w, swapping-cursor R t a b j s w))
 

@@ -1,14 +1,16 @@
 -- A change that is recorded, merged or not, keeps the chain of the undo list and its groups; so does a plan of changes that suit the text. Assumes nothing.
-use Prim.Native.Nat.{ℕ, zero, suc, _+_, _-_, _≤_}
+use Prim.Native.Nat.{ℕ, zero, suc, _+_, _≤_}
 use native.Mathlib.Omega.{arith}
-use mathlib.Core.Path.{_≡_, refl, sym, ap, subst, _∙_}
+use mathlib.Core.Path.{_≡_, refl, sym, subst, _∙_}
 use mathlib.Core.Bool.{Bool, true, false}
 use mathlib.Core.List.{List, [], _∷_, _++_, append-assoc}
 use lib.Dec.{eqb, ltb}
 use lib.ListN.{length, take, drop, length-append}
-use lib.Seq.{length-take-le, take-at, drop-at}
+use lib.Seq.{length-take-le}
 use borrow.Author.Tests.{eqb-true, ltb-false}
-use Rattle.lists.proofs.Bools.{and-both, or-none, by-test, never}
+use Rattle.lists.proofs.Bools.{and-both, or-none, by-test}
+use Rattle.lists.proofs.Parts.{halves}
+use Rattle.utf8.specs.Chars.{In}
 use Rattle.unicode.specs.Repertoire.{Repertoire}
 use Rattle.unicode.specs.Text.{isText}
 use Rattle.unicode.proofs.Text.{text-append, text-cut, text-nil}
@@ -16,12 +18,12 @@ use Rattle.journal.specs.Change.{Edit, insert, delete, replace, Change, begin, 
 use Rattle.journal.specs.Layout.{Format}
 use Rattle.journal.specs.Recording.{Joined, apart, joined, joinIf, join, onJoined, note}
 use Rattle.journal.specs.Undo.{Sizes, allSmall, fits}
-use Rattle.edit.specs.Plan.{In, Piece, typed, pasted, cutting, swapping, Plan, State, Suits, AllSuit, part, splice, made, recorded, blank, notedOr, textAfter, listAfter, redoAfter, tooLong, planned, edited}
-use Rattle.edit.proofs.Once.{part-text}
-use Rattle.edit.proofs.Pieces.{editAt, joinsAt, recorded-as, suits-text, made-text}
-use Rattle.indents.proofs.Suits.{parts}
+use Rattle.edit.specs.Plan.{Piece, typed, pasted, cutting, swapping, Plan, State, Suits, AllSuit, part, splice, made, recorded, blank, notedOr, textAfter, listAfter, redoAfter, tooLong, planned, edited}
+use Rattle.edit.proofs.Once.{part-none, part-between, part-text}
+use Rattle.edit.proofs.Pieces.{editAt, joinsAt, recorded-as, suits-text, made-text, blank-texts}
 use Rattle.session.specs.Sessions.{leaves}
 use Rattle.session.proofs.Invariant.{Nest, Groups, Link, Chain, Here, Inv}
+use Rattle.session.proofs.Links.{turned}
 
 -- ---- groups
 -- one change more on top
@@ -47,26 +49,6 @@ groups-note true k g x [] h = groups-add k g x [] h
 groups-note true k g x (begin ∷ u) h = groups-add k g x (begin ∷ u) h
 groups-note true k g x (end ∷ u) h = groups-add k g x (end ∷ u) h
 groups-note true k g x (edit y ∷ u) h = groups-joined (join y x) k g y x u h
-
--- ---- parts of lists
--- two ways to cut one list at one place are one
-pub halves : (a b a′ b′ : List ℕ) → length a ≡ length a′ → a ++ b ≡ a′ ++ b′ → (a ≡ a′) × (b ≡ b′)
-halves a b a′ b′ h e = (
-  sym (take-at a b (length a) refl) ∙ ap (take (length a)) e ∙ take-at a′ b′ (length a) (sym h),
-  sym (drop-at a b (length a) refl) ∙ ap (drop (length a)) e ∙ drop-at a′ b′ (length a) (sym h),
-)
-
--- no bytes stand between a place and itself
-part-none : (t : List ℕ) (a : ℕ) → part t a a ≡ []
-part-none t a = let e : a - a ≡ 0 = omega arith in ap (λ (n : ℕ). take n (drop a t)) e
-
--- a change of nothing has no text
-blank-texts : (x : Edit) → blank x ≡ true → (old x ≡ []) × (new x ≡ [])
-blank-texts (insert p []) h = (refl, refl)
-blank-texts (insert p (b ∷ s)) h = never _ false h refl
-blank-texts (delete p []) h = (refl, refl)
-blank-texts (delete p (b ∷ s)) h = never _ false h refl
-blank-texts (replace p o n) h = never _ false h refl
 
 module _ (R : Repertoire) where
   -- two texts are one text
@@ -96,23 +78,7 @@ module _ (R : Repertoire) where
 
   -- a change and one right in front of it, as one change
   link-before : {Q : List ℕ → Type 0} {q p : ℕ} {o′ n′ o n t₀ t₁ t₂ : List ℕ} → Link R Q q o′ n′ t₀ t₁ → Link R Q p o n t₁ t₂ → q ≡ p + length o → Link R Q p (o ++ o′) (n ++ n′) t₀ t₂
-  link-before {Q} {q} {p} {o′} {n′} {o} {n} {t₀} {t₁} {t₂} l m h =
-      let x : length (l .before) ≡ length (m .before ++ o) = rw length-append (omega (arith, l .place, m .place)) in
-      let y : l .before ++ (n′ ++ l .behind) ≡ (m .before ++ o) ++ m .behind = (sym (l .there) ∙ m .here) ∙ sym (append-assoc (m .before) o (m .behind)) in
-      let z : (l .before ≡ m .before ++ o) × (n′ ++ l .behind ≡ m .behind) = halves (l .before) (n′ ++ l .behind) (m .before ++ o) (m .behind) x y in
-      record {
-        before = m .before;
-        behind = l .behind;
-        here = rw (l .here, z .0) (simp append-assoc);
-        there = rw (m .there, ← z .1) (simp append-assoc);
-        place = m .place;
-        before-text = m .before-text;
-        behind-text = l .behind-text;
-        old-text = both-text o o′ (m .old-text) (l .old-text);
-        new-text = both-text n n′ (m .new-text) (l .new-text);
-        first = l .first;
-        second = m .second;
-      }
+  link-before l m h = turned R (link-after (turned R m) (turned R l) (sym h))
 
   -- no text there and none put in: nothing is changed
   blank-link : {Q : List ℕ → Type 0} {p : ℕ} {o n t t′ : List ℕ} → Link R Q p o n t t′ → o ≡ [] → n ≡ [] → t′ ≡ t
@@ -172,7 +138,7 @@ module _ (R : Repertoire) where
       record {
         before = take a t;
         behind = drop b t;
-        here = parts t a b h;
+        here = part-between t a b h;
         there = refl;
         place = length-take-le a t (omega arith);
         before-text = text-cut R t a v (i .2) .0;

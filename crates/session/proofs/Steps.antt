@@ -1,7 +1,7 @@
 -- Every call keeps the invariant, and so does every list of calls. Q is what holds of every text on the way. Assumes nothing.
-use Prim.Native.Nat.{ℕ, zero, suc, _≤_}
+use Prim.Native.Nat.{ℕ, _≤_}
 use native.Mathlib.Omega.{arith}
-use mathlib.Core.Path.{_≡_, refl, sym, ap, subst}
+use mathlib.Core.Path.{_≡_, sym, ap, subst}
 use mathlib.Core.Bool.{true, false}
 use mathlib.Core.List.{List, [], _∷_}
 use lib.ListN.{length}
@@ -20,7 +20,7 @@ use Rattle.session.proofs.Handed.{found}
 use Rattle.session.proofs.Recorded.{New, plan-keeps}
 use Rattle.session.proofs.Plans.{Planned, planned}
 use Rattle.session.proofs.Moves.{moved-keeps}
-use Rattle.session.proofs.Groups.{not-one, Keeps, refused-keeps, begin-keeps, end-keeps, last-insert-keeps}
+use Rattle.session.proofs.Groups.{not-one, Keeps, by-checks, begin-keeps, end-keeps, last-insert-keeps}
 use Rattle.session.proofs.Units.{undo-keeps, redo-keeps}
 use Rattle.session.proofs.Cancel.{cancel-keeps}
 
@@ -71,22 +71,17 @@ module _ (R : Repertoire) (law : Lawful R) (space : R .member 0x20 ≡ true) (F 
     pub planOf : (x : EditCall) → Planned R F l (editOutcome R F l x)
     planOf x = planned R law space F l (held .here .text) (held .cursor) len x
 
-    -- refused by 2 or more, or what the call does
-    by-checks : (a : Asked) (n : ℕ) (o : Outcome) → (n ≡ 1 → ⊥) → (n ≡ 0 → Keeps R F Q t₀ a o (stateOf R F l) g) → Keeps R F Q t₀ a (called n o) s g
-    by-checks a zero o h k = subst (λ (x : State). Keeps R F Q t₀ a o x g) is (k refl)
-    by-checks a (suc zero) o h k = absurd (h refl)
-    by-checks a (suc (suc n)) o h k = refused-keeps R F Q t₀ a n s g v
-
+    -- an edit, where the texts that it leads to are of Q
     edit-keeps : (x : EditCall) → New Q (length (l .text)) (planOf x .plan .pieces) (textOf l) → Keeps R F Q t₀ (edit x) (outcomeOf R F l (edit x)) s g
     edit-keeps x n =
         let p = planOf x in
         subst (λ (o : Outcome). Keeps R F Q t₀ (edit x) o s g) (sym (p .is))
-        (by-checks (edit x) (checked R F l (p .own)) _ (not-one (both (lineTests R (l .text) (l .line)) (both (logTests R F (l .log) (l .records) (l .texts)) (p .own))))
+        (by-checks R F Q t₀ l s g is v (edit x) (checked R F l (p .own)) _ (not-one (both (lineTests R (l .text) (l .line)) (both (logTests R F (l .log) (l .records) (l .texts)) (p .own))))
         (λ e. plan-keeps R F Q t₀ (sizesOf l) (length (l .text)) (p .plan) (stateOf R F l) g n (p .suits e .0) (p .suits e .1) held))
 
     -- a call of the log that is lent the text too
     log-keeps : (a : Asked) (f : State → Outcome) → Keeps R F Q t₀ a (f (stateOf R F l)) (stateOf R F l) g → Keeps R F Q t₀ a (called (checked R F l (ownTests false false false)) (f (stateOf R F l))) s g
-    log-keeps a f k = by-checks a (checked R F l (ownTests false false false)) (f (stateOf R F l)) (not-one (both (lineTests R (l .text) (l .line)) (both (logTests R F (l .log) (l .records) (l .texts)) (ownTests false false false)))) (λ e. k)
+    log-keeps a f k = by-checks R F Q t₀ l s g is v a (checked R F l (ownTests false false false)) (f (stateOf R F l)) (not-one (both (lineTests R (l .text) (l .line)) (both (logTests R F (l .log) (l .records) (l .texts)) (ownTests false false false)))) (λ e. k)
 
     -- each call, where the texts that an edit leads to are of Q
     pub keeps : Bound Q (length (l .text)) → ((x : EditCall) → New Q (length (l .text)) (planOf x .plan .pieces) (textOf l)) → (a : Asked) → Allowed a g → Keeps R F Q t₀ a (outcomeOf R F l a) s g

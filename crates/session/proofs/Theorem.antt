@@ -1,9 +1,9 @@
 -- Demand 3, as one theorem about whole lists of calls, over any repertoire; and with 01's as the instance. Assumes nothing.
-use Prim.Native.Nat.{ℕ, _≤_}
+use Prim.Native.Nat.{ℕ}
 use native.Mathlib.Omega.{arith}
 use mathlib.Core.Path.{_≡_, refl, sym, ap, ap₂, subst, _∙_}
 use mathlib.Core.Bool.{true, false}
-use mathlib.Core.List.{List, [], _∷_, map, reverse}
+use mathlib.Core.List.{List, [], map, reverse}
 use lib.ListN.{length}
 use lib.Seq.{length-take-le}
 use Rattle.utf8.specs.Utf8.{within}
@@ -19,11 +19,10 @@ use Rattle.journal.proofs.Decode.{decode-encode}
 use Rattle.changeset.specs.Logs.{logTests}
 use Rattle.changeset.specs.Calls as logs
 use Rattle.changeset.specs.declared.Log.{Log}
-use Rattle.edit.specs.Plan.{State}
 use Rattle.edit.specs.Calls.{Lent, lent, textOf, logLent, stateOf}
 use Rattle.session.specs.Sessions.{Buffers, Call, run, lastOf, Listed}
 use Rattle.session.specs.Demand.{Starts, Demand3}
-use Rattle.session.proofs.Invariant.{Inv}
+use Rattle.session.proofs.Invariant.{Inv, no-redo}
 use Rattle.session.proofs.Steps.{Short, run-keeps}
 use Rattle.session.proofs.Demand.{demanded}
 
@@ -56,15 +55,9 @@ module _ (R : Repertoire) (F : Format) where
       let n = length-take-le (l .line .len) (l .text) (f .used) in
       let h = f .within in
       subst (λ (g : groups.Log). Inv R F (Short (length (l .text))) (textOf l) (record { text = textOf l; cursor = l .line .cursor; log = g }) []) (sym e)
-      (record {
-        here = record { chain = refl; text = f .text; allowed = omega (arith, n, f .used); groups = record { opened = refl; marks = refl } };
-        goal = textOf l;
-        forth = refl;
-        nested = refl;
-        cursor = (omega arith, omega arith, f .edge, f .edge);
-        undo-small = refl;
-        redo-small = refl;
-      })
+      (no-redo R F (Short (length (l .text))) (textOf l) (textOf l) (l .line .cursor) 0 [] []
+      (record { chain = refl; text = f .text; allowed = omega (arith, n, f .used); groups = record { opened = refl; marks = refl } })
+      (omega arith, omega arith, f .edge, f .edge) refl)
 
 -- after every list of calls, from an empty log at level 0 and any text, cursor and buffers that the checks pass
 pub demand-3 : (R : Repertoire) → Lawful R → R .member 0x20 ≡ true → (F : Format) (l : Lent) → Starts R F l → (cs : List Call) → Listed R F (buffersOf l) cs (stateOf R F l) []

@@ -7,10 +7,11 @@ use mathlib.Core.List.{List, [], _∷_, nil≢cons}
 use lib.Dec.{eqb}
 use lib.ListN.{length}
 use Rattle.lists.proofs.Bools.{by-test}
+use Rattle.utf8.specs.Chars.{In}
 use Rattle.unicode.specs.Repertoire.{Repertoire}
 use Rattle.journal.specs.Change.{Change, begin, end, edit}
 use Rattle.journal.specs.Layout.{Format}
-use Rattle.edit.specs.Plan.{In, State, Outcome, refused, answered}
+use Rattle.edit.specs.Plan.{State, Outcome, refused, answered}
 use Rattle.undo.specs.Undo.{owed, Walked, walk, numberOf, trailOf, undoneState, undoWalk, undoOut, redoWalk, redoneState, behindNumber, redoOut}
 use Rattle.session.specs.Sessions.{leaves, numberIn}
 use Rattle.session.specs.Demand.{Units, SameTextAndLog}

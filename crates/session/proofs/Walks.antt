@@ -9,26 +9,19 @@ use mathlib.Core.List.{List, [], _∷_}
 use lib.Dec.{ltb}
 use lib.ListN.{length}
 use Rattle.lists.proofs.Bools.{and-both}
+use Rattle.utf8.specs.Chars.{In}
 use Rattle.unicode.specs.Repertoire.{Repertoire}
 use Rattle.unicode.specs.Text.{isText}
 use Rattle.journal.specs.Change.{insert, delete, replace, Change, begin, end, edit, place, old, flipped, turn}
 use Rattle.journal.specs.Layout.{Format, top}
 use Rattle.journal.specs.Undo.{small, allSmall}
-use Rattle.edit.specs.Plan.{In}
+use Rattle.journal.proofs.Groups.{turn-turn}
 use Rattle.retrace.specs.Retrace.{Trail, Tried, done, stops, undoing}
 use Rattle.undo.specs.Undo.{Waiting, owed, passing, settled, Walked, onTried, onSettled, walk}
 use Rattle.session.proofs.Invariant.{Nest, Bound, Chain}
 use Rattle.session.proofs.Links.{undo-link, flip-link, cursor-link, text-link}
 
 -- ---- records turned round
--- twice is not at all
-turn-turn : (x : Change) → turn (turn x) ≡ x
-turn-turn begin = refl
-turn-turn end = refl
-turn-turn (edit (insert p s)) = refl
-turn-turn (edit (delete p s)) = refl
-turn-turn (edit (replace p o n)) = refl
-
 -- the numbers are the same ones
 small-turn : (w : ℕ) (x : Change) → small w (turn x) ≡ small w x
 small-turn w begin = refl

@@ -10,7 +10,7 @@ use Rattle.copies.specs.Copy.{copyCall}
 use Rattle.journal.specs.Layout.{Format}
 use Rattle.changeset.specs.Outcomes as log
 use Rattle.changeset.specs.Calls as logs
-use Rattle.edit.specs.Plan.{State, Outcome, refused, answered}
+use Rattle.edit.specs.Plan.{Outcome, refused, answered}
 use Rattle.edit.specs.Calls.{Lent, logLent, stateOf}
 use Rattle.kills.specs.Kills.{killCall, killLineCall, killBufferCall, discardLineCall, discardBufferCall, deleteCall, backspaceCall, deletePrevWordCall, deleteWordCall, deleteToCall}
 use Rattle.ranges.specs.Ranges.{replaceCall, deleteRangeCall}

@@ -1,7 +1,6 @@
 -- A record that was tried: what it leaves, and that the next one is lent a text and a log that the checks pass. Assumes nothing.
 use Prim.Native.Nat.{ℕ, _+_, _<_}
 use native.Mathlib.Omega.{arith}
-use native.Mathlib.Nat.{add-zero}
 use mathlib.Core.Path.{_≡_, refl, sym, ap, ap₂, subst, _∙_}
 use mathlib.Core.Bool.{Bool, true, false, cond}
 use mathlib.Core.List.{List, _∷_, map, reverse}
@@ -12,7 +11,8 @@ use Rattle.lists.proofs.Bools.{and-both, by-test}
 use Rattle.unicode.specs.Repertoire.{Repertoire, catalogue}
 use Rattle.unicode.specs.Text.{isText}
 use Rattle.unicode.proofs.Text.{text-nil, text-valid}
-use Rattle.utf8.specs.Chars.{boundary}
+use Rattle.utf8.specs.Chars.{boundary, In}
+use Rattle.journal.proofs.Groups.{turn-turn}
 use Rattle.journal.specs.Change.{Edit, insert, delete, replace, Change, begin, end, edit, place, old, new, turn}
 use Rattle.journal.specs.Layout.{Format, okChange, Good, AllGood}
 use Rattle.journal.specs.Groups as groups
@@ -20,17 +20,16 @@ use Rattle.journal.proofs.Holds.{good-right}
 use Rattle.changeset.specs.declared.Log.{Log}
 use Rattle.changeset.specs.Calls as log
 use Rattle.changeset.proofs.Recorded.{good}
-use Rattle.edit.specs.Plan.{In, splice}
+use Rattle.edit.specs.Plan.{splice}
 use Rattle.edit.specs.Calls.{Lent, logLent, stateOf, Stored, Ready}
 use Rattle.edit.proofs.Answers.{cursor-in}
 use Rattle.edit.proofs.Held.{state-held, state-ready}
-use Rattle.edit.proofs.Pieces.{splice-text, splice-behind}
-use Rattle.edit.proofs.Splice.{splice-length}
+use Rattle.edit.proofs.Pieces.{splice-text, splice-end}
 use Rattle.retrace.specs.declared.Step.{Step}
 use Rattle.retrace.specs.Retrace.{Trail, Tried, done, stops, misfit, exchanging, undoing}
 use Rattle.retrace.specs.Records.{stepTo, Retraced}
 use Rattle.undo.specs.Steps.{trailBy, lineOf, lentBy, stateAt, fromOf, passLog, Leaves}
-use Rattle.undo.proofs.Seams.{turn-turn, held}
+use Rattle.undo.proofs.Seams.{held}
 
 -- ---- a stop has a number over 1
 abbrev pub Numbered : Tried → Type 0
@@ -85,9 +84,7 @@ module _ (R : Repertoire) where
       (λ b. rw (a, b) (fit (not-misfit t p n a))))
     where
       fit : In t p (p + n) → (isText R (splice t p (p + n) s) ≡ true) × In (splice t p (p + n) s) (p + length s) (p + length s)
-      fit i =
-          let c : boundary (splice t p (p + n) s) (p + length s) ≡ true = ap (boundary (splice t p (p + n) s)) (sym (add-zero (p + length s))) ∙ splice-behind t p (p + n) s i (text-valid R s e) 0 ∙ ap (boundary t) (add-zero (p + n)) ∙ i .3 in
-          (splice-text t p (p + n) s i R v e, (omega arith, omega (arith, splice-length t p (p + n) s (i .0) (i .1), i .1), c, c))
+      fit i = (splice-text t p (p + n) s i R v e, splice-end t p (p + n) s i (text-valid R s e))
 
   -- what is put back is of the repertoire
   old-text : (x : Edit) → okChange R (edit x) ≡ true → isText R (old x) ≡ true

@@ -1,13 +1,12 @@
--- The row of records in the two buffers: the change that stands at a place of it is read there, and the seam between the two lists moves. Assumes nothing.
+-- The row of records in the two buffers: the change that stands at a place of it is read there. Assumes nothing.
 use Prim.Native.Nat.{ℕ, _+_, _-_, _≤_, _<_}
 use native.Mathlib.Omega.{arith}
 use mathlib.Core.Path.{_≡_, refl, sym, ap, subst, _∙_}
 use mathlib.Core.List.{List, _∷_, _++_, append-assoc}
 use lib.ListN.{length, getD, take, drop, length-append, take-append-drop}
-use lib.Seq.{length-take-le}
 use Rattle.unicode.specs.Repertoire.{Repertoire}
 use Rattle.journal.specs.Change.{Change}
-use Rattle.journal.specs.Layout.{Format, recordOf, textsOf, encodeRecords, encodeTexts, Small, AllGood, Layout, sizeOf}
+use Rattle.journal.specs.Layout.{Format, recordOf, textsOf, encodeRecords, encodeTexts, Small, AllGood, sizeOf}
 use Rattle.journal.specs.Hold.{Holds}
 use Rattle.journal.proofs.Decode.{Reads, reads, record-pos, text-at}
 use Rattle.journal.proofs.Holds.{records-append, texts-append, good-right}
@@ -65,27 +64,3 @@ module _ {R : Repertoire} {F : Format} {rb tb : List ℕ} {ur ut rr rt : ℕ} {u
                 texts = subst (λ (z : List ℕ). take (length (textsOf c)) (drop t z) ≡ textsOf c) (sym in-texts) (text-at (encodeTexts xs) (textsOf c) texts-behind t (length (textsOf c)) (sym f) refl);
               };
         }
-
--- ---- the seam moved within the row, which stays as it is
-module _ {R : Repertoire} {F : Format} {rb tb : List ℕ} {ur ut rr rt : ℕ} {us rs : List Change} (h : Holds R F rb tb ur ut rr rt us rs) (us′ rs′ : List Change) (row : us ++ rs ≡ us′ ++ rs′) {at t : ℕ} (e : at ≡ length (encodeRecords F us′)) (f : t ≡ length (encodeTexts us′)) where
-  pub seam-within : at ≤ ur + rr
-  seam-within =
-      omega (arith, e, length-take-le (ur + rr) rb (h .room), ap length (h .both .records ∙ ap (encodeRecords F) row ∙ records-append F us′ rs′), length-append (encodeRecords F us′) (encodeRecords F rs′))
-
-  pub texts-within : t ≤ ut + rt
-  texts-within =
-      omega (arith, f, length-take-le (ut + rt) tb (h .space), ap length (h .both .texts ∙ ap encodeTexts row ∙ texts-append us′ rs′), length-append (encodeTexts us′) (encodeTexts rs′))
-
-  pub seam-moved : Holds R F rb tb at t (ur + rr - at) (ut + rt - t) us′ rs′
-  seam-moved =
-      let a : ur + rr ≡ at + (ur + rr - at) = omega (arith, seam-within) in
-      let b : ut + rt ≡ t + (ut + rt - t) = omega (arith, texts-within) in
-      record {
-        both =
-            subst (λ (n : ℕ). Layout R F (take n rb) (take (t + (ut + rt - t)) tb) (us′ ++ rs′)) a
-            (subst (λ (n : ℕ). Layout R F (take (ur + rr) rb) (take n tb) (us′ ++ rs′)) b (subst (Layout R F (take (ur + rr) rb) (take (ut + rt) tb)) row (h .both)));
-        records = e;
-        texts = f;
-        room = omega (arith, a, h .room);
-        space = omega (arith, b, h .space);
-      }

@@ -12,7 +12,8 @@ use Rattle.journal.specs.Groups as groups
 use Rattle.journal.specs.Hold.{Holds}
 use Rattle.journal.specs.Undo.{undoRecords, undoTexts}
 use Rattle.journal.proofs.Decode.{record-pos}
-use Rattle.journal.proofs.Groups.{turned-back}
+use Rattle.journal.proofs.Groups.{turn-turn, turned-back}
+use Rattle.journal.proofs.Holds.{seam-within, texts-within, seam-moved}
 use Rattle.journal.proofs.Undo.{records-size, texts-size}
 use Rattle.changeset.specs.declared.Log.{Log}
 use Rattle.changeset.specs.Calls as log
@@ -21,11 +22,7 @@ use Rattle.changeset.proofs.Recorded.{holding, records-used, texts-used}
 use Rattle.edit.specs.Calls.{Lent, logLent, stateOf, Ready}
 use Rattle.retrace.specs.Records.{SizesOf}
 use Rattle.undo.specs.Steps.{fromOf, passLog}
-use Rattle.undo.proofs.Rows.{Stands, stands, seam-within, texts-within, seam-moved}
-
--- a record turned round twice is as it was
-pub turn-turn : (c : Change) → turn (turn c) ≡ c
-turn-turn c = let e = turned-back (c ∷ []) in cc
+use Rattle.undo.proofs.Rows.{Stands, stands}
 
 -- the row of records is the same on both sides of a record
 pub row-back : (x : Change) (u r : List Change) → reverse (x ∷ u) ++ map turn r ≡ reverse u ++ (x ∷ map turn r)

@@ -13,6 +13,7 @@ use Rattle.journal.specs.Undo.{undoRecords, undoTexts}
 use Rattle.changeset.specs.declared.Log.{Log}
 use Rattle.changeset.proofs.Answers.{state}
 use Rattle.edit.specs.Calls.{Lent, stateOf, Ready}
+use Rattle.journal.proofs.Groups.{turn-turn}
 use Rattle.retrace.specs.declared.Record.{Record}
 use Rattle.retrace.specs.declared.Step.{Step}
 use Rattle.retrace.specs.Retrace.{undoing, facing}
@@ -20,7 +21,7 @@ use Rattle.retrace.specs.Records.{numbersOf, recordAt, Carries, SizesOf, Retrac
 use Rattle.retrace.proofs.Records.{carried-size}
 use Rattle.undo.specs.Steps.{trailBy, lineOf, passLog, Leaves}
 use Rattle.undo.proofs.Rows.{Stands}
-use Rattle.undo.proofs.Seams.{turn-turn, Seam, newest-records, newest-texts, newest-size, newest-stands, newest-seam, next-stands, next-seam}
+use Rattle.undo.proofs.Seams.{Seam, newest-records, newest-texts, newest-size, newest-stands, newest-seam, next-stands, next-seam}
 use Rattle.undo.proofs.Passes.{numbered, stop-leaves, done-leaves}
 
 -- a record r that was read where the change c stands

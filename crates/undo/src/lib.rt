@@ -21,17 +21,12 @@ use edit::refusal;
 use edit::says;
 use keymap::RepeatCount;
 use records::Format;
+use records::NARROW;
 use records::record_size;
 use retrace::Step;
 use retrace::note_sizes;
 use retrace::read_record;
 use retrace::retrace;
-
-// The format of the log's records: numbers of 2 bytes, kinds 1 to 5.
-const NARROW: Format = Format {
-    width: 2,
-    offset: 0,
-};
 
 // A record undone or redone: where the walk has come to, the log with its seam there, and the record's kind.
 struct Passed {

@@ -1,10 +1,10 @@
 -- RFC 3629, section 4: UTF8-octets = *( UTF8-char ). The characters of a list of bytes, and whether all of it is characters.
 -- Both go through the list with the count of bytes that still belong to the character before: `f zero s` begins a character.
-use Prim.Native.Nat.{ℕ, zero, suc, pred, _-_, _<_}
+use Prim.Native.Nat.{ℕ, zero, suc, pred, _-_, _<_, _≤_}
 use mathlib.Core.Path.{_≡_}
 use mathlib.Core.Bool.{Bool, true, false, cond, _&&_, not}
 use mathlib.Core.List.{List, [], _∷_}
-use lib.ListN.{take, drop, getD}
+use lib.ListN.{length, take, drop, getD}
 use Rattle.utf8.specs.Utf8.{First, char, bad, tail, first}
 
 abbrev pub push : First → List ℕ → List ℕ
@@ -40,6 +40,10 @@ valid s = validFrom 0 s
 -- a place is a character boundary where the bytes before it are characters
 abbrev pub boundary : List ℕ → ℕ → Bool
 boundary s i = valid (take i s)
+
+-- two places in a text, in order and between its characters
+abbrev pub In : List ℕ → ℕ → ℕ → Type 0
+In s a b = (a ≤ b) × (b ≤ length s) × (boundary s a ≡ true) × (boundary s b ≡ true)
 
 -- a place where no UTF8-tail stands; of a valid list, the boundaries are these places (proofs/Boundary, boundary-test)
 abbrev pub noTail : List ℕ → ℕ → Bool

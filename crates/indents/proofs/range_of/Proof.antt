@@ -22,8 +22,8 @@ enum-known-m c = search needs
 prev-word-pos-requires : tie.Need-prev-word-pos-requires
 prev-word-pos-requires c κs = search needs
 
-or-at-requires : tie.Need-or-at-requires
-or-at-requires c κs = search needs
+or-stay-requires : tie.Need-or-stay-requires
+or-stay-requires c κs = search needs
 
 enum-known-m-2 : tie.Need-enum-known-m-2
 enum-known-m-2 c = search needs
@@ -31,8 +31,8 @@ enum-known-m-2 c = search needs
 next-word-pos-requires : tie.Need-next-word-pos-requires
 next-word-pos-requires c κs = search needs
 
-or-at-requires-2 : tie.Need-or-at-requires-2
-or-at-requires-2 c κs = search needs
+or-stay-requires-2 : tie.Need-or-stay-requires-2
+or-stay-requires-2 c κs = search needs
 
 enum-told-4 : tie.Need-enum-told-4
 enum-told-4 c = search needs
@@ -83,10 +83,10 @@ returns-3 : tie.Need-returns-3
 returns-3 c = sym (ap (rangeOf catalogue (now (c .before .before .before .args .s)) (c .before .before .before .args .pos)) (c .enum-told3 .given .1))
 
 returns-4 : tie.Need-returns-4
-returns-4 c = word-back (c .before .before .before .before .before .before .args .pos) _ _ _ (c .or-at .ensures) (c .before .prev-word-pos .ensures) ∙ sym (ap (rangeOf catalogue (now (c .before .before .before .before .before .before .args .s)) (c .before .before .before .before .before .before .args .pos)) (c .before .before .before .m .given .1))
+returns-4 c = word-back (c .before .before .before .before .before .before .args .pos) _ _ _ (c .or-stay .ensures) (c .before .prev-word-pos .ensures) ∙ sym (ap (rangeOf catalogue (now (c .before .before .before .before .before .before .args .s)) (c .before .before .before .before .before .before .args .pos)) (c .before .before .before .m .given .1))
 
 returns-5 : tie.Need-returns-5
-returns-5 c = word-on (c .before .before .before .before .before .before .args .pos) _ _ _ (c .or-at2 .ensures) (c .before .next-word-pos .ensures) ∙ sym (ap (rangeOf catalogue (now (c .before .before .before .before .before .before .args .s)) (c .before .before .before .before .before .before .args .pos)) (c .before .before .before .m2 .given .1))
+returns-5 c = word-on (c .before .before .before .before .before .before .args .pos) _ _ _ (c .or-stay2 .ensures) (c .before .next-word-pos .ensures) ∙ sym (ap (rangeOf catalogue (now (c .before .before .before .before .before .before .args .s)) (c .before .before .before .before .before .before .args .pos)) (c .before .before .before .m2 .given .1))
 
 returns-6 : tie.Need-returns-6
 returns-6 c = sym (ap (rangeOf catalogue (now (c .before .before .before .args .s)) (c .before .before .before .args .pos)) (c .enum-told4 .given .1))
@@ -124,10 +124,10 @@ range-of-spec =
     enum-told-3
     enum-known-m
     prev-word-pos-requires
-    or-at-requires
+    or-stay-requires
     enum-known-m-2
     next-word-pos-requires
-    or-at-requires-2
+    or-stay-requires-2
     enum-told-4
     enum-told-5
     enum-told-6

@@ -1,0 +1,13 @@
+pub mod Slots
+pub mod Breaks
+pub mod Passed
+pub mod Value
+pub mod Answers
+pub mod Puts
+pub mod Rings
+pub mod Kills
+pub mod Found
+pub mod Kept
+pub mod Next
+pub mod Rounds
+pub mod Examples

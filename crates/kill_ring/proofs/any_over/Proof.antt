@@ -1,0 +1,50 @@
+use borrow.Author.Needs.{needs}
+use native.Mathlib.Omega.{arith}
+use Prim.Native.Nat.{_-_, _≤_}
+use mathlib.Core.Path.{_≡_, sym, _∙_}
+use denote.Ref.{now}
+use Rattle.kill_ring.specs.Calls.{anyOver}
+use Rattle.kill_ring.proofs.Slots.{from-none, over-here, over-on, over-end}
+use Rattle.kill_ring.proofs.any_over.Statement.{statement}
+use Rattle.kill_ring.proofs.any_over.Tie as tie
+
+abbrev Inv-loop : tie.InvT-loop
+Inv-loop lens n i₀ i = (i ≤ n) × (anyOver lens i (n - i) ≡ anyOver lens 0 n)
+
+abbrev μ-loop : tie.MeasureT-loop
+μ-loop lens n i₀ i = n - i
+
+loop-holds : tie.Need-loop-holds Inv-loop μ-loop
+loop-holds c = (omega arith, from-none (anyOver (now (c .before .args .lens)) 0) (c .before .args .n))
+
+slot-len-requires : tie.Need-slot-len-requires Inv-loop μ-loop
+slot-len-requires c κs = search needs
+
+returns : tie.Need-returns Inv-loop μ-loop
+returns c = sym (over-here (now (c .before .before .before .before .before .args .lens)) (c .before .before .before .loop .i) (c .before .before .before .before .before .args .n) (c .before .before .loop-test .taken) (omega arith)) ∙ c .before .before .before .loop .inv .1
+
+add-i : tie.Need-add-i Inv-loop μ-loop
+add-i c = search needs
+
+loop-less : tie.Need-loop-less Inv-loop μ-loop
+loop-less c = search needs
+
+loop-again : tie.Need-loop-again Inv-loop μ-loop
+loop-again c = (omega arith, sym (over-on (now (c .before .before .before .before .before .args .lens)) (c .before .before .before .loop .i) (c .before .before .before .before .before .args .n) (c .before .before .loop-test .taken) (omega arith)) ∙ c .before .before .before .loop .inv .1)
+
+returns-2 : tie.Need-returns-2 Inv-loop μ-loop
+returns-2 c = sym (over-end (now (c .before .before .before .args .lens)) (c .before .loop .i) (c .before .before .before .args .n) (omega arith)) ∙ c .before .loop .inv .1
+
+pub any-over-spec : {M : Type 1} → statement M
+any-over-spec =
+    tie.close
+    (tie.spec
+    Inv-loop
+    μ-loop
+    loop-holds
+    slot-len-requires
+    returns
+    add-i
+    loop-less
+    loop-again
+    returns-2)

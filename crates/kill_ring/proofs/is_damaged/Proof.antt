@@ -1,0 +1,50 @@
+use native.Mathlib.Omega.{arith}
+use mathlib.Core.Path.{sym, _∙_}
+use borrow.Author.Needs.{needs}
+use borrow.Author.Tests.{lt-ltb, le-ltb}
+use denote.Ref.{now}
+use Rattle.kill_ring.specs.Calls.{Lent, lent, damaged}
+use Rattle.kill_ring.proofs.Passed.{sized, all-short}
+use Rattle.kill_ring.proofs.is_damaged.Statement.{statement}
+use Rattle.kill_ring.proofs.is_damaged.Tie as tie
+
+-- what the call is lent
+abbrev given : tie.Start → Lent
+given c = lent (now (c .args .slots)) (now (c .args .lens)) (c .args .ring)
+
+returns : tie.Need-returns
+unfolding damaged
+returns c = simp (lt-ltb _ _ (c .if1 .taken))
+
+index-breaks-requires : tie.Need-index-breaks-requires
+index-breaks-requires c κs = search needs
+
+returns-2 : tie.Need-returns-2
+unfolding damaged
+returns-2 c = simp (le-ltb _ _ (c .before .before .if1 .left), sym (c .before .index-breaks .ensures) ∙ c .if2 .taken)
+
+action-breaks-requires : tie.Need-action-breaks-requires
+action-breaks-requires c κs = search needs
+
+returns-3 : tie.Need-returns-3
+unfolding damaged
+returns-3 c = simp (le-ltb _ _ (c .before .before .before .before .if1 .left), sym (c .before .before .before .index-breaks .ensures) ∙ c .before .before .if2 .left, sym (c .before .action-breaks .ensures) ∙ c .if3 .taken)
+
+any-foreign-requires : tie.Need-any-foreign-requires
+any-foreign-requires c κs = let s = sized (given (c .before .before .before .before .before .before .before .before)) (c .before .before .before .before .before .before .before .before .pre) in (omega (arith, s .slots, c .before .before .before .before .if1 .left), (omega (arith, s .lens, c .before .before .before .before .if1 .left), all-short (given (c .before .before .before .before .before .before .before .before)) s (c .before .before .before .before .if1 .left)))
+
+returns-4 : tie.Need-returns-4
+unfolding damaged
+returns-4 c = simp (le-ltb _ _ (c .before .before .before .before .before .if1 .left), sym (c .before .before .before .before .index-breaks .ensures) ∙ c .before .before .before .if2 .left, sym (c .before .before .action-breaks .ensures) ∙ c .before .if3 .left) (c .any-foreign .ensures)
+
+pub is-damaged-spec : {M : Type 1} → statement M
+is-damaged-spec =
+    tie.close
+    (tie.spec
+    returns
+    index-breaks-requires
+    returns-2
+    action-breaks-requires
+    returns-3
+    any-foreign-requires
+    returns-4)

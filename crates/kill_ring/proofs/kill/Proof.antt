@@ -1,0 +1,71 @@
+use mathlib.Core.Path.{sym, ap, _∙_}
+use mathlib.Core.Bool.{Bool, true, not}
+use borrow.Author.Needs.{needs}
+use denote.Ref.{now}
+use Rattle.unicode.specs.Repertoire.{catalogue}
+use Rattle.kill_ring.specs.Calls.{Lent, lent, checked}
+use Rattle.kill_ring.proofs.Kills.{unnamed, named}
+use Rattle.kill_ring.proofs.kill.Statement.{statement}
+use Rattle.kill_ring.proofs.kill.Tie as tie
+
+-- what the call is lent
+abbrev given : tie.Start → Lent
+given c = lent (now (c .args .slots)) (now (c .args .lens)) (c .args .ring)
+
+from-code-requires : tie.Need-from-code-requires
+from-code-requires c κs = search needs
+
+enum-known-code : tie.Need-enum-known-code
+enum-known-code c = search needs
+
+enum-told : tie.Need-enum-told
+enum-told c = search needs
+
+check-text-requires : tie.Need-check-text-requires
+check-text-requires c κs = search needs
+
+refusal-requires : tie.Need-refusal-requires
+refusal-requires c κs = search needs
+
+says-requires : tie.Need-says-requires
+says-requires c κs = search needs
+
+same-length : tie.Need-same-length
+same-length c = search needs
+
+same-length-2 : tie.Need-same-length-2
+same-length-2 c = search needs
+
+returns : tie.Need-returns
+returns c = unnamed catalogue (given (c .before .before .before .before .before .before .before .before .before .before .before)) (now (c .before .before .before .before .before .before .before .before .before .before .before .args .text)) (c .before .before .before .before .before .before .before .before .before .before .before .args .mode) (c .before .refusal .result) _ (sym (c .before .before .before .before .before .before .before .from-code .ensures) ∙ c .before .before .before .before .before .enum-told .given .1)
+    (c .before .refusal .ensures ∙ ap (λ (b : Bool). checked catalogue (given (c .before .before .before .before .before .before .before .before .before .before .before)) true (not b)) (c .before .before .check-text .ensures)) (c .says .ensures)
+
+kill-by-requires : tie.Need-kill-by-requires
+kill-by-requires c κs = search needs
+
+same-length-3 : tie.Need-same-length-3
+same-length-3 c = search needs
+
+same-length-4 : tie.Need-same-length-4
+same-length-4 c = search needs
+
+returns-2 : tie.Need-returns-2
+returns-2 c = named catalogue (given (c .before .before .before .before .before .before .before .before .before .before .before .before .before .before)) (now (c .before .before .before .before .before .before .before .before .before .before .before .before .before .before .args .text)) (c .before .before .before .before .before .before .before .before .before .before .before .before .before .before .args .mode) (c .before .before .before .before .before .before .before .before .code .given .0 .0) _ _ _ (sym (c .before .before .before .before .before .before .before .before .before .before .from-code .ensures) ∙ c .before .before .before .before .before .before .before .before .code .given .1) (c .before .before .before .before .kill-by .ensures)
+
+pub kill-spec : {M : Type 1} → statement M
+kill-spec =
+    tie.close
+    (tie.spec
+    from-code-requires
+    enum-known-code
+    enum-told
+    check-text-requires
+    refusal-requires
+    says-requires
+    same-length
+    same-length-2
+    returns
+    kill-by-requires
+    same-length-3
+    same-length-4
+    returns-2)

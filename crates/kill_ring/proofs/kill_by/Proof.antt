@@ -1,0 +1,162 @@
+use Prim.Native.Nat.{ℕ, _<_}
+use native.Mathlib.Omega.{arith}
+use mathlib.Core.Path.{_≡_, sym, ap, _∙_}
+use mathlib.Core.Bool.{Bool, false, not}
+use borrow.Author.Needs.{needs}
+use denote.Ref.{now}
+use Rattle.unicode.specs.Repertoire.{catalogue}
+use Rattle.unicode.specs.Text.{isText}
+use Rattle.kill_ring.specs.Ring.{Outcome, killOut}
+use Rattle.kill_ring.specs.Calls.{Lent, lent, checked, valueOf}
+use Rattle.kill_ring.proofs.Passed.{Ready, passed}
+use Rattle.kill_ring.proofs.Value.{some-of, index-below}
+use Rattle.kill_ring.proofs.Answers.{alone}
+use Rattle.kill_ring.proofs.Kills.{ringed-refused, ringed-passed, used-most, slot-room, place-most, kill-disabled, kill-full, kill-done}
+use Rattle.kill_ring.proofs.kill_by.Statement.{statement}
+use Rattle.kill_ring.proofs.kill_by.Tie as tie
+
+-- what the call is lent, the number of its checks, and what it does where they pass
+abbrev given : tie.Start → Lent
+given c = lent (now (c .args .slots)) (now (c .args .lens)) (c .args .ring)
+
+abbrev number : tie.Start → ℕ
+number c = checked catalogue (given c) false (not (isText catalogue (now (c .args .text))))
+
+abbrev killing : tie.Start → Outcome
+killing c = killOut (c .args .m) (now (c .args .text)) (valueOf (given c))
+
+-- the number that refusal gives
+said : (c : tie.After-refusal) → c .refusal .result ≡ number (c .before .before .before .before .before .before .before)
+said c = c .refusal .ensures ∙ ap (λ (b : Bool). checked catalogue (given (c .before .before .before .before .before .before .before)) false (not b)) (c .before .check-text .ensures)
+
+-- the checks pass
+ready : (c : tie.Else1) → Ready catalogue (given (c .before .before .before .before .before .before .before .before))
+ready c = passed catalogue (given (c .before .before .before .before .before .before .before .before)) false (not (isText catalogue (now (c .before .before .before .before .before .before .before .before .args .text)))) (sym (said (c .before)) ∙ c .if1 .left)
+
+-- there is a size
+some : (c : tie.Else2) → 0 < c .before .before .before .before .before .before .before .before .before .before .args .ring .size
+some c = some-of _ (c .if2 .left)
+
+check-text-requires : tie.Need-check-text-requires
+check-text-requires c κs = search needs
+
+refusal-requires : tie.Need-refusal-requires
+refusal-requires c κs = search needs
+
+says-requires : tie.Need-says-requires
+says-requires c κs = search needs
+
+same-length : tie.Need-same-length
+same-length c = search needs
+
+same-length-2 : tie.Need-same-length-2
+same-length-2 c = search needs
+
+returns : tie.Need-returns
+returns c = ringed-refused (given (c .before .before .before .before .before .before .before .before .before)) (c .before .before .refusal .result) (number (c .before .before .before .before .before .before .before .before .before)) (killing (c .before .before .before .before .before .before .before .before .before)) _ (said (c .before .before)) (c .before .if1 .taken) (c .says .ensures)
+
+with-action-requires : tie.Need-with-action-requires
+with-action-requires c κs = search needs
+
+says-requires-2 : tie.Need-says-requires-2
+says-requires-2 c κs = search needs
+
+same-length-3 : tie.Need-same-length-3
+same-length-3 c = search needs
+
+same-length-4 : tie.Need-same-length-4
+same-length-4 c = search needs
+
+returns-2 : tie.Need-returns-2
+returns-2 c = ringed-passed (given (c .before .before .before .before .before .before .before .before .before .before .before .before)) (c .before .before .before .before .before .refusal .result) (number (c .before .before .before .before .before .before .before .before .before .before .before .before)) (killing (c .before .before .before .before .before .before .before .before .before .before .before .before)) _ _ _ (said (c .before .before .before .before .before)) (c .before .before .before .before .if1 .left)
+    (kill-disabled catalogue (given (c .before .before .before .before .before .before .before .before .before .before .before .before)) (ready (c .before .before .before .before)) (c .before .before .before .before .before .before .before .before .before .before .before .before .args .m) (now (c .before .before .before .before .before .before .before .before .before .before .before .before .args .text)) _ (c .before .before .if2 .taken) (c .says2 .ensures ∙ ap (alone 0) (c .before .with-action .ensures)))
+
+kill-used-requires : tie.Need-kill-used-requires
+kill-used-requires c κs = let p = ready (c .before .before .before) in let k = index-below catalogue (given (c .before .before .before .before .before .before .before .before .before .before .before)) p (some (c .before)) in omega (arith, p .lens, k)
+
+sub-if3 : tie.Need-sub-if3
+sub-if3 c = let u = used-most catalogue (given (c .before .before .before .before .before .before .before .before .before .before .before .before)) (ready (c .before .before .before .before)) (some (c .before .before)) in omega (arith, c .kill-used .ensures, u)
+
+says-requires-3 : tie.Need-says-requires-3
+says-requires-3 c κs = search needs
+
+same-length-5 : tie.Need-same-length-5
+same-length-5 c = search needs
+
+same-length-6 : tie.Need-same-length-6
+same-length-6 c = search needs
+
+returns-3 : tie.Need-returns-3
+returns-3 c = ringed-passed (given (c .before .before .before .before .before .before .before .before .before .before .before .before .before .before)) (c .before .before .before .before .before .before .before .refusal .result) (number (c .before .before .before .before .before .before .before .before .before .before .before .before .before .before)) (killing (c .before .before .before .before .before .before .before .before .before .before .before .before .before .before)) _ _ _ (said (c .before .before .before .before .before .before .before)) (c .before .before .before .before .before .before .if1 .left)
+    (kill-full catalogue (given (c .before .before .before .before .before .before .before .before .before .before .before .before .before .before)) (ready (c .before .before .before .before .before .before)) (c .before .before .before .before .before .before .before .before .before .before .before .before .before .before .args .m) (now (c .before .before .before .before .before .before .before .before .before .before .before .before .before .before .args .text)) (some (c .before .before .before .before)) _ (c .before .before .kill-used .result) (c .before .before .kill-used .ensures) (c .before .if3 .taken) (c .says3 .ensures))
+
+kill-index-requires : tie.Need-kill-index-requires
+kill-index-requires c κs = let p = ready (c .before .before .before .before .before) in let k = index-below catalogue (given (c .before .before .before .before .before .before .before .before .before .before .before .before .before)) p (some (c .before .before .before)) in (some (c .before .before .before), omega (arith, p .size, k))
+
+place-requires : tie.Need-place-requires
+place-requires c κs = search needs
+
+put-text-requires : tie.Need-put-text-requires
+put-text-requires c κs = let r = slot-room catalogue (given (c .before .before .before .before .before .before .before .before .before .before .before .before .before .before .before .before)) (ready (c .before .before .before .before .before .before .before .before)) (some (c .before .before .before .before .before .before)) (c .before .before .kill-index .result) (c .before .before .kill-index .ensures) in
+    let u = used-most catalogue (given (c .before .before .before .before .before .before .before .before .before .before .before .before .before .before .before .before)) (ready (c .before .before .before .before .before .before .before .before)) (some (c .before .before .before .before .before .before)) in
+    (r .0, (place-most (c .before .before .before .before .before .before .before .before .before .before .before .before .before .before .before .before .args .m) (c .before .before .before .before .kill-used .result) (c .place .result) (c .place .ensures), omega (arith, c .before .before .before .if3 .left, c .before .before .before .before .kill-used .ensures, u)))
+
+mul-write-num : tie.Need-mul-write-num
+mul-write-num c = let r : c .before .before .before .before .before .before .kill-index .result < 16 = slot-room catalogue (given (c .before .before .before .before .before .before .before .before .before .before .before .before .before .before .before .before .before .before .before .before)) (ready (c .before .before .before .before .before .before .before .before .before .before .before .before)) (some (c .before .before .before .before .before .before .before .before .before .before)) (c .before .before .before .before .before .before .kill-index .result) (c .before .before .before .before .before .before .kill-index .ensures) .2 in
+    record { fits = omega arith }
+
+add-write-num : tie.Need-add-write-num
+add-write-num c = search needs
+
+write-num-requires : tie.Need-write-num-requires
+write-num-requires c κs = slot-room catalogue (given (c .before .before .before .before .before .before .before .before .before .before .before .before .before .before .before .before .before .before .before .before)) (ready (c .before .before .before .before .before .before .before .before .before .before .before .before)) (some (c .before .before .before .before .before .before .before .before .before .before)) (c .before .before .before .before .before .before .kill-index .result) (c .before .before .before .before .before .before .kill-index .ensures) .1
+
+killed-requires : tie.Need-killed-requires
+killed-requires c κs = let p = ready (c .before .before .before .before .before .before .before .before .before .before .before .before .before .before .before) in omega (arith, p .count, p .size)
+
+says-requires-4 : tie.Need-says-requires-4
+says-requires-4 c κs = search needs
+
+same-length-7 : tie.Need-same-length-7
+same-length-7 c = search needs
+
+same-length-8 : tie.Need-same-length-8
+same-length-8 c = search needs
+
+returns-4 : tie.Need-returns-4
+returns-4 c = ringed-passed (given (c .before .before .before .before .before .before .before .before .before .before .before .before .before .before .before .before .before .before .before .before .before .before .before .before .before)) (c .before .before .before .before .before .before .before .before .before .before .before .before .before .before .before .before .before .before .refusal .result) (number (c .before .before .before .before .before .before .before .before .before .before .before .before .before .before .before .before .before .before .before .before .before .before .before .before .before)) (killing (c .before .before .before .before .before .before .before .before .before .before .before .before .before .before .before .before .before .before .before .before .before .before .before .before .before)) _ _ _ (said (c .before .before .before .before .before .before .before .before .before .before .before .before .before .before .before .before .before .before)) (c .before .before .before .before .before .before .before .before .before .before .before .before .before .before .before .before .before .if1 .left)
+    (kill-done catalogue (given (c .before .before .before .before .before .before .before .before .before .before .before .before .before .before .before .before .before .before .before .before .before .before .before .before .before)) (ready (c .before .before .before .before .before .before .before .before .before .before .before .before .before .before .before .before .before)) (c .before .before .before .before .before .before .before .before .before .before .before .before .before .before .before .before .before .before .before .before .before .before .before .before .before .args .m) (now (c .before .before .before .before .before .before .before .before .before .before .before .before .before .before .before .before .before .before .before .before .before .before .before .before .before .args .text)) (some (c .before .before .before .before .before .before .before .before .before .before .before .before .before .before .before)) _ (c .before .killed .result) (c .before .before .before .before .before .before .before .before .before .before .before .before .before .kill-used .result) (c .before .before .before .before .before .before .before .before .before .before .before .kill-index .result) (c .before .before .before .before .before .before .before .before .before .place .result) (c .before .before .before .before .before .before .before .before .put-text .last .0) (c .before .before .before .before .write-num .last .0)
+    (c .before .before .before .before .before .before .before .before .before .before .before .before .before .kill-used .ensures) (c .before .before .before .before .before .before .before .before .before .before .before .before .if3 .left) (c .before .before .before .before .before .before .before .before .before .before .before .kill-index .ensures) (c .before .before .before .before .before .before .before .before .before .place .ensures) (c .before .before .before .before .before .before .before .before .put-text .ensures) (c .before .before .before .before .write-num .ensures) (c .before .killed .ensures) (c .says4 .ensures))
+
+pub kill-by-spec : {M : Type 1} → statement M
+kill-by-spec =
+    tie.close
+    (tie.spec
+    check-text-requires
+    refusal-requires
+    says-requires
+    same-length
+    same-length-2
+    returns
+    with-action-requires
+    says-requires-2
+    same-length-3
+    same-length-4
+    returns-2
+    kill-used-requires
+    sub-if3
+    says-requires-3
+    same-length-5
+    same-length-6
+    returns-3
+    kill-index-requires
+    place-requires
+    put-text-requires
+    mul-write-num
+    add-write-num
+    write-num-requires
+    killed-requires
+    says-requires-4
+    same-length-7
+    same-length-8
+    returns-4)

@@ -1,0 +1,51 @@
+use Prim.Native.Nat.{ℕ}
+use mathlib.Core.Path.{ap, _∙_}
+use mathlib.Core.Bool.{false}
+use borrow.Author.Needs.{needs}
+use denote.Ref.{now}
+use Rattle.unicode.specs.Repertoire.{catalogue}
+use Rattle.kill_ring.specs.Ring.{Outcome, resetOut}
+use Rattle.kill_ring.specs.Calls.{Lent, lent, checked, valueOf}
+use Rattle.kill_ring.proofs.Answers.{alone, left-refused, left-passed, reset-left}
+use Rattle.kill_ring.proofs.reset.Statement.{statement}
+use Rattle.kill_ring.proofs.reset.Tie as tie
+
+-- what the call is lent, the number of its checks, and what it does where they pass
+abbrev given : tie.Start → Lent
+given c = lent (now (c .args .slots)) (now (c .args .lens)) (c .args .ring)
+
+abbrev number : tie.Start → ℕ
+number c = checked catalogue (given c) false false
+
+abbrev resetting : tie.Start → Outcome
+resetting c = resetOut (valueOf (given c))
+
+refusal-requires : tie.Need-refusal-requires
+refusal-requires c κs = search needs
+
+says-requires : tie.Need-says-requires
+says-requires c κs = search needs
+
+returns : tie.Need-returns
+returns c = c .says .ensures ∙ left-refused (c .before .before .before .before .before .args .ring) (c .before .before .refusal .result) (number (c .before .before .before .before .before)) (resetting (c .before .before .before .before .before)) (c .before .before .refusal .ensures) (c .before .if1 .taken)
+
+with-action-requires : tie.Need-with-action-requires
+with-action-requires c κs = search needs
+
+says-requires-2 : tie.Need-says-requires-2
+says-requires-2 c κs = search needs
+
+returns-2 : tie.Need-returns-2
+returns-2 c = left-passed (c .before .before .before .before .before .before .args .ring) (c .before .before .before .refusal .result) (number (c .before .before .before .before .before .before)) (resetting (c .before .before .before .before .before .before)) _ (c .before .before .before .refusal .ensures) (c .before .before .if1 .left)
+    (c .says2 .ensures ∙ ap (alone 0) (c .before .with-action .ensures) ∙ reset-left (given (c .before .before .before .before .before .before)))
+
+pub reset-spec : {M : Type 1} → statement M
+reset-spec =
+    tie.close
+    (tie.spec
+    refusal-requires
+    says-requires
+    returns
+    with-action-requires
+    says-requires-2
+    returns-2)

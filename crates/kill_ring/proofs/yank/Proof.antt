@@ -1,0 +1,67 @@
+use Prim.Native.Nat.{ℕ, _<_}
+use native.Mathlib.Omega.{arith}
+use mathlib.Core.Path.{sym, _∙_}
+use mathlib.Core.Bool.{false}
+use borrow.Author.Needs.{needs}
+use denote.Ref.{now}
+use Rattle.unicode.specs.Repertoire.{catalogue}
+use Rattle.kill_ring.specs.Ring.{Outcome, yankOut}
+use Rattle.kill_ring.specs.Calls.{Lent, lent, checked, valueOf}
+use Rattle.kill_ring.proofs.Passed.{Ready, passed}
+use Rattle.kill_ring.proofs.Value.{some-of, index-in}
+use Rattle.kill_ring.proofs.Answers.{left-refused, left-passed, yank-none, yank-some}
+use Rattle.kill_ring.proofs.yank.Statement.{statement}
+use Rattle.kill_ring.proofs.yank.Tie as tie
+
+-- what the call is lent, the number of its checks, and what it does where they pass
+abbrev given : tie.Start → Lent
+given c = lent (now (c .args .slots)) (now (c .args .lens)) (c .args .ring)
+
+abbrev number : tie.Start → ℕ
+number c = checked catalogue (given c) false false
+
+abbrev yanking : tie.Start → Outcome
+yanking c = yankOut (valueOf (given c))
+
+-- the checks pass
+ready : (c : tie.Else1) → Ready catalogue (given (c .before .before .before .before))
+ready c = passed catalogue (given (c .before .before .before .before)) false false (sym (c .before .refusal .ensures) ∙ c .if1 .left)
+
+-- there are slots
+some : (c : tie.Else2) → 0 < c .before .before .before .before .before .before .args .ring .count
+some c = some-of _ (c .if2 .left)
+
+refusal-requires : tie.Need-refusal-requires
+refusal-requires c κs = search needs
+
+says-requires : tie.Need-says-requires
+says-requires c κs = search needs
+
+returns : tie.Need-returns
+returns c = c .says .ensures ∙ left-refused (c .before .before .before .before .before .args .ring) (c .before .before .refusal .result) (number (c .before .before .before .before .before)) (yanking (c .before .before .before .before .before)) (c .before .before .refusal .ensures) (c .before .if1 .taken)
+
+says-requires-2 : tie.Need-says-requires-2
+says-requires-2 c κs = search needs
+
+returns-2 : tie.Need-returns-2
+returns-2 c = left-passed (c .before .before .before .before .before .before .before .args .ring) (c .before .before .before .before .refusal .result) (number (c .before .before .before .before .before .before .before)) (yanking (c .before .before .before .before .before .before .before)) _ (c .before .before .before .before .refusal .ensures) (c .before .before .before .if1 .left)
+    (c .says2 .ensures ∙ yank-none catalogue (given (c .before .before .before .before .before .before .before)) (ready (c .before .before .before)) (c .before .if2 .taken))
+
+yanked-requires : tie.Need-yanked-requires
+yanked-requires c κs = let p = ready (c .before .before) in let k = index-in catalogue (given (c .before .before .before .before .before .before)) p (some (c)) in omega (arith, p .lens, p .count, k)
+
+returns-3 : tie.Need-returns-3
+returns-3 c = left-passed (c .before .before .before .before .before .before .before .args .ring) (c .before .before .before .before .refusal .result) (number (c .before .before .before .before .before .before .before)) (yanking (c .before .before .before .before .before .before .before)) _ (c .before .before .before .before .refusal .ensures) (c .before .before .before .if1 .left)
+    (c .yanked .ensures ∙ yank-some catalogue (given (c .before .before .before .before .before .before .before)) (ready (c .before .before .before)) (some (c .before)) (index-in catalogue (given (c .before .before .before .before .before .before .before)) (ready (c .before .before .before)) (some (c .before))))
+
+pub yank-spec : {M : Type 1} → statement M
+yank-spec =
+    tie.close
+    (tie.spec
+    refusal-requires
+    says-requires
+    returns
+    says-requires-2
+    returns-2
+    yanked-requires
+    returns-3)

@@ -1,0 +1,98 @@
+use Prim.Native.Nat.{ℕ, _<_}
+use native.Mathlib.Omega.{arith}
+use mathlib.Core.Path.{_≡_, sym, ap, _∙_}
+use mathlib.Core.Bool.{false}
+use mathlib.Core.Logic.{⊎-elim}
+use borrow.Author.Needs.{needs}
+use denote.Enum.Declared.{tagOf}
+use denote.Ref.{now}
+use Rattle.unicode.specs.Repertoire.{catalogue}
+use Rattle.kill_ring.specs.declared.Action.the-variants.{Yank}
+use Rattle.kill_ring.specs.Ring.{Outcome, yankPopOut}
+use Rattle.kill_ring.specs.Calls.{Lent, lent, actionOf, checked, valueOf}
+use Rattle.kill_ring.proofs.Action.{the-type}
+use Rattle.kill_ring.proofs.Passed.{Ready, passed}
+use Rattle.kill_ring.proofs.Value.{some-of}
+use Rattle.kill_ring.proofs.Answers.{left-refused, left-passed, previous-in, pop-none, pop-some, pop-other}
+use Rattle.kill_ring.proofs.yank_pop.Statement.{statement}
+use Rattle.kill_ring.proofs.yank_pop.Tie as tie
+
+-- what the call is lent, the number of its checks, and what it does where they pass
+abbrev given : tie.Start → Lent
+given c = lent (now (c .args .slots)) (now (c .args .lens)) (c .args .ring)
+
+abbrev number : tie.Start → ℕ
+number c = checked catalogue (given c) false false
+
+abbrev popping : tie.Start → Outcome
+popping c = yankPopOut (valueOf (given c))
+
+-- the checks pass
+ready : (c : tie.Else1) → Ready catalogue (given (c .before .before .before .before))
+ready c = passed catalogue (given (c .before .before .before .before)) false false (sym (c .before .refusal .ensures) ∙ c .if1 .left)
+
+-- there are slots
+some : (c : tie.Else2) → 0 < c .before .before .before .before .before .before .before .before .before .before .args .ring .count
+some c = some-of _ (c .if2 .left)
+
+-- the last action is this yank
+last : (c : tie.After-last) → actionOf (c .before .before .before .before .before .before .before .args .ring .action) (c .before .before .before .before .before .before .before .args .ring .yanked) ≡ Yank (c .last .given .0 .0)
+last c = sym (c .before .before .from-numbers .ensures) ∙ c .last .given .1
+
+refusal-requires : tie.Need-refusal-requires
+refusal-requires c κs = search needs
+
+says-requires : tie.Need-says-requires
+says-requires c κs = search needs
+
+returns : tie.Need-returns
+returns c = c .says .ensures ∙ left-refused (c .before .before .before .before .before .args .ring) (c .before .before .refusal .result) (number (c .before .before .before .before .before)) (popping (c .before .before .before .before .before)) (c .before .before .refusal .ensures) (c .before .if1 .taken)
+
+from-numbers-requires : tie.Need-from-numbers-requires
+from-numbers-requires c κs = search needs
+
+enum-known-last : tie.Need-enum-known-last
+enum-known-last c = search needs
+
+says-requires-2 : tie.Need-says-requires-2
+says-requires-2 c κs = search needs
+
+returns-2 : tie.Need-returns-2
+returns-2 c = left-passed (c .before .before .before .before .before .before .before .args .ring) (c .before .before .before .before .refusal .result) (number (c .before .before .before .before .before .before .before)) (popping (c .before .before .before .before .before .before .before)) _ (c .before .before .before .before .refusal .ensures) (c .before .before .before .if1 .left)
+    (c .says2 .ensures ∙ pop-other catalogue (given (c .before .before .before .before .before .before .before)) (ready (c .before .before .before))
+    (λ n e. let t = ap (tagOf the-type) (c .before .before .from-numbers .ensures ∙ e) in ⊎-elim (λ z. omega (arith, sym z ∙ t)) (λ z. omega (arith, sym z ∙ t)) (c .before .match .keys2)))
+
+says-requires-3 : tie.Need-says-requires-3
+says-requires-3 c κs = search needs
+
+returns-3 : tie.Need-returns-3
+returns-3 c = left-passed (c .before .before .before .before .before .before .before .before .before .before .before .args .ring) (c .before .before .before .before .before .before .before .before .refusal .result) (number (c .before .before .before .before .before .before .before .before .before .before .before)) (popping (c .before .before .before .before .before .before .before .before .before .before .before)) _ (c .before .before .before .before .before .before .before .before .refusal .ensures) (c .before .before .before .before .before .before .before .if1 .left)
+    (c .says3 .ensures ∙ pop-none catalogue (given (c .before .before .before .before .before .before .before .before .before .before .before)) (ready (c .before .before .before .before .before .before .before)) (c .before .before .before .before .last .given .0 .0) (last (c .before .before .before .before)) (c .before .if2 .taken))
+
+previous-requires : tie.Need-previous-requires
+previous-requires c κs = search needs
+
+yanked-requires : tie.Need-yanked-requires
+yanked-requires c κs = let p = ready (c .before .before .before .before .before .before .before) in let k = previous-in catalogue (given (c .before .before .before .before .before .before .before .before .before .before .before)) p (c .previous .result) (some (c .before)) (c .previous .ensures) in omega (arith, p .lens, p .count, k)
+
+returns-4 : tie.Need-returns-4
+returns-4 c = left-passed (c .before .before .before .before .before .before .before .before .before .before .before .before .args .ring) (c .before .before .before .before .before .before .before .before .before .refusal .result) (number (c .before .before .before .before .before .before .before .before .before .before .before .before)) (popping (c .before .before .before .before .before .before .before .before .before .before .before .before)) _ (c .before .before .before .before .before .before .before .before .before .refusal .ensures) (c .before .before .before .before .before .before .before .before .if1 .left)
+    (c .yanked .ensures ∙ pop-some catalogue (given (c .before .before .before .before .before .before .before .before .before .before .before .before)) (ready (c .before .before .before .before .before .before .before .before)) (c .before .before .before .before .before .last .given .0 .0) (c .before .previous .result) (last (c .before .before .before .before .before)) (some (c .before .before))
+    (previous-in catalogue (given (c .before .before .before .before .before .before .before .before .before .before .before .before)) (ready (c .before .before .before .before .before .before .before .before)) (c .before .previous .result) (some (c .before .before)) (c .before .previous .ensures)) (c .before .previous .ensures))
+
+pub yank-pop-spec : {M : Type 1} → statement M
+yank-pop-spec =
+    tie.close
+    (tie.spec
+    refusal-requires
+    says-requires
+    returns
+    from-numbers-requires
+    enum-known-last
+    says-requires-2
+    returns-2
+    says-requires-3
+    returns-3
+    previous-requires
+    yanked-requires
+    returns-4)
