@@ -1,13 +1,15 @@
 //! Puts rustyline's modules at the crate's root, where their `crate::` paths lead, and links the library.
 //!
-//! Four files are compiled unchanged: three where they lie, undo.rs as a copy with a module of its own behind its text.
+//! Four files are compiled unchanged: two where they lie, undo.rs and kill_ring.rs as copies, each with a module of its
+//! own behind its text.
 //! Of keymap.rs only the five items that document 01 takes are cut out; the rest of it needs the whole of rustyline.
 use std::path::{Path, PathBuf};
 use std::{env, fs};
 
 const WHOLE: [&str; 4] = ["line_buffer", "undo", "kill_ring", "layout"];
-/// A module inside `undo` sees the private fields of `Changeset`.
-const INSIDE: (&str, &str, &str) = ("undo", "lists", "src/undo_lists.rs");
+/// A module inside `undo` sees the private fields of `Changeset`, one inside `kill_ring` those of `KillRing`.
+const INSIDE: [(&str, &str, &str); 2] =
+    [("undo", "lists", "src/undo_lists.rs"), ("kill_ring", "slots", "src/ring_slots.rs")];
 const KEYMAP: [&str; 5] =
     ["pub type RepeatCount ", "pub enum Word ", "pub enum At ", "pub enum CharSearch ", "pub enum Movement "];
 
@@ -40,13 +42,13 @@ fn main() {
     let source = path("RUSTYLINE_SRC").join("src");
     let archive = path("EDIT_LINE_ARCHIVE");
     let out = PathBuf::from(env::var("OUT_DIR").unwrap());
-    let (outer, inner, inner_file) = INSIDE;
-    let inner_file = Path::new(&env::var("CARGO_MANIFEST_DIR").unwrap()).join(inner_file);
+    let own = PathBuf::from(env::var("CARGO_MANIFEST_DIR").unwrap());
     let mut root = String::new();
     for name in WHOLE {
         let mut file = source.join(name).with_extension("rs");
         let text = text_of(&file);
-        if name == outer {
+        if let Some((_, inner, inner_file)) = INSIDE.iter().find(|(outer, ..)| *outer == name) {
+            let inner_file = own.join(inner_file);
             file = out.join(name).with_extension("rs");
             fs::write(&file, format!("{text}\n#[path = {inner_file:?}]\npub mod {inner};\n")).unwrap();
         }

@@ -1,5 +1,5 @@
 //! The C interface of the library, as `include/tulofewa.h` has it. A buffer is a pointer and its length; the state goes
-//! in by value and comes back in the answer.
+//! in by value and comes back in the answer, save for a ring's record, which is lent.
 
 #[repr(C)]
 #[derive(Clone, Copy, Debug, PartialEq, Eq)]
@@ -50,6 +50,32 @@ pub struct EditAnswer {
     pub to: usize,
     pub line: Line,
     pub log: Log,
+}
+
+/// The record of a kill ring.
+#[repr(C)]
+#[derive(Clone, Copy, Debug, PartialEq, Eq, Hash)]
+pub struct Ring {
+    pub size: usize,
+    pub count: usize,
+    pub index: usize,
+    /// The last action.
+    pub action: usize,
+    /// The yank's size; 0 without one.
+    pub yanked: usize,
+}
+
+/// The last actions.
+pub const KILL: usize = 0;
+pub const YANK: usize = 1;
+pub const OTHER: usize = 2;
+
+#[repr(C)]
+#[derive(Clone, Copy, Debug, PartialEq, Eq)]
+pub struct RingAnswer {
+    pub number: u32,
+    pub slot: usize,
+    pub size: usize,
 }
 
 // T: a text is lent and not written.
@@ -168,4 +194,23 @@ unsafe extern "C" {
         text: *mut u8, text_len: usize, records: *const u8, records_len: usize, texts: *const u8, texts_len: usize,
         line: Line, log: Log, mark: usize,
     ) -> EditAnswer;
+}
+
+// R: a kill ring is lent. Its record is written where it lies.
+#[rustfmt::skip]
+unsafe extern "C" {
+    pub fn tlf_ring_new(ring: *mut Ring, size: usize) -> u32;
+    pub fn tlf_ring_reset(
+        slots: *const u8, slots_len: usize, lens: *const u8, lens_len: usize, ring: *mut Ring,
+    ) -> RingAnswer;
+    pub fn tlf_ring_kill(
+        slots: *mut u8, slots_len: usize, lens: *mut u8, lens_len: usize, ring: *mut Ring,
+        text: *const u8, text_len: usize, mode: u32,
+    ) -> RingAnswer;
+    pub fn tlf_ring_yank(
+        slots: *const u8, slots_len: usize, lens: *const u8, lens_len: usize, ring: *mut Ring,
+    ) -> RingAnswer;
+    pub fn tlf_ring_yank_pop(
+        slots: *const u8, slots_len: usize, lens: *const u8, lens_len: usize, ring: *mut Ring,
+    ) -> RingAnswer;
 }

@@ -55,6 +55,11 @@ impl Lent {
     /// The place, counted from the buffer's start, of the first byte that is not as it should be: of the used part that
     /// is due, or of the guards. Bytes past the used part are the library's own.
     pub fn differs(&self, due: &[u8]) -> Option<isize> {
+        self.differs_in([(0, due)].into_iter())
+    }
+
+    /// The same of several parts that are due, each at its place: bytes in no part are the library's own.
+    pub fn differs_in<'a>(&self, mut due: impl Iterator<Item = (usize, &'a [u8])>) -> Option<isize> {
         let behind = self.start + self.size();
         let first = |from: usize, due: &[u8]| {
             let now = &self.arena[from..];
@@ -64,7 +69,7 @@ impl Lent {
             let place = now.iter().zip(due).position(|(now, then)| now != then).unwrap_or(now.len());
             Some((from + place) as isize - self.start as isize)
         };
-        first(self.start, due)
+        due.find_map(|(place, part)| first(self.start + place, part))
             .or_else(|| first(0, &self.before[..self.start]))
             .or_else(|| first(behind, &self.before[behind..]))
     }

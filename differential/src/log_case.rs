@@ -12,6 +12,11 @@ use crate::undo::{Changeset, lists};
 /// What stands in a buffer before the first call, over and over: neither a text nor a list.
 const STALE: [u8; 5] = [0x9F, 0x03, 0xC3, 0x01, 0xFF];
 
+/// A buffer of this size before the first call.
+pub fn stale(size: usize) -> Vec<u8> {
+    STALE.iter().copied().cycle().take(size).collect()
+}
+
 /// A byte, the size of a buffer, a used length or the level set to something else.
 #[derive(Clone, Copy, Debug)]
 pub enum Damage {
@@ -58,7 +63,6 @@ pub struct Case {
 impl Case {
     /// An empty log in buffers of these sizes.
     pub fn new(records: usize, texts: usize) -> Case {
-        let stale = |size: usize| -> Vec<u8> { STALE.iter().copied().cycle().take(size).collect() };
         let (records, texts) = (Lent::new(&stale(records)), Lent::new(&stale(texts)));
         Case { records, texts, log: Log::default(), rust: Changeset::new() }
     }

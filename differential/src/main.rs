@@ -29,6 +29,15 @@ mod log_model;
 mod log_parts;
 mod log_shrink;
 mod oracle;
+mod ring_account;
+mod ring_calls;
+mod ring_case;
+mod ring_checks;
+mod ring_faults;
+mod ring_gen;
+mod ring_lists;
+mod ring_parts;
+mod ring_shrink;
 mod session_gen;
 mod session_parts;
 mod shrink;
@@ -45,10 +54,10 @@ include!(concat!(env!("OUT_DIR"), "/rustyline.rs"));
 use std::process::ExitCode;
 use std::time::Instant;
 
-const DEFAULT: u64 = 1_000_000;
+const DEFAULT: u64 = 1_200_000;
 
 /// From here on a call must have been seen with every number that it can give.
-const ENOUGH: u64 = 700_000;
+const ENOUGH: u64 = 840_000;
 
 fn main() -> ExitCode {
     let mut words = std::env::args().skip(1).map(|word| word.parse::<u64>());
@@ -63,13 +72,16 @@ fn main() -> ExitCode {
     let logs = log_calls::ENTRIES.iter().map(|entry| (entry.name, entry.gives));
     let edits = edit_calls::ENTRIES.iter().map(|entry| (entry.name, entry.gives));
     let undos = undo_calls::ENTRIES.iter().map(|entry| (entry.name, entry.gives));
-    let mut tally = tally::Tally::new(lines.chain(logs).chain(edits).chain(undos));
-    let share = n / 5;
+    let rings = ring_calls::ENTRIES.iter().map(|entry| (entry.name, entry.gives));
+    let before_rings = lines.len() + logs.len() + edits.len() + undos.len();
+    let mut tally = tally::Tally::new(lines.chain(logs).chain(edits).chain(undos).chain(rings));
+    let share = n / 6;
     let compared = line_parts::run(share, seed, trace, &mut tally)
         .and_then(|()| log_parts::run(share, seed, trace, &mut tally, line_calls::ENTRIES.len()))
         .and_then(|()| edit_parts::run(share, seed, trace, &mut tally))
         .and_then(|()| undo_parts::run(share, seed, trace, &mut tally))
-        .and_then(|()| session_parts::run(n - 4 * share, seed, trace, &mut tally));
+        .and_then(|()| ring_parts::run(share, seed, trace, &mut tally, before_rings))
+        .and_then(|()| session_parts::run(n - 5 * share, seed, trace, &mut tally));
     let sessions = match compared {
         Ok(sessions) => sessions,
         Err(account) => {
