@@ -12,6 +12,9 @@ mod edit_lists;
 mod edit_parts;
 mod edit_runner;
 mod edit_shrink;
+// The declarations of the C interface stand once, in the host crate, where `include/check` holds them against the source.
+#[allow(dead_code)]
+#[path = "../../host/src/ffi.rs"]
 mod ffi;
 mod r#gen;
 mod lent;

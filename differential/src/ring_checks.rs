@@ -1,8 +1,13 @@
 //! Document 01's checks 2, 3, 4, 8 and 11 of the calls that are lent a kill ring.
 use crate::checks::{MAX_TEXT, is_text};
-use crate::ffi::{KILL, OTHER, Ring, YANK};
+use crate::ffi::Ring;
 use crate::log_calls::Lends;
 use crate::ring_calls::{Args, Entry, Param};
+
+/// The last actions.
+pub const KILL: usize = 0;
+pub const YANK: usize = 1;
+pub const OTHER: usize = 2;
 
 pub const MAX_SLOTS: usize = 16;
 /// Bytes of a slot, and of its used length.

@@ -1,8 +1,9 @@
 //! What spoils a call that is lent a kill ring.
-use crate::ffi::{KILL, OTHER, Ring, YANK};
+use crate::ffi::Ring;
 use crate::r#gen::{FOREIGN, Rng, boundary, over};
 use crate::ring_calls::Param;
 use crate::ring_case::{Case, Damage};
+use crate::ring_checks::{KILL, OTHER, YANK};
 use crate::ring_checks::{LAST_MODE, LENGTH, Loan, MAX_SLOTS, SLOT};
 use crate::ring_lists::{Call, Step};
 

@@ -1,8 +1,9 @@
 //! Inputs of the calls that are lent a kill ring: drawn rings, and drawn steps on them.
-use crate::ffi::{KILL, OTHER, Ring, YANK};
+use crate::ffi::Ring;
 use crate::r#gen::{Rng, drawn_text};
 use crate::ring_calls::{self, Args, RESET, YANK_POP};
 use crate::ring_case::{Case, Damage};
+use crate::ring_checks::{KILL, OTHER, YANK};
 use crate::ring_checks::{LENGTH, MAX_SLOTS, SLOT};
 use crate::ring_faults::drawn_fault;
 use crate::ring_lists::{Call, Step};

@@ -1,7 +1,8 @@
 //! The slots, the index and the last action of rustyline's `KillRing`. build.rs puts this module behind the text of
 //! kill_ring.rs, inside `kill_ring`, where the private fields are seen.
 use super::{Action, KillRing};
-use crate::ffi::{KILL, OTHER, Ring, YANK};
+use crate::ffi::Ring;
+use crate::ring_checks::{KILL, OTHER, YANK};
 
 /// The slots' texts.
 pub fn texts(ring: &KillRing) -> &[String] {

@@ -27,7 +27,7 @@ pub struct Log {
 
 /// `action` is the last one: 0 kill, 1 yank, 2 other.
 #[repr(C)]
-#[derive(Clone, Copy, Debug, Default, PartialEq, Eq)]
+#[derive(Clone, Copy, Debug, Default, PartialEq, Eq, Hash)]
 pub struct Ring {
     pub size: usize,
     pub count: usize,
