@@ -16,3 +16,8 @@ pub use changes::{Change, Changes};
 pub use codes::{At, CharSearch, Mode, Movement, Word, WordAction};
 pub use edit_line::{EditLine, Room, RECORDS_MAX, SLOTS_MAX, TEXTS_MAX, TEXT_MAX};
 pub use ring::KillRing;
+
+/// The Rust of the repository's README runs as a test.
+#[cfg(doctest)]
+#[doc = include_str!("../../README.md")]
+struct Readme;

@@ -212,7 +212,7 @@ fn call(
         16 => ranges::replace(text, records, texts, line, log, from, to, buf),
         17 => rewrites::transpose_chars(text, records, texts, line, log),
         18 => rewrites::edit_word(text, records, texts, line, log, a),
-        19 => rewrites::transpose_words(text, records, texts, line, log, na),
+        19 => transpose_words::transpose_words(text, records, texts, line, log, na),
         20 => indent_call(text, records, texts, line, log, v),
         _ => kill_call(code, text, records, texts, line, log, v),
     }

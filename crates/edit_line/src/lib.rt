@@ -12,6 +12,7 @@ ghost use Rattle.kills.specs.Kills as kills;
 ghost use Rattle.ranges.specs.Ranges as ranges;
 ghost use Rattle.inserts.specs.Inserts as inserts;
 ghost use Rattle.rewrites.specs.Rewrites as rewrites;
+ghost use Rattle.transpose_words.specs.TransposeWords.{transposeWordsCall};
 ghost use Rattle.indents.specs.Indents as indents;
 ghost use Rattle.kill_ring.specs.Calls as rings;
 ghost use Rattle.undo.specs.Undo.{undoCall, redoCall, cancelCall};
@@ -494,10 +495,10 @@ pub extern "C" fn tlf_line_transpose_words(
     n: u16,
 ) -> EditAnswer
     ensures { λ r. ⌜ edits.Edited narrow (edits.lent (now (text .entry)) (now (records .entry)) (now (texts .entry)) line log)
-        (rewrites.transposeWordsCall catalogue narrow (edits.lent (now (text .entry)) (now (records .entry)) (now (texts .entry)) line log) n)
+        (transposeWordsCall catalogue narrow (edits.lent (now (text .entry)) (now (records .entry)) (now (texts .entry)) line log) n)
         r (now (text .exit)) (now (records .exit)) (now (texts .exit)) ⌝ }
 {
-    rewrites::transpose_words(text, records, texts, line, log, n)
+    transpose_words::transpose_words(text, records, texts, line, log, n)
 }
 
 // A dedent of 0 indents, any other dedents.

@@ -1,13 +1,12 @@
 -- Where a call begins: the cursor, and the place from which transpose_chars cuts. Assumes nothing.
-use Prim.Native.Nat.{ℕ, _≤_}
+use Prim.Native.Nat.{ℕ}
 use native.Mathlib.Omega.{arith}
 use mathlib.Core.Path.{_≡_, sym, ap, subst, _∙_}
-use mathlib.Core.Bool.{true, false, _||_}
+use mathlib.Core.Bool.{true, _||_}
 use mathlib.Core.List.{List}
 use lib.Dec.{eqb, ltb}
 use lib.ListN.{length}
-use borrow.Author.Tests.{ltb-false}
-use Rattle.lists.proofs.Bools.{by-test, or-none}
+use Rattle.lists.proofs.Bools.{by-test}
 use Rattle.utf8.specs.Chars.{valid, In}
 use Rattle.unicode.specs.Repertoire.{Repertoire}
 use Rattle.unicode.specs.Text.{isText}
@@ -20,10 +19,8 @@ use Rattle.motion.specs.Trim.{skipWhitespace}
 use Rattle.motion.proofs.Places.{skip-place}
 use Rattle.edit.specs.Plan.{nothing}
 use Rattle.rewrites.specs.declared.WordAction.{WordAction}
-use Rattle.rewrites.specs.declared.Words.{Words}
-use Rattle.rewrites.specs.Rewrites.{backFrom, wordsOn, startsAt, exchange, exchangeAt, casePlan, casedFrom, editWordPlan, wordsAround, wordsPlan, isOne, wordsOr, transposeWordsPlan, Apart}
+use Rattle.rewrites.specs.Rewrites.{backFrom, wordsOn, startsAt, exchange, exchangeAt, casePlan, casedFrom, editWordPlan}
 use Rattle.rewrites.proofs.Stays.{back-place}
-use Rattle.rewrites.proofs.Four.{around-apart}
 
 module _ (R : Repertoire) (t : List ℕ) (v : valid t ≡ true) (pos : ℕ) (i : In t pos pos) where
   start-in : In t (orStay pos (startsAt R t pos)) (orStay pos (startsAt R t pos))
@@ -55,17 +52,3 @@ module _ (R : Repertoire) (t : List ℕ) (w : WordAction) (pos : ℕ) (f : Found
 
   pub skip-in : isText R t ≡ true → In t pos pos → (p : ℕ) → f ≡ At p → In t p p
   skip-in is i p g = let k = skip-place R t pos p (text-valid R t is) (i .2) (i .1) (sym e ∙ g) in (omega arith, k .1, k .2, k .2)
-
--- the words that transpose_words found
-module _ (R : Repertoire) (t : List ℕ) (n pos : ℕ) (w : Words) (e : w ≡ wordsAround R t n pos) where
-  pub words-one : isOne w ≡ true → nothing (w .end1) ≡ transposeWordsPlan R t n pos
-  words-one h = sym (rw h) ∙ ap (wordsOr t) e
-
-  pub words-two : isOne w ≡ false → wordsPlan t w ≡ transposeWordsPlan R t n pos
-  words-two h = sym (rw h) ∙ ap (wordsOr t) e
-
-  pub words-apart : valid t ≡ true → In t pos pos → isOne w ≡ false → Apart t w
-  words-apart v i h =
-      subst (Apart t) (sym e)
-      (around-apart R t v n pos i
-      (subst (λ (x : Words). x .end1 ≤ x .beg2) e (ltb-false (w .beg2) (w .end1) (or-none (eqb (w .beg1) (w .beg2)) (ltb (w .beg2) (w .end1)) h .1))))

@@ -4,7 +4,5 @@ pub mod Suits
 pub mod Copied
 pub mod Exchange
 pub mod Recased
-pub mod Four
-pub mod FourRoom
 pub mod Begins
 pub mod Plans

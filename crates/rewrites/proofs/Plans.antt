@@ -1,10 +1,8 @@
--- The plans of transpose_chars, edit_word and transpose_words suit the text, and leave the cursor between characters: over any repertoire. Assumes nothing.
+-- The plans of transpose_chars and edit_word suit the text, and leave the cursor between characters: over any repertoire. Assumes nothing.
 use Prim.Native.Nat.{ℕ}
-use native.Mathlib.Omega.{arith}
 use mathlib.Core.Path.{_≡_, refl}
 use mathlib.Core.Bool.{true}
 use mathlib.Core.List.{List}
-use Rattle.lists.proofs.Bools.{by-test}
 use Rattle.utf8.specs.Chars.{valid, In}
 use Rattle.unicode.specs.Repertoire.{Repertoire, Lawful}
 use Rattle.unicode.specs.Text.{isText}
@@ -15,11 +13,10 @@ use Rattle.motion.specs.declared.Found.the-variants.{At, Nothing}
 use Rattle.edit.specs.Plan.{nothing}
 use Rattle.edit.proofs.Suits.{PlanSuits, nothing-suits, nothing-cursor}
 use Rattle.rewrites.specs.declared.WordAction.{WordAction}
-use Rattle.rewrites.specs.Rewrites.{wordsOn, startsAt, exchangeAt, transposeCharsPlan, casedFrom, editWordPlan, wordsAround, isOne, transposeWordsPlan}
+use Rattle.rewrites.specs.Rewrites.{wordsOn, startsAt, exchangeAt, transposeCharsPlan, casedFrom, editWordPlan}
 use Rattle.rewrites.proofs.Stays.{words-on-place}
 use Rattle.rewrites.proofs.Suits.{exchange-suits, exchange-cursor, case-suits, case-cursor}
-use Rattle.rewrites.proofs.Four.{end1-in, words-suit, words-cursor}
-use Rattle.rewrites.proofs.Begins.{starts-in, skip-in, words-apart}
+use Rattle.rewrites.proofs.Begins.{starts-in, skip-in}
 
 module _ (R : Repertoire) (t : List ℕ) (is : isText R t ≡ true) (pos : ℕ) (i : In t pos pos) where
   v : valid t ≡ true
@@ -45,10 +42,3 @@ module _ (R : Repertoire) (t : List ℕ) (is : isText R t ≡ true) (pos : ℕ) 
 
   pub edit-word-suits : Lawful R → (w : WordAction) → PlanSuits R t (editWordPlan R t w pos)
   edit-word-suits law w = case-end law w (skipWhitespace R t pos) refl
-
-  pub transpose-words-suits : (n : ℕ) → PlanSuits R t (transposeWordsPlan R t n pos)
-  transpose-words-suits n =
-      let w = wordsAround R t n pos in
-      by-test (PlanSuits R t (transposeWordsPlan R t n pos)) (isOne (wordsAround R t n pos))
-      (λ e. let k = end1-in R t v n pos i in rw e (nothing-suits R t (w .end1), nothing-cursor R t (w .end1) (omega arith, k .1, k .2, k .2)))
-      (λ e. let p = words-apart R t n pos (wordsAround R t n pos) refl v i e in rw e (words-suit R t is (wordsAround R t n pos) p, words-cursor R t is (wordsAround R t n pos) p))

@@ -1,13 +1,12 @@
--- The calls of LineBuffer that put in what they have cut, elsewhere or in another case: line_buffer.rs, transpose_chars, edit_word and transpose_words.
-use Prim.Native.Nat.{ℕ, _+_, _≤_}
+-- The calls of LineBuffer that put in what they have cut, elsewhere or in another case: line_buffer.rs, transpose_chars and edit_word.
+use Prim.Native.Nat.{ℕ, _+_}
 use mathlib.Core.Path.{_≡_}
-use mathlib.Core.Bool.{Bool, true, false, cond, _||_}
+use mathlib.Core.Bool.{true, false, cond, _||_}
 use mathlib.Core.List.{List, [], _∷_, _++_}
 use lib.Dec.{eqb, ltb}
 use lib.ListN.{length, take, drop, getD}
 use lib.Seq.{sets}
 use Rattle.lists.specs.Lists.{headOr}
-use Rattle.utf8.specs.Chars.{In}
 use Rattle.unicode.specs.Repertoire.{Repertoire}
 use Rattle.unicode.specs.Case.{cased}
 use Rattle.unicode.specs.declared.Case.the-variants.{Upper, Lower}
@@ -26,7 +25,6 @@ use Rattle.edit.specs.Calls.{Lent, textOf, editCall}
 use Rattle.rewrites.specs.declared.WordAction.{WordAction}
 use Rattle.rewrites.specs.declared.WordAction.the-variants.{Capitalize, Lowercase, Uppercase}
 use Rattle.rewrites.specs.declared.ActionCode.{ActionCode}
-use Rattle.rewrites.specs.declared.Words.{Words}
 use Rattle.rewrites.specs.declared.ActionCode.the-variants as code
 
 module _ (R : Repertoire) (t : List ℕ) where
@@ -117,48 +115,6 @@ actionOf k = getD actionList k code.Unknown
 abbrev pub actionIs : WordAction → ActionCode
 actionIs w = code.Is w
 
--- ---- transpose_words: w2 is the n-th word from the cursor on, and w1 the n-th word before w2; with fewer words each movement goes as far as it
--- can, and at the text's end w2 reaches from the start of the last word up to there
-abbrev pub wordsAround : Repertoire → List ℕ → ℕ → ℕ → Words
-wordsAround R t n pos =
-    let end2 = wordsOn R t n pos in
-    let beg2 = wordsBack R t 1 end2 in
-    let beg1 = wordsBack R t n beg2 in
-    record { beg1 = beg1; end1 = wordsOn R t 1 beg1; beg2 = beg2; end2 = end2 }
-
--- each is put in for the other; w2 is cut first
-abbrev pub wordsPlan : List ℕ → Words → Plan
-wordsPlan t w =
-    record {
-      pieces =
-          cutting (w .beg2) (w .end2)
-          ∷ pasted (w .beg2) (part t (w .beg1) (w .end1))
-          ∷ cutting (w .beg1) (w .end1)
-          ∷ pasted (w .beg1) (part t (w .beg2) (w .end2))
-          ∷ [];
-      cursor = w .end2;
-      number = 0;
-      from = 0;
-      to = 0;
-    }
-
--- the same word, or two that overlap
-abbrev pub isOne : Words → Bool
-isOne w = eqb (w .beg1) (w .beg2) || ltb (w .beg2) (w .end1)
-
--- answered by 1: the cursor stays behind w1
-abbrev pub wordsOr : List ℕ → Words → Plan
-wordsOr t w = cond (isOne w) (nothing (w .end1)) (wordsPlan t w)
-
-abbrev pub transposeWordsPlan : Repertoire → List ℕ → ℕ → ℕ → Plan
-transposeWordsPlan R t n pos = wordsOr t (wordsAround R t n pos)
-
--- two words of a text, the first before the second
-pub record Apart (t : List ℕ) (w : Words) : Type 0 where
-  pub first : In t (w .beg1) (w .end1)
-  pub second : In t (w .beg2) (w .end2)
-  pub before : w .end1 ≤ w .beg2
-
 module _ (R : Repertoire) (F : Format) (l : Lent) where
   abbrev pub transposeCharsCall : Outcome
   transposeCharsCall = editCall R F l (ownTests false false false) (transposeCharsPlan R (textOf l) (l .line .cursor))
@@ -169,6 +125,3 @@ module _ (R : Repertoire) (F : Format) (l : Lent) where
 
   abbrev pub editWordCall : ℕ → Outcome
   editWordCall action = editWordBy (actionOf action)
-
-  abbrev pub transposeWordsCall : ℕ → Outcome
-  transposeWordsCall n = editCall R F l (ownTests false false false) (transposeWordsPlan R (textOf l) n (l .line .cursor))

@@ -6,10 +6,10 @@ use Rattle.journal.specs.Layout.{narrow}
 use Rattle.records.proofs.Formats.{narrow-fit}
 use Rattle.edit.specs.Calls.{lent}
 use Rattle.edit.proofs.Made.{edited-as}
-use Rattle.rewrites.proofs.FourRoom.{left1, put1, left2, cut2, left3, put3, all-put}
+use Rattle.transpose_words.proofs.FourRoom.{left1, put1, left2, cut2, left3, put3, all-put}
 use borrow.Author.Needs.{needs}
-use Rattle.rewrites.proofs.put_words.Statement.{statement}
-use Rattle.rewrites.proofs.put_words.Tie as tie
+use Rattle.transpose_words.proofs.put_words.Statement.{statement}
+use Rattle.transpose_words.proofs.put_words.Tie as tie
 
 cut-out-requires : tie.Need-cut-out-requires
 cut-out-requires c κs = search needs

@@ -17,9 +17,10 @@ use Rattle.edit.specs.Plan.{part, splice, textAfter, AllSuit, tooLong}
 use Rattle.edit.proofs.Once.{part-text, part-length}
 use Rattle.edit.proofs.Pieces.{splice-text, splice-before, splice-behind, splice-start}
 use Rattle.edit.proofs.Splice.{splice-length}
-use Rattle.rewrites.specs.declared.Words.{Words}
-use Rattle.rewrites.specs.Rewrites.{wordsOn, wordsBack, wordsAround, wordsPlan, Apart}
+use Rattle.transpose_words.specs.declared.Words.{Words}
+use Rattle.rewrites.specs.Rewrites.{wordsOn, wordsBack}
+use Rattle.transpose_words.specs.TransposeWords.{wordsAround, wordsPlan, Apart}
 use Rattle.rewrites.proofs.Stays.{words-on-place, words-back-place}
 
 -- a part before the bytes that are replaced
 pub part-before : (t : List ℕ) (c d : ℕ) (s : List ℕ) (a b : ℕ) → a ≤ b → b ≤ c → c ≤ length t → part (splice t c d s) a b ≡ part t a b

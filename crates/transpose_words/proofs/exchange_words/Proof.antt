@@ -11,13 +11,13 @@ use Rattle.edit.specs.Calls.{lent}
 use Rattle.edit.proofs.Answers.{length-kept, nine, ten}
 use Rattle.edit.proofs.Made.{raw-part}
 use Rattle.edit.proofs.Once.{part-length}
-use Rattle.rewrites.specs.Rewrites.{wordsPlan}
+use Rattle.transpose_words.specs.TransposeWords.{wordsPlan}
 use Rattle.rewrites.proofs.Copied.{copied}
-use Rattle.rewrites.proofs.Four.{words-long, words-short}
-use Rattle.rewrites.proofs.FourRoom.{text-within, small1, small2}
+use Rattle.transpose_words.proofs.Four.{words-long, words-short}
+use Rattle.transpose_words.proofs.FourRoom.{text-within, small1, small2}
 use borrow.Author.Needs.{needs}
-use Rattle.rewrites.proofs.exchange_words.Statement.{statement}
-use Rattle.rewrites.proofs.exchange_words.Tie as tie
+use Rattle.transpose_words.proofs.exchange_words.Statement.{statement}
+use Rattle.transpose_words.proofs.exchange_words.Tie as tie
 
 sub-n1 : tie.Need-sub-n1
 sub-n1 c = search needs

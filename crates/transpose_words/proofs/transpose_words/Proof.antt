@@ -12,11 +12,11 @@ use Rattle.edit.specs.Plan.{Plan, edited}
 use Rattle.edit.specs.Calls.{lent, sizesOf, stateOf, own, checked}
 use Rattle.edit.proofs.Answers.{cursor-in, refused-by, passed-by, stays-at}
 use Rattle.edit.proofs.Made.{outcome-as}
-use Rattle.rewrites.specs.Rewrites.{transposeWordsPlan}
-use Rattle.rewrites.proofs.Begins.{words-one, words-two, words-apart}
+use Rattle.transpose_words.specs.TransposeWords.{transposeWordsPlan}
+use Rattle.transpose_words.proofs.Around.{words-one, words-two, words-apart}
 use borrow.Author.Needs.{needs}
-use Rattle.rewrites.proofs.transpose_words.Statement.{statement}
-use Rattle.rewrites.proofs.transpose_words.Tie as tie
+use Rattle.transpose_words.proofs.transpose_words.Statement.{statement}
+use Rattle.transpose_words.proofs.transpose_words.Tie as tie
 
 none-requires : tie.Need-none-requires
 none-requires c κs = search needs

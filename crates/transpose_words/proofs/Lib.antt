@@ -1,0 +1,4 @@
+pub mod Four
+pub mod FourRoom
+pub mod Around
+pub mod Plans
