@@ -11,6 +11,23 @@ pub enum Outcome {
     Nothing,
 }
 
+impl Outcome {
+    /// Document 01's number, 0 or 1.
+    #[must_use]
+    pub fn number(self) -> u32 {
+        self as u32
+    }
+
+    /// Document 01's word.
+    #[must_use]
+    pub fn word(self) -> &'static str {
+        match self {
+            Outcome::Done => "done",
+            Outcome::Nothing => "nothing",
+        }
+    }
+}
+
 /// A call that is refused, with document 01's word. Nothing has changed, but for `undo`, `redo` and `cancel` that stop
 /// with `Full` or `Misfit`: the records handled before the one in the way stay handled.
 ///

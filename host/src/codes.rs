@@ -44,6 +44,14 @@ pub enum Mode {
     Prepend,
 }
 
+/// What was last done to a ring. A yank has the size of what it put in.
+#[derive(Clone, Copy, Debug, PartialEq, Eq, Hash)]
+pub enum Action {
+    Kill,
+    Yank(usize),
+    Other,
+}
+
 /// What copy, kill and indent go over. A number is a repeat count.
 #[derive(Clone, Copy, Debug, PartialEq, Eq, Hash)]
 pub enum Movement {

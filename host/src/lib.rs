@@ -13,7 +13,7 @@ mod ring;
 
 pub use answers::{Outcome, Refusal};
 pub use changes::{Change, Changes};
-pub use codes::{At, CharSearch, Mode, Movement, Word, WordAction};
+pub use codes::{Action, At, CharSearch, Mode, Movement, Word, WordAction};
 pub use edit_line::{EditLine, Room, RECORDS_MAX, SLOTS_MAX, TEXTS_MAX, TEXT_MAX};
 pub use ring::KillRing;
 

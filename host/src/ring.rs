@@ -1,6 +1,6 @@
 //! The kill ring with its buffers.
 use crate::answers::{found, outcome, Outcome, Refusal};
-use crate::codes::Mode;
+use crate::codes::{Action, Mode};
 use crate::ffi::{self, Ring};
 use crate::TEXT_MAX;
 use std::{fmt, str};
@@ -65,6 +65,21 @@ impl KillRing {
     /// The texts of the slots in use.
     pub fn texts(&self) -> impl Iterator<Item = &str> {
         (0..self.ring.count).map(|slot| self.slot(slot))
+    }
+
+    /// The slot that `yank` takes; 0 where none is in use.
+    #[must_use]
+    pub fn index(&self) -> usize {
+        self.ring.index
+    }
+
+    #[must_use]
+    pub fn last_action(&self) -> Action {
+        match self.ring.action {
+            0 => Action::Kill,
+            1 => Action::Yank(self.ring.yanked),
+            _ => Action::Other,
+        }
     }
 
     /// The text of a slot; empty where there is none.

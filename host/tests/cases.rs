@@ -2,7 +2,9 @@
 mod common;
 
 use common::{line, undo_words};
-use tulofewa::{At, CharSearch, EditLine, KillRing, Mode, Movement, Outcome, Refusal, Word, WordAction, TEXT_MAX};
+use tulofewa::{
+    Action, At, CharSearch, EditLine, KillRing, Mode, Movement, Outcome, Refusal, Word, WordAction, TEXT_MAX,
+};
 
 /// What a motion answers, and the cursor afterwards.
 #[track_caller]
@@ -112,9 +114,14 @@ fn p13_the_ring_goes_round() {
         assert_eq!(ring.kill(text, Mode::Append), DONE);
         assert_eq!(ring.reset(), DONE);
     }
+    assert_eq!((ring.index(), ring.last_action()), (0, Action::Other));
     assert_eq!(ring.yank(), Ok(Some("c")));
+    assert_eq!((ring.index(), ring.last_action()), (0, Action::Yank(1)));
     assert_eq!(ring.yank_pop(), Ok(Some((1, "b"))));
+    assert_eq!((ring.index(), ring.last_action()), (1, Action::Yank(1)));
     assert_eq!(ring.yank_pop(), Ok(Some((1, "c"))));
+    assert_eq!(ring.kill("d", Mode::Append), DONE);
+    assert_eq!((ring.index(), ring.last_action()), (1, Action::Kill));
 }
 
 #[test]

@@ -27,13 +27,20 @@ fn each_has_its_number_a_word_and_a_sentence() {
     let sentences: HashSet<_> =
         ALL.iter().flat_map(|refusal| [refusal.word().to_owned(), refusal.to_string()]).collect();
     assert_eq!(sentences.len(), 22);
+    assert_eq!(
+        [Outcome::Done, Outcome::Nothing].map(|outcome| (outcome.number(), outcome.word())),
+        [(0, "done"), (1, "nothing")]
+    );
 }
 
 #[test]
 fn buffers_over_their_limits() {
     let most = Room::default();
-    assert!(EditLine::new(most).is_ok());
-    assert!(EditLine::new(Room { text: 0, records: 0, texts: 0, slots: 0 }).is_ok());
+    for room in
+        [most, Room { text: 0, records: 1, texts: 2, slots: 3 }, Room { text: 0, records: 0, texts: 0, slots: 0 }]
+    {
+        assert_eq!(EditLine::new(room).map(|line| line.room()), Ok(room));
+    }
     for over in [
         Room { text: TEXT_MAX + 1, ..most },
         Room { records: RECORDS_MAX + 1, ..most },

@@ -128,6 +128,13 @@ impl EditLine {
         Ok(())
     }
 
+    /// The sizes of its buffers.
+    #[must_use]
+    pub fn room(&self) -> Room {
+        let (text, records, texts) = (self.text.len(), self.records.len(), self.texts.len());
+        Room { text, records, texts, slots: self.ring.size() }
+    }
+
     #[must_use]
     pub fn text(&self) -> &str {
         let used = self.text.get(..self.line.len).unwrap_or_default();
