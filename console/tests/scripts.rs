@@ -141,15 +141,6 @@ fn long_lines() {
     assert_eq!(run("x".repeat(1 << 20)).status.code(), Some(1));
 }
 
-/// Records that are as before, and that are too many, are told by their numbers.
-#[test]
-fn long_logs() {
-    let told = lines("yank \"\\n\" 20\nindent whole_buffer 1\nundo 15\nredo 2\n");
-    let passed: Vec<_> = told.iter().filter(|line| line.ends_with("as before") || line.ends_with("by show")).collect();
-    let wanted = ["0-11 listed by show", "0-6 as before", "17-21 listed by show", "0-6 as before", "9-21 as before"];
-    assert_eq!(passed, wanted.map(|line| format!("    {line}")).iter().collect::<Vec<_>>());
-}
-
 #[test]
 fn a_reader_that_has_gone_ends_it_quietly() {
     let mut console = Command::new(env!("CARGO_BIN_EXE_console"))
