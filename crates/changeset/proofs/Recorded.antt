@@ -14,9 +14,10 @@ use Rattle.journal.specs.Hold.{Holds, Listed}
 use Rattle.journal.specs.Undo.{undoRecords, undoTexts, fits}
 use Rattle.journal.proofs.Holds.{front, cleared}
 use Rattle.journal.proofs.Undo.{good-newest, fits-yes}
-use Rattle.recording.specs.Tails.{kindNumber, tailOf, TailAt, noted, Narrow, Wrote}
+use Rattle.recording.specs.Tails.{kindNumber, tailOf, tailFor, TailFor, noted, Narrow, Wrote}
 use Rattle.recording.specs.declared.Tail.{Tail}
 use Rattle.recording.specs.declared.Noted.{Noted}
+use Rattle.recording.proofs.Joins.{noted-for, narrow-for}
 use Rattle.recording.proofs.Numbers.{kind-low, tail-records, tail-texts, tail-within, tail-place}
 use Rattle.recording.proofs.Put.{Put, put, put-holds, put-kind, put-size, put-texts, room-yes, no-records, no-texts, no-place}
 use Rattle.records.specs.Written.{editSize}
@@ -75,14 +76,15 @@ module _ (F : Format) (l : Lent) (h : Ready F l) where
         log-full catalogue F l (note j x u) (valueOf catalogue F l)
         (no-texts F x u (note j x u) (noted F j (kindNumber x) (place x) (length (old x)) (length (new x)) (tailOf F u)) (put F j x u) (sizesOf l) (omega (arith, texts-used, lengths)))
 
-    module _ (t : Tail) (is-tail : TailAt catalogue F (take (l .log .undo .records) (l .records)) (l .log .undo .texts) t) where
-      pub tail-is : t ≡ tailOf F u
+    module _ (t : Tail) (is-tail : TailFor catalogue F j (take (l .log .undo .records) (l .records)) (l .log .undo .texts) t) where
+      pub tail-is : t ≡ tailFor j (tailOf F u)
       tail-is = is-tail (take (l .log .undo .texts) (l .texts)) (undos catalogue F l) lays (sym (length-take-le (l .log .undo .texts) (l .texts) (omega (arith, h .hold .space))))
 
       -- the dry run's numbers are small
       pub narrow : l .log .undo .texts + (length o + length n) ≤ length (l .texts) → 0 < top (F .width) → top (F .width) ≤ 4294967296 → Narrow t (length o) (length n)
       narrow a w v =
           rw tail-is
+          (narrow-for j (tailOf F u) (length o) (length n)
           (record {
             records = omega (arith, tail-records F u, records-used, h .hold .room, h .records);
             texts = omega (arith, tail-texts F u, texts-used, h .hold .space, h .texts);
@@ -90,7 +92,7 @@ module _ (F : Format) (l : Lent) (h : Ready F l) where
             within = tail-within F u;
             old = omega (arith, h .texts);
             new = omega (arith, h .texts);
-          })
+          }))
 
       module _ (m : Noted) (is-noted : m ≡ noted F j k p (length o) (length n) t) where
         pub is-put : Put F x u (note j x u) m
@@ -98,7 +100,7 @@ module _ (F : Format) (l : Lent) (h : Ready F l) where
             subst (λ (z : Noted). Put F x u (note j x u) z)
             (ap₂ (λ (a b : ℕ). noted F j a b (length (old x)) (length (new x)) (tailOf F u)) (d .kind) (d .place)
             ∙ ap₂ (λ (a b : List ℕ). noted F j k p (length a) (length b) (tailOf F u)) (d .old) (d .new)
-            ∙ ap (noted F j k p (length o) (length n)) (sym tail-is) ∙ sym is-noted)
+            ∙ sym (ap (noted F j k p (length o) (length n)) tail-is ∙ noted-for F j k p (length o) (length n) (tailOf F u)) ∙ sym is-noted)
             (put F j x u)
 
         pub full-records : length (l .records) < m .tail .records → refusing

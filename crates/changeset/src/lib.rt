@@ -19,6 +19,7 @@ ghost use Rattle.changeset.specs.Calls.{lent, sizesOf, valueOf, says as 
 use buffer::cut_bytes;
 use buffer::fill;
 use cluster::next_cluster;
+use recording::tail_for;
 use recording::tail_of;
 use recording::write_noted;
 use records::Format;
@@ -250,7 +251,7 @@ impl Log {
         if space - old.len() < new.len() {
             return says(10, self);
         }
-        let tail = tail_of(f, &records[..ur], ut);
+        let tail = tail_for(f, joins, &records[..ur], ut);
         let n = tail.note(f, joins, kind, place, old.len(), new.len());
         let t = n.tail;
         if records.len() < t.records {

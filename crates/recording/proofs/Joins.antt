@@ -1,13 +1,13 @@
 -- The dry run by its tests. Assumes nothing.
 use Prim.Native.Nat.{ℕ, _+_, _-_, _≤_, _<_}
 use native.Mathlib.Omega.{arith}
-use mathlib.Core.Path.{_≡_, sym, _∙_}
+use mathlib.Core.Path.{_≡_, refl, sym, _∙_}
 use mathlib.Core.Bool.{Bool, true, false}
 use lib.Dec.{eqb}
 use borrow.Author.Tests.{eqb-true, eqb-false, eq-eqb, ne-eqb}
 use Rattle.lists.proofs.Bools.{by-test}
 use Rattle.journal.specs.Layout.{Format}
-use Rattle.recording.specs.Tails.{apart, behind, inFront, noted}
+use Rattle.recording.specs.Tails.{tailFor, apart, behind, inFront, noted, Narrow}
 use Rattle.recording.specs.declared.Tail.{Tail}
 
 -- does a cut end where the next one begins?
@@ -19,6 +19,19 @@ ends-yes p n q h =
 
 pub ends-no : (p n q : ℕ) → q < p → false ≡ eqb q (p + n)
 ends-no p n q h = sym (ne-eqb q (p + n) (λ e. omega arith))
+
+-- a change that is not joined depends on the used lengths alone
+pub noted-for : (F : Format) (j : Bool) (k p o n : ℕ) (t : Tail) → noted F j k p o n (tailFor j t) ≡ noted F j k p o n t
+unfolding noted
+noted-for F true k p o n t = refl
+noted-for F false k p o n t = refl
+
+pub joined-for : (j : Bool) (t : Tail) → j ≡ true → t ≡ tailFor j t
+joined-for j t e = rw e
+
+pub narrow-for : (j : Bool) (t : Tail) (o n : ℕ) → Narrow t o n → Narrow (tailFor j t) o n
+narrow-for true t o n h = h
+narrow-for false t o n h = record { records = h .records; texts = h .texts; place = omega arith; within = omega arith; old = h .old; new = h .new }
 
 module _ (F : Format) (k p o n : ℕ) (t : Tail) where
   pub may-not : (j : Bool) → j ≡ false → apart F k p o n t ≡ noted F j k p o n t

@@ -2,7 +2,7 @@
 use Prim.Native.Nat.{ℕ, _+_, _≤_, _<_}
 use native.Mathlib.Omega.{arith}
 use mathlib.Core.Path.{_≡_, refl, sym, ap, ap₂, subst, _∙_}
-use mathlib.Core.Bool.{cond}
+use mathlib.Core.Bool.{Bool, true, false, cond}
 use mathlib.Core.List.{List, [], _∷_, _++_, reverse, reverse-reverse, append-nil}
 use lib.Dec.{leb, eqb}
 use lib.ListN.{length, getD, drop, length-append}
@@ -18,8 +18,9 @@ use Rattle.journal.proofs.Holds.{records-snoc, good-right}
 use Rattle.journal.proofs.Walk.{reads-at, whole-at}
 use Rattle.journal.proofs.Newest.{reverse-snoc, undo-reverse}
 use Rattle.records.specs.Walks.{LastAt}
-use Rattle.recording.specs.Tails.{tail, tailWith, tailOf}
+use Rattle.recording.specs.Tails.{tail, tailWith, tailOf, tailFor}
 use Rattle.recording.specs.declared.Tail.{Tail}
+use Rattle.recording.proofs.Numbers.{tail-records, tail-texts}
 
 -- the tail of a list of r bytes of records and t bytes of texts, by the kind k, the place p and the lengths a and b in the newest record
 abbrev pub tailBy : Format → ℕ → ℕ → ℕ → ℕ → ℕ → ℕ → Tail
@@ -123,3 +124,7 @@ module _ (R : Repertoire) (F : Format) (rs : List ℕ) where
       go : (us : List Change) → Layout R F rs ts us → tail (length rs) t 0 0 0 0 ≡ tailWith (length rs) t (reverse us)
       go [] m = refl
       go (c ∷ us) m = absurd (omega (arith, ap length (m .records), record-pos F c, length-append (recordOf F c) (encodeRecords F us)))
+
+  -- as far as a change looks at it that is not joined
+  pub tail-apart : (t : ℕ) (j : Bool) → j ≡ false → (ts : List ℕ) (us : List Change) → Layout R F rs ts us → t ≡ length ts → tail (length rs) t 0 0 0 0 ≡ tailFor j (tailOf F (reverse us))
+  tail-apart t j z ts us l e = rw z (sizes ts us t l e [] ∙ sym (ap₂ (λ (a b : ℕ). tail a b 0 0 0 0) (tail-records F (reverse us)) (tail-texts F (reverse us))))

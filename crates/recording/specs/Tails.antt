@@ -1,7 +1,7 @@
 -- The dry run of recording: an undo list by what its next record needs to know, and what a change makes of it. No byte is written.
 use Prim.Native.Nat.{ℕ, _+_, _-_, _≤_, _<_}
 use mathlib.Core.Path.{_≡_}
-use mathlib.Core.Bool.{Bool, cond, _&&_}
+use mathlib.Core.Bool.{Bool, true, false, cond, _&&_}
 use mathlib.Core.List.{List, [], _∷_, _++_, reverse}
 use lib.Dec.{eqb}
 use lib.ListN.{length, take}
@@ -37,6 +37,14 @@ tailOf F u = tailWith (length (undoRecords F u)) (length (undoTexts u)) u
 -- it is the tail of every list that has these records and texts of that length
 abbrev pub TailAt : Repertoire → Format → List ℕ → ℕ → Tail → Type 0
 TailAt R F rs t r = (ts : List ℕ) (us : List Change) → Layout R F rs ts us → t ≡ length ts → r ≡ tailOf F (reverse us)
+
+-- as far as recording a change looks at it: one that is not joined needs the used lengths alone (proofs/Joins, noted-for)
+abbrev pub tailFor : Bool → Tail → Tail
+tailFor true t = t
+tailFor false t = tail (t .records) (t .texts) 0 0 0 0
+
+abbrev pub TailFor : Repertoire → Format → Bool → List ℕ → ℕ → Tail → Type 0
+TailFor R F j rs t r = (ts : List ℕ) (us : List Change) → Layout R F rs ts us → t ≡ length ts → r ≡ tailFor j (tailOf F (reverse us))
 
 -- ---- a change of kind k at the place p, whose old and new text are o and n bytes long
 -- a record of its own behind the list

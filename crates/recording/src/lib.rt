@@ -7,7 +7,7 @@ ghost use Rattle.unicode.specs.Repertoire.{catalogue};
 ghost use Rattle.journal.specs.Hold.{Listed};
 ghost use Rattle.records.specs.Formats.{asFormat, Fit};
 ghost use Rattle.records.specs.Written.{editSize};
-ghost use Rattle.recording.specs.Tails.{tail, TailAt, apart as Tails·apart, noted, Narrow, Wrote};
+ghost use Rattle.recording.specs.Tails.{tail, TailAt, TailFor, apart as Tails·apart, noted, Narrow, Wrote};
 use buffer::insert_bytes;
 use records::Format;
 use records::edit_size;
@@ -93,6 +93,18 @@ pub fn tail_of(f: Format, records: &[u8], texts: usize) -> Tail
         old: first,
         new: second,
     }
+}
+
+// The tail as far as recording a change looks at it: the newest record is sought only where the change may be joined to it.
+pub fn tail_for(f: Format, joins: bool, records: &[u8], texts: usize) -> Tail
+    requires { ⌜ Fit f ⌝ }
+    requires { ⌜ Listed catalogue (asFormat f) (now records) ⌝ }
+    ensures { λ r. ⌜ TailFor catalogue (asFormat f) joins (now (records .entry)) texts r ⌝ }
+{
+    if !joins {
+        return no_edit(records.len(), texts);
+    }
+    tail_of(f, records, texts)
 }
 
 // Does a cut of size bytes at a place end at next?
