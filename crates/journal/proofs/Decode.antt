@@ -126,8 +126,15 @@ kind-is F k h =
     (λ d. by-test (KindIs F k) (eqb k (5 + F .offset)) (λ e. is-replace (eqb-true k (5 + F .offset) e))
     (λ f. let z = size-none F k (eqb-false k 1 a) (eqb-false k 2 b) (eqb-false k (3 + F .offset) c) (eqb-false k (4 + F .offset) d) (eqb-false k (5 + F .offset) f) in absurd (omega arith))))))
 
--- an insertion and a deletion have a body of two numbers, a replacement one of three
+-- a Begin and an End have no body, an insertion and a deletion one of two numbers, a replacement one of three
 module _ (F : Format) (k : ℕ) where
+  pub size-low : KindIs F k → k ≤ 2 → sizeOf F k ≡ 1
+  size-low (is-begin e) h = size-begin F k e
+  size-low (is-end e) h = size-end F k e
+  size-low (is-insert e) h = absurd (omega arith)
+  size-low (is-delete e) h = absurd (omega arith)
+  size-low (is-replace e) h = absurd (omega arith)
+
   pub size-mid : KindIs F k → 2 < k → k ≤ 4 + F .offset → sizeOf F k ≡ 1 + F .width + F .width
   size-mid (is-begin e) h i = absurd (omega arith)
   size-mid (is-end e) h i = absurd (omega arith)
@@ -211,6 +218,9 @@ module _ (R : Repertoire) (F : Format) (rs ts : List ℕ) where
   unfolding wholeAt
   whole-true at t h = simp (lt-ltb _ _ (h .kind), le-leb _ _ (h .body), le-leb _ _ (h .room), h .fine)
 
+  pub whole-false : (at t : ℕ) → (Whole R F rs ts at t → ⊥) → wholeAt R F rs ts at t ≡ false
+  whole-false at t no-whole = by-test (wholeAt R F rs ts at t ≡ false) (wholeAt R F rs ts at t) (λ e. absurd (no-whole (whole at t e))) (λ e. e)
+
   -- the fuel does not matter
   pub fuel : (k j at t : ℕ) → length rs - at < k → length rs - at < j → at ≤ length rs → decodeFrom R F rs ts k at t ≡ decodeFrom R F rs ts j at t
   fuel zero j at t h i l = absurd (omega arith)
@@ -249,7 +259,7 @@ module _ (R : Repertoire) (F : Format) (rs ts : List ℕ) where
       (ap (push (changeAt F rs ts at t (getD rs at 0))) (fuel (length rs - at) (suc (length rs - (at + sizeOf F (getD rs at 0)))) (at + sizeOf F (getD rs at 0)) (t + textsAt F rs at (getD rs at 0)) (omega arith) (omega arith) y))
 
 -- ---- whether there is a list, step by step
-isSome-push : (c : Change) (o : Option (List Change)) → isSome (push c o) ≡ isSome o
+pub isSome-push : (c : Change) (o : Option (List Change)) → isSome (push c o) ≡ isSome o
 isSome-push c none = refl
 isSome-push c (some cs) = refl
 
@@ -261,11 +271,8 @@ module _ (R : Repertoire) (F : Format) (rs ts : List ℕ) (at t : ℕ) where
   pub some-end : at ≡ length rs → isSome (decodeAt R F rs ts at t) ≡ eqb t (length ts)
   some-end e = ap isSome (at-end R F rs ts at t e) ∙ isSome-last (eqb t (length ts))
 
-  pub some-bad : at < length rs → (Whole R F rs ts at t → ⊥) → isSome (decodeAt R F rs ts at t) ≡ false
-  some-bad l no-whole =
-      by-test (isSome (decodeAt R F rs ts at t) ≡ false) (wholeAt R F rs ts at t)
-      (λ e. absurd (no-whole (whole R F rs ts at t e)))
-      (λ e. ap isSome (at-bad R F rs ts at t l e))
+  pub some-bad : at < length rs → wholeAt R F rs ts at t ≡ false → isSome (decodeAt R F rs ts at t) ≡ false
+  some-bad l e = ap isSome (at-bad R F rs ts at t l e)
 
   pub some-step : Whole R F rs ts at t → isSome (decodeAt R F rs ts at t) ≡ isSome (decodeAt R F rs ts (at + sizeOf F (getD rs at 0)) (t + textsAt F rs at (getD rs at 0)))
   some-step q = ap isSome (at-step R F rs ts at t q) ∙ isSome-push (changeAt F rs ts at t (getD rs at 0)) (decodeAt R F rs ts (at + sizeOf F (getD rs at 0)) (t + textsAt F rs at (getD rs at 0)))

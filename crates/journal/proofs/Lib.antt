@@ -1,6 +1,7 @@
 pub mod Numbers
 pub mod Decode
 pub mod Sound
+pub mod Texts
 pub mod Holds
 pub mod Walk
 pub mod Newest

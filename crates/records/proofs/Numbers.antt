@@ -27,6 +27,10 @@ top-down w l b v p h e f =
     let g : w - (l - 1) ≡ suc (w - l) = omega arith in
     rw g (omega arith)
 
+-- two bytes at once
+pub num-two : (w at : ℕ) (s : List ℕ) (a b : ℕ) → w ≡ 2 → a ≡ getD s at 0 → b ≡ getD s (at + 1) 0 → a + 256 * b ≡ numAt w s at
+num-two w at s a b z e f = rw z (omega arith)
+
 -- before the first byte, and behind the last
 pub num-none : (w at : ℕ) (s : List ℕ) → 0 ≡ numAt (w - w) s (at + w)
 num-none w at s =

@@ -1,3 +1,4 @@
 pub mod Formats
+pub mod Check
 pub mod Walks
 pub mod Written

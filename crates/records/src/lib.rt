@@ -1,15 +1,19 @@
 // Records: document 01, "Log and ring". A list of changes in bytes is checked, walked over from its front, and written record by record.
 ghost use mathlib.Core.Path.{_≡_};
+ghost use mathlib.Core.Bool.{true};
 ghost use Prim.Native.Nat.{_+_, _≤_, _<_};
-ghost use lib.ListN.{length, getD};
+ghost use lib.ListN.{length, getD, drop};
 ghost use lib.Seq.{sets};
 ghost use Rattle.unicode.specs.Repertoire.{catalogue};
-ghost use Rattle.journal.specs.Layout.{top, le, numAt, sizeOf, textsAt, changeAt, okChange, decode, isSome};
+ghost use Rattle.unicode.specs.Text.{isText};
+ghost use Rattle.journal.specs.Layout.{top, le, numAt, sizeOf, textsAt, decode, isSome};
 ghost use Rattle.journal.specs.Hold.{Listed};
 ghost use Rattle.records.specs.Formats.{asFormat, Fit};
+ghost use Rattle.records.specs.Check.{isTextAt, PassedAt};
 ghost use Rattle.records.specs.Walks.{Walks, LastAt, RunAt};
 ghost use Rattle.records.specs.Written.{recordBytes, editSize};
 use unicode::check_text;
+use utf8::is_boundary;
 
 // How the log's records are written: the bytes of a number, and by how much the kinds of edits are raised.
 pub struct Format {
@@ -29,11 +33,14 @@ fn wide(b: u8) -> usize
     b as usize
 }
 
-// The little-endian number in the width bytes at a place.
+// The little-endian number in the width bytes at a place. Two bytes, the width of the log's numbers, are read at once.
 pub fn read_num(s: &[u8], at: usize, width: usize) -> usize
     requires { ⌜ (width ≤ 4) × (at + width ≤ length (now s)) ⌝ }
     ensures { λ r. ⌜ (r ≡ numAt width (now (s .entry)) at) × (r < 4294967296) ⌝ }
 {
+    if width == 2 {
+        return wide(s[at]) + 256 * wide(s[at + 1]);
+    }
     let mut value: usize = 0;
     let mut left = width;
     while 0 < left {
@@ -87,54 +94,74 @@ pub fn texts_size(f: Format, records: &[u8], at: usize) -> usize
     first + read_num(records, at + 1 + w + w, w)
 }
 
-// Are the texts of the whole record at a place, which begin at t, texts of the repertoire?
-pub fn texts_ok(f: Format, records: &[u8], texts: &[u8], at: usize, t: usize) -> bool
-    requires { ⌜ Fit f ⌝ }
-    requires { ⌜ (0 < sizeOf (asFormat f) (getD (now records) at 0)) × (at + sizeOf (asFormat f) (getD (now records) at 0) ≤ length (now records)) ⌝ }
-    requires { ⌜ t + textsAt (asFormat f) (now records) at (getD (now records) at 0) ≤ length (now texts) ⌝ }
-    ensures { λ r. ⌜ r ≡ okChange catalogue (changeAt (asFormat f) (now (records .entry)) (now (texts .entry)) at t (getD (now (records .entry)) at 0)) ⌝ }
-{
-    let kind = wide(records[at]);
-    let w = f.width;
-    let o = f.offset;
-    if kind <= 2 {
-        return true;
-    }
-    let a = t + read_num(records, at + 1 + w, w);
-    if kind <= 4 + o {
-        return check_text(&texts[t..a]);
-    }
-    let b = a + read_num(records, at + 1 + w + w, w);
-    if !check_text(&texts[t..a]) {
-        return false;
-    }
-    check_text(&texts[a..b])
+// Where the next record and its texts stand; or no whole record stood at the place.
+pub enum Passed {
+    To(usize, usize),
+    Broken,
 }
 
-// Are records and texts the layout of a list of changes? One pass over each.
+// Do n bytes stand at t, and are they a text? All from t on are one: the n are where they end between two of its characters.
+fn is_text_at(texts: &[u8], t: usize, n: usize) -> bool
+    requires { ⌜ (t ≤ length (now texts)) × (isText catalogue (drop t (now texts)) ≡ true) ⌝ }
+    ensures { λ r. ⌜ r ≡ isTextAt catalogue (now (texts .entry)) t n ⌝ }
+{
+    if texts.len() - t < n {
+        return false;
+    }
+    is_boundary(texts, t + n)
+}
+
+// Does a whole record stand at a place, and its texts at t? All bytes from t on are a text. A Begin and an End have no body.
+fn pass_record(f: Format, records: &[u8], texts: &[u8], at: usize, t: usize) -> Passed
+    requires { ⌜ Fit f ⌝ }
+    requires { ⌜ at < length (now records) ⌝ }
+    requires { ⌜ (t ≤ length (now texts)) × (isText catalogue (drop t (now texts)) ≡ true) ⌝ }
+    ensures { λ r. ⌜ PassedAt catalogue (asFormat f) (now (records .entry)) (now (texts .entry)) at t r ⌝ }
+{
+    let kind = wide(records[at]);
+    if (kind == 1) | (kind == 2) {
+        return Passed::To(at + 1, t);
+    }
+    let size = record_size(f, kind);
+    if size == 0 {
+        return Passed::Broken;
+    }
+    if records.len() - at < size {
+        return Passed::Broken;
+    }
+    let w = f.width;
+    let n = read_num(records, at + 1 + w, w);
+    if !is_text_at(texts, t, n) {
+        return Passed::Broken;
+    }
+    if kind <= 4 + f.offset {
+        return Passed::To(at + size, t + n);
+    }
+    let m = read_num(records, at + 1 + w + w, w);
+    if !is_text_at(texts, t + n, m) {
+        return Passed::Broken;
+    }
+    Passed::To(at + size, t + n + m)
+}
+
+// Are records and texts the layout of a list of changes? One pass over each: the texts are looked at as one text, and of each
+// record's texts it is then asked where they end.
 pub fn check_list(f: Format, records: &[u8], texts: &[u8]) -> bool
     requires { ⌜ Fit f ⌝ }
     ensures { λ r. ⌜ r ≡ isSome (decode catalogue (asFormat f) (now (records .entry)) (now (texts .entry))) ⌝ }
 {
+    if !check_text(texts) {
+        return false;
+    }
     let mut at: usize = 0;
     let mut t: usize = 0;
     while at < records.len() {
-        let size = record_size(f, wide(records[at]));
-        if size == 0 {
+        let p = pass_record(f, records, texts, at, t);
+        let Passed::To(next, end) = p else {
             return false;
-        }
-        if records.len() - at < size {
-            return false;
-        }
-        let m = texts_size(f, records, at);
-        if texts.len() - t < m {
-            return false;
-        }
-        if !texts_ok(f, records, texts, at, t) {
-            return false;
-        }
-        at += size;
-        t += m;
+        };
+        at = next;
+        t = end;
     }
     t == texts.len()
 }

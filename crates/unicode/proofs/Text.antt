@@ -7,13 +7,14 @@ use native.Mathlib.Omega.{arith}
 use lib.ListN.{length, take, drop, length-drop, drop-of-length-le}
 use lib.Seq.{drop-drop}
 use Rattle.lists.specs.Lists.{all}
-use Rattle.lists.proofs.Bools.{and-both, and-swap}
+use Rattle.lists.proofs.Bools.{and-both, and-swap, by-test}
 use Rattle.lists.proofs.Alls.{all-append}
 use Rattle.utf8.specs.Utf8.{char, bad, first}
-use Rattle.utf8.specs.Chars.{charsFrom, validFrom, chars, valid, boundary}
+use Rattle.utf8.specs.Chars.{charsFrom, validFrom, chars, valid, boundary, noTail}
 use Rattle.utf8.specs.Encode.{size}
 use Rattle.utf8.proofs.Chars.{first-within, chars-step, valid-step, valid-bad}
 use Rattle.utf8.proofs.Append.{by-first, chars-append, valid-append, chars-cut, valid-cut}
+use Rattle.utf8.proofs.Boundary.{boundary-test}
 use Rattle.unicode.specs.Repertoire.{Repertoire}
 use Rattle.unicode.specs.Text.{isText, memberLen}
 
@@ -65,6 +66,19 @@ module _ (R : Repertoire) where
       in
       let p = and-both (all f (chars (take i s))) (all f (chars (drop i s))) n in
       (rw (b, p .0), rw (z, p .1))
+
+  -- what is not UTF-8 is no text
+  text-none : (s : List ℕ) → valid s ≡ false → isText R s ≡ false
+  unfolding isText
+  text-none s e = rw e
+
+  -- the first n bytes of a text are a text exactly where no UTF8-tail stands behind them
+  pub text-front : (s : List ℕ) (n : ℕ) → isText R s ≡ true → isText R (take n s) ≡ noTail s n
+  text-front s n e =
+      let b = boundary-test s n (text-valid s e) in
+      by-test (isText R (take n s) ≡ noTail s n) (boundary s n)
+      (λ y. text-cut s n e y .0 ∙ sym y ∙ b)
+      (λ z. text-none (take n s) z ∙ sym z ∙ b)
 
   -- what stands at the front
   pub member-in : (t : List ℕ) (c n : ℕ) → first t ≡ char c n → R .member c ≡ true → n ≡ memberLen R (first t)
