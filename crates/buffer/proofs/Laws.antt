@@ -124,3 +124,17 @@ back-law l x y used at h k p =
 -- a turn of the loop that fills
 pub fill-more : (l : List ℕ) (at j b : ℕ) → set (sets l at (replicate j b)) (at + j) b ≡ sets l at (replicate (j + 1) b)
 fill-more l at j b = sym (ap (λ (x : List ℕ). sets l at x) (sym (replicate-append-replicate j 1 b)) ∙ sym (sets-append l at (replicate j b) (b ∷ [])) ∙ rw (length-replicate j b))
+
+-- nothing put in, and nothing cut out
+pub insert-none : (s x : List ℕ) (used at : ℕ) → length x ≡ 0 → take (used + length x) s ≡ inserted (take used s) at x
+unfolding inserted
+insert-none s [] used at e =
+    let z : used + 0 ≡ used = omega arith in
+    rw z (sym (take-append-drop at (take used s)))
+insert-none s (b ∷ x) used at e = absurd (omega arith)
+
+pub cut-none : (s : List ℕ) (used from to : ℕ) → from ≡ to → take (used - (to - from)) s ≡ cut (take used s) from to
+unfolding cut
+cut-none s used from to e =
+    let z : used - (to - from) ≡ used = omega arith in
+    rw (z, e) (sym (take-append-drop to (take used s)))

@@ -39,11 +39,14 @@ pub fn shift_and_write(tail: &mut [u8], used: usize, src: &[u8])
     write_front(tail, src);
 }
 
-// Puts src into the text s[..used] at the place at.
+// Puts src into the text s[..used] at the place at; an empty one moves nothing.
 pub fn insert_bytes(s: &mut [u8], used: usize, at: usize, src: &[u8])
     requires { ⌜ (at ≤ used) × (used + length (now src) ≤ length (now s)) ⌝ }
     ensures { λ _. ⌜ take (used + length (now (src .entry))) (now (s .exit)) ≡ inserted (take used (now (s .entry))) at (now (src .entry)) ⌝ }
 {
+    if src.len() == 0 {
+        return;
+    }
     shift_and_write(&mut s[at..], used - at, src);
 }
 
@@ -78,11 +81,14 @@ pub fn insert_copies(s: &mut [u8], used: usize, at: usize, src: &[u8], n: usize)
     shift_and_repeat(&mut s[at..], used - at, src, n);
 }
 
-// Takes the bytes from..to out of the text s[..used].
+// Takes the bytes from..to out of the text s[..used]; none of them moves nothing.
 pub fn cut_bytes(s: &mut [u8], used: usize, from: usize, to: usize)
     requires { ⌜ (from ≤ to) × ((to ≤ used) × (used ≤ length (now s))) ⌝ }
     ensures { λ _. ⌜ take (used - (to - from)) (now (s .exit)) ≡ cut (take used (now (s .entry))) from to ⌝ }
 {
+    if from == to {
+        return;
+    }
     let n = used - to;
     let mut j = 0;
     while j < n {

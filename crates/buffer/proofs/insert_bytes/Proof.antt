@@ -1,9 +1,12 @@
--- `shift::insert_bytes` meets its contract: the tail from `at` on is lent to `shift_and_write`. Assumes nothing.
+-- `insert_bytes` meets its contract: the tail from `at` on is lent to `shift_and_write`. Assumes nothing.
 use borrow.Author.Needs.{needs}
 use native.Mathlib.Omega.{arith}
-use Rattle.buffer.proofs.Laws.{back-law}
+use Rattle.buffer.proofs.Laws.{back-law, insert-none}
 use Rattle.buffer.proofs.insert_bytes.Statement.{statement}
 use Rattle.buffer.proofs.insert_bytes.Tie as tie
+
+returns : tie.Need-returns
+returns c = let a = c .before .before .before .args in insert-none (a .s .now) (a .src .now) (a .used) (a .at) (c .if1 .taken)
 
 sub-shift-and-write : tie.Need-sub-shift-and-write
 sub-shift-and-write c = search needs
@@ -23,20 +26,21 @@ shift-and-write-requires c κs = search needs
 same-length : tie.Need-same-length
 same-length c = search needs
 
-returns : tie.Need-returns
-returns c =
+returns-2 : tie.Need-returns-2
+returns-2 c =
     let w = c .before .before in
-    let a = w .before .before .before .before .args in
+    let a = w .before .before .before .before .before .args in
     back-law (a .s .now) (a .src .now) (w .shift-and-write .last .0) (a .used) (a .at) (omega arith) (omega arith) (w .shift-and-write .ensures)
 
 pub insert-bytes-spec : {M : Type 1} → statement M
 insert-bytes-spec =
     tie.close
     (tie.spec
+    returns
     sub-shift-and-write
     part-shift-and-write-start
     part-shift-and-write-end
     sub-shift-and-write-2
     shift-and-write-requires
     same-length
-    returns)
+    returns-2)
