@@ -1,7 +1,8 @@
-//! Puts rustyline's modules at the crate's root, where their `crate::` paths lead, and links the library.
+//! Puts rustyline's modules at the crate's root, where their `crate::` paths lead, and links the library: the build
+//! script of differential/ and of bench/.
 //!
-//! Four files are compiled unchanged: two where they lie, undo.rs and kill_ring.rs as copies, each with a module of its
-//! own behind its text.
+//! Four files are compiled unchanged: two where they lie, undo.rs and kill_ring.rs as copies, each with a module of the
+//! crate's own behind its text.
 //! Of keymap.rs only the five items that document 01 takes are cut out; the rest of it needs the whole of rustyline.
 use std::path::{Path, PathBuf};
 use std::{env, fs};
@@ -16,7 +17,7 @@ const KEYMAP: [&str; 5] =
 /// A path that the script `run` hands over in the environment.
 fn path(name: &str) -> PathBuf {
     println!("cargo:rerun-if-env-changed={name}");
-    PathBuf::from(env::var(name).unwrap_or_else(|_| panic!("{name} is not set: start differential/run")))
+    PathBuf::from(env::var(name).unwrap_or_else(|_| panic!("{name} is not set: start the script run")))
 }
 
 fn text_of(file: &Path) -> String {
@@ -38,9 +39,13 @@ fn item(text: &str, head: &str) -> String {
     lines[first - above.count()..=last].join("\n")
 }
 
+fn link(archive: &Path) {
+    println!("cargo:rerun-if-changed={}", archive.display());
+    println!("cargo:rustc-link-arg-bins={}", archive.display());
+}
+
 fn main() {
     let source = path("RUSTYLINE_SRC").join("src");
-    let archive = path("EDIT_LINE_ARCHIVE");
     let out = PathBuf::from(env::var("OUT_DIR").unwrap());
     let own = PathBuf::from(env::var("CARGO_MANIFEST_DIR").unwrap());
     let mut root = String::new();
@@ -63,6 +68,8 @@ fn main() {
     root += "}\n";
     fs::write(out.join("rustyline.rs"), root).unwrap();
     println!("cargo:rustc-cfg=test");
-    println!("cargo:rerun-if-changed={}", archive.display());
-    println!("cargo:rustc-link-arg-bins={}", archive.display());
+    link(&path("EDIT_LINE_ARCHIVE"));
+    if env::var("CARGO_PKG_NAME").unwrap() == "bench" {
+        link(&path("SCAN_BENCH_ARCHIVE"));
+    }
 }
