@@ -19,7 +19,7 @@ mod timing;
 // rustyline's own modules: line_buffer, undo, kill_ring, layout, and of keymap what build.rs cuts out.
 include!(concat!(env!("OUT_DIR"), "/rustyline.rs"));
 
-use std::process::{Command, ExitCode};
+use std::process::{Command, ExitCode, Stdio};
 
 use timing::{Figure, TIMINGS};
 
@@ -53,26 +53,29 @@ fn tell(word: &str) {
     }
 }
 
-/// The figures of a run of this program by itself.
-fn run(sheet: &Sheet) -> Vec<Figure> {
+/// The figures of a run of this program by itself. None where it fails: then it has said why.
+fn run(sheet: &Sheet) -> Option<Vec<Figure>> {
     let program = std::env::current_exe().expect("this program");
-    let output = Command::new(program).args(["figures", sheet.word]).output().expect("a run of this program");
-    assert!(output.status.success(), "{}", String::from_utf8_lossy(&output.stderr));
+    let mut figures = Command::new(program);
+    figures.args(["figures", sheet.word]).env("RUST_BACKTRACE", "0").stderr(Stdio::inherit());
+    let output = figures.output().expect("a run of this program");
     let read = |line: &str| {
         let numbers: Vec<f64> = line.split(' ').map(|word| word.parse().expect("a number")).collect();
         Figure { median: numbers[0], least: numbers[1], most: numbers[2] }
     };
-    String::from_utf8(output.stdout).expect("numbers").lines().map(read).collect()
+    let lines = String::from_utf8(output.stdout).expect("numbers");
+    output.status.success().then(|| lines.lines().map(read).collect())
 }
 
 /// So many runs, one after the other, put together.
-fn figures(sheet: &Sheet, runs: usize) -> Vec<Figure> {
-    let all: Vec<Vec<Figure>> = (0..runs).map(|_| run(sheet)).collect();
+fn figures(sheet: &Sheet, runs: usize) -> Option<Vec<Figure>> {
+    let all: Vec<Vec<Figure>> = (0..runs).map(|_| run(sheet)).collect::<Option<_>>()?;
     let column = |i: usize| all.iter().map(|run| run[i]).collect::<Vec<_>>();
-    (0..all[0].len()).map(|i| Figure::of_runs(&column(i))).collect()
+    Some((0..all[0].len()).map(|i| Figure::of_runs(&column(i))).collect())
 }
 
-fn print(tables: &[Table], runs: usize) {
+/// None where a run fails.
+fn print(tables: &[Table], runs: usize) -> Option<()> {
     let asked = |table| tables.contains(&table);
     match runs {
         1 => println!("Medians of {TIMINGS} timings, with the least and the most in brackets."),
@@ -81,7 +84,7 @@ fn print(tables: &[Table], runs: usize) {
         ),
     }
     if asked(Rustyline) || asked(Growth) {
-        let figures = figures(if asked(Growth) { &FIRST_TWO } else { &FIRST }, runs);
+        let figures = figures(if asked(Growth) { &FIRST_TWO } else { &FIRST }, runs)?;
         if asked(Rustyline) {
             compared::print_first(asked(Growth), &figures);
         }
@@ -90,11 +93,12 @@ fn print(tables: &[Table], runs: usize) {
         }
     }
     if asked(Scan) {
-        apart::print_scan(&figures(&SCAN, runs));
+        apart::print_scan(&figures(&SCAN, runs)?);
     }
     if asked(Undo) {
-        apart::print_undo(&figures(&UNDO, runs));
+        apart::print_undo(&figures(&UNDO, runs)?);
     }
+    Some(())
 }
 
 /// The number of runs and the tables that are asked for: one run and all tables where none is.
@@ -119,6 +123,5 @@ fn main() -> ExitCode {
         eprintln!("usage: bench/run [RUNS] [rustyline] [growth] [scan] [undo]");
         return ExitCode::from(2);
     };
-    print(&tables, runs);
-    ExitCode::SUCCESS
+    print(&tables, runs).map_or(ExitCode::FAILURE, |()| ExitCode::SUCCESS)
 }
