@@ -61,9 +61,10 @@ fn times<E>(calls: usize, e: &mut E, call: impl Fn(&mut E) -> bool) -> Played {
     Played { calls, done }
 }
 
-/// The text that the calls of a batch are given.
+/// The text that the calls of a batch are given, or the characters that are typed.
 pub fn given(batch: Batch, size: usize) -> String {
     match batch {
+        Type => typed(TYPED).collect(),
         Update | Replace | RingKill(_) => text(ENGLISH, size),
         YankMany => "a".into(),
         _ => String::new(),
@@ -75,7 +76,7 @@ pub fn play<E: Editor>(batch: Batch, size: usize, given: &str, e: &mut E) -> Pla
     let units = || u16::try_from(size).expect("a repeat count");
     match batch {
         Type => {
-            let done = typed(TYPED).map(|ch| usize::from(black_box(black_box(&mut *e).insert(ch)))).sum();
+            let done = given.chars().map(|ch| usize::from(black_box(black_box(&mut *e).insert(ch)))).sum();
             Played { calls: TYPED, done }
         }
         Forward(calls, n) => times(calls, e, |e| e.move_forward(n)),

@@ -55,7 +55,7 @@ const UNIT_SIZES: [usize; 3] = [250, 500, 1_000];
 const LINES: &str = "lines";
 const LINE_SIZES: [usize; 3] = [100, 200, 400];
 
-/// The rows and a few more: the first table, and the beginning of the second.
+/// What a person does: the first table, and the beginning of the second.
 fn first() -> Vec<Row> {
     let log = [8_192, 16_384, full()];
     let (lines, line_sizes) = ("lines of 25 bytes", [40, 80, 160]);
@@ -84,7 +84,7 @@ fn first() -> Vec<Row> {
             .head("log full", log[2]),
         Row::new("ring: reset and kill of a slot's text", Ring, RingKill(64), slots, slot_sizes)
             .head("16 slots of 60 bytes", 60),
-        Row::new("ring: yank and yank_pop", Ring, RingYank(32), slots, slot_sizes).head("16 slots of 60 bytes", 60),
+        Row::new("ring: yank and yank_pop", Ring, RingYank(256), slots, slot_sizes).head("16 slots of 60 bytes", 60),
     ]
 }
 

@@ -18,7 +18,7 @@ pub enum Scene {
     English(Place),
     /// The same with accents.
     Mixed(Place),
-    /// Lines of 24 bytes and a newline, so many. The cursor is on the last one.
+    /// So many lines of 24 bytes with newlines between them. The cursor is in the middle of the last one.
     Lines,
     /// So many newlines.
     Newlines(Place),
@@ -49,10 +49,10 @@ pub enum Scene {
 }
 use Scene::*;
 
-/// The bytes of records for each line of `LoggedLines`: at 400 lines there is room left for 819 records.
+/// The bytes of records for each line of `LoggedLines`: at 400 lines there is room for one more record a line.
 const RECORDS_A_LINE: usize = 71;
 
-/// The sizes of the logs that the scenes of these sizes need.
+/// The bytes of records that the session must have had for a scene.
 pub fn session_size(scene: Scene, size: usize) -> Option<usize> {
     match scene {
         Logged | LoggedTyped => Some(size),
@@ -84,7 +84,12 @@ pub fn scene<E: Editor>(scene: Scene, size: usize, session: &Session<E>) -> E {
     match scene {
         English(place) => placed(&text(ENGLISH, size), place),
         Mixed(place) => placed(&text(MIXED, size), place),
-        Lines => placed(&"Rentals, box 12, 1701-49\n".repeat(size)[..size * 25 - 1], End),
+        Lines => {
+            let line = "Rentals, box 12, 1701-49";
+            let mut e: E = placed(&vec![line; size].join("\n"), Start);
+            e.set_cursor((size - 1) * (line.len() + 1) + line.len() / 2);
+            e
+        }
         Newlines(place) => placed(&"\n".repeat(size), place),
         Marks(place) => placed(&format!("e{}", "\u{301}".repeat((size - 1) / 2)), place),
         Word(place) => placed(&"a".repeat(size), place),

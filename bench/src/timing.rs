@@ -53,9 +53,9 @@ fn nanoseconds(call: impl FnOnce()) -> f64 {
     now() - began
 }
 
-/// What the clock itself takes: it is taken off each timing.
+/// What the clock itself takes now: it is taken off a timing that follows.
 fn clock() -> f64 {
-    Figure::of((0..1001).map(|_| nanoseconds(|| ())).collect()).median
+    Figure::of((0..15).map(|_| nanoseconds(|| ())).collect()).median
 }
 
 /// What is short is done again and again for one timing: up to this many nanoseconds, and no more than so often.
@@ -74,13 +74,13 @@ pub struct Check<'a> {
 
 /// These by turns: they change nothing, so that they can be called again.
 pub fn checks<const N: usize>(all: [Check; N]) -> [Figure; N] {
-    let clock = clock();
     let rounds = all.each_ref().map(|check| rounds(nanoseconds(|| assert!((check.call)()))));
     let mut timings = [(); N].map(|_| Vec::new());
     for _ in 0..TIMINGS {
         for (i, check) in all.iter().enumerate() {
+            let clock = clock();
             let took = nanoseconds(|| (0..rounds[i]).for_each(|_| assert!((check.call)())));
-            timings[i].push((took - clock).max(0.0) / (rounds[i] * check.by) as f64);
+            timings[i].push((took - clock) / (rounds[i] * check.by) as f64);
         }
     }
     timings.map(Figure::of)
@@ -115,11 +115,11 @@ impl<E: Editor> Side<E> {
     }
 
     /// One timing: nanoseconds a call.
-    fn time(&mut self, clock: f64) {
-        let (mut all, mut calls) = (0.0, 0);
+    fn time(&mut self) {
+        let (clock, mut all, mut calls) = (clock(), 0.0, 0);
         for _ in 0..self.rounds {
             let (took, played) = self.once();
-            all += (took - clock).max(0.0);
+            all += took - clock;
             calls += played.calls;
         }
         self.timings.push(all / calls as f64);
@@ -146,15 +146,15 @@ impl<L: Editor, R: Editor> Pair<L, R> {
         assert!(differences.is_empty(), "{of}: the two sides leave another {}", differences.join(", "));
     }
 
-    fn time(&mut self, clock: f64, library_first: bool) {
+    fn time(&mut self, library_first: bool) {
         if library_first {
-            self.library.time(clock);
+            self.library.time();
         }
         if let Some(rust) = &mut self.rust {
-            rust.time(clock);
+            rust.time();
         }
         if !library_first {
-            self.library.time(clock);
+            self.library.time();
         }
     }
 
@@ -166,9 +166,8 @@ impl<L: Editor, R: Editor> Pair<L, R> {
 /// All of these by turns, after a look at each.
 pub fn by_turns<L: Editor, R: Editor>(mut pairs: Vec<Pair<L, R>>) -> impl Iterator<Item = Figure> {
     pairs.iter_mut().for_each(Pair::look);
-    let clock = clock();
     for turn in 0..TIMINGS {
-        pairs.iter_mut().for_each(|pair| pair.time(clock, turn % 2 == 0));
+        pairs.iter_mut().for_each(|pair| pair.time(turn % 2 == 0));
     }
     pairs.into_iter().flat_map(Pair::figures)
 }
