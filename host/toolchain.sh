@@ -1,5 +1,5 @@
-# cargo and rustc, of Debian where they are missing. For scripts that have a function `quietly`: it runs a command into
-# their log, and ends them where that fails.
+# cargo and rustc, of Debian where they are missing. For scripts that have two functions: `quietly` runs a command into
+# their log and ends them where that fails, `fail` ends them with a message.
 
 # The compiler's version; nothing where cargo or rustc is missing.
 rust_version() {
@@ -34,4 +34,13 @@ debian() {
     if [ ${#missing[@]} -gt 0 ]; then
         quietly env DEBIAN_FRONTEND=noninteractive apt-get -qq install -y --no-install-recommends "${missing[@]}"
     fi
+}
+
+# What compiling rustyline's text takes. The compiler is left alone where there is one; line_buffer.rs needs 1.88, with
+# which its let chains came.
+debian_for_rustyline() {
+    local least=1.88 wanted=
+    if [ -z "$(rust_version)" ]; then wanted=$least; fi
+    debian "$wanted" librust-unicode-segmentation-dev librust-unicode-width-dev librust-log-dev
+    rust_is "$least" || fail "rustc is $(rust_version), line_buffer.rs needs $least"
 }
