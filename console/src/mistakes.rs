@@ -11,7 +11,7 @@ pub enum Mistake<'a> {
     NotUtf8(u8, usize),
     NoCommand(&'a str),
     NoMovement(&'a str),
-    /// A movement that stands behind others, alone.
+    /// A movement that no motion is for, alone.
     NotAlone(&'static Command),
     Missing(&'static Command, &'static Param),
     /// An argument that fits none of the parameters that are left.
@@ -38,7 +38,7 @@ impl fmt::Display for Mistake<'_> {
                 write!(f, "{} does not move the cursor: it goes behind copy, kill or indent", command.name)
             }
             Mistake::Missing(command, param) => {
-                write!(f, "{}: {} is missing, {}; usage: {}", command.name, param.word, param.what(), command.usage())
+                write!(f, "{}: {} is missing ({}); usage: {}", command.name, param.word, param.what(), command.usage())
             }
             Mistake::Unfit(command, word, params) => {
                 let fit: Vec<_> = params.iter().map(|param| format!("{} is {}", param.word, param.what())).collect();
@@ -59,8 +59,14 @@ impl fmt::Display for Mistake<'_> {
     }
 }
 
+/// As much of a word is shown.
+const LONGEST: usize = 40;
+
 fn shown(word: &str) -> String {
-    visible(word.as_bytes())
+    match word.char_indices().nth(LONGEST) {
+        Some((end, _)) => format!("{}...", shown(word.get(..end).unwrap_or_default())),
+        None => visible(word.as_bytes()),
+    }
 }
 
 /// The nearest names among some commands, or where to find them all.

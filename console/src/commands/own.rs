@@ -1,8 +1,8 @@
-//! The console's own commands, and those that make one call of several.
+//! The console's own commands.
 use super::{call, Command, Does};
 use crate::answers::{outcome, Said};
 use crate::params::{Args, COMMAND, CURSOR, FIRST_TEXT, ROOM_RECORDS, ROOM_SLOTS, ROOM_TEXT, ROOM_TEXTS, TEXT};
-use tulofewa::{EditLine, Outcome, Refusal};
+use tulofewa::{EditLine, Outcome};
 
 pub const COMMANDS: &[Command] = &[
     Command { name: "help", takes: &[COMMAND], about: "lists the commands, or explains one", does: Does::Help },
@@ -31,8 +31,7 @@ pub fn new_room(line: &mut EditLine, args: &Args) -> Said {
     let mut room = line.room();
     let sizes = [&mut room.text, &mut room.records, &mut room.texts, &mut room.slots];
     sizes.into_iter().zip(&args.sizes).for_each(|(size, given)| *size = *given);
-    let made: Result<EditLine, Refusal> = EditLine::new(room);
-    outcome(made.map(|new| {
+    outcome(EditLine::new(room).map(|new| {
         *line = new;
         Outcome::Done
     }))

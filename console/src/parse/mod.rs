@@ -27,15 +27,16 @@ pub fn command(line: &str) -> Result<(&'static Command, Args), Mistake<'_>> {
     Ok((command, arguments(command, rest)?))
 }
 
-/// An argument goes to the first parameter that takes it, of those that are left up to the first that must be given.
+/// An argument goes to the first parameter that takes it, of those that are left, up to the first that must be given: so
+/// those that may be left out come in any order.
 fn arguments<'a>(command: &'static Command, line: &'a str) -> Result<Args, Mistake<'a>> {
     let mut args = Args::default();
     let mut left: Vec<&'static Param> = command.takes.iter().collect();
     let mut line = line.trim_start_matches(BLANKS);
     while !line.is_empty() {
         let argument = Argument::first(command, line)?;
-        let due = left.iter().position(|param| param.left_out.is_none());
-        let due: Vec<_> = left.iter().copied().take(due.map_or(usize::MAX, |due| due.saturating_add(1))).collect();
+        let needed = left.iter().position(|param| param.left_out.is_none()).unwrap_or(left.len());
+        let due: Vec<_> = left.iter().copied().take(needed.saturating_add(1)).collect();
         let (place, taken) = argument.taken(&due, &mut args)?.ok_or_else(|| argument.unfit(due))?;
         left.splice(place..=place, taken.next);
         line = taken.behind.trim_start_matches(BLANKS);
