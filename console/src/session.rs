@@ -113,3 +113,27 @@ fn without_line_end(line: &[u8]) -> &[u8] {
     let line = line.strip_suffix(b"\n").unwrap_or(line);
     line.strip_suffix(b"\r").unwrap_or(line)
 }
+
+#[cfg(test)]
+mod tests {
+    use super::*;
+
+    fn told(input: &str, terminal: bool) -> String {
+        let mut out = Vec::new();
+        Session::new(&mut out).unwrap().run(input.as_bytes(), terminal).unwrap();
+        String::from_utf8(out).unwrap()
+    }
+
+    /// At a terminal the lines that are typed can be seen there, and the shell's prompt needs a line of its own.
+    #[test]
+    fn at_a_terminal() {
+        assert_eq!(told("undo\n\n# x\n", true), format!("{GREETING}\n> 1 nothing\n> > > \n"));
+        assert_eq!(told("undo\nquit\n", true), format!("{GREETING}\n> 1 nothing\n> "));
+    }
+
+    #[test]
+    fn as_a_script() {
+        assert_eq!(told("undo\n\n# x\n", false), "> undo\n1 nothing\n\n# x\n");
+        assert_eq!(told("undo\nquit\n", false), "> undo\n1 nothing\n> quit\n");
+    }
+}
