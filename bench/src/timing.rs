@@ -58,12 +58,9 @@ fn clock() -> f64 {
     Figure::of((0..15).map(|_| nanoseconds(|| ())).collect()).median
 }
 
-/// What is short is done again and again for one timing: up to this many nanoseconds, and no more than so often.
-const LONG: f64 = 20_000.0;
-const MANY: f64 = 64.0;
-
-fn rounds(took: f64) -> usize {
-    (LONG / took).ceil().clamp(1.0, MANY) as usize
+/// What is short is done again and again for one timing, up to 20 µs and no more often than `most`.
+fn rounds(took: f64, most: f64) -> usize {
+    (20_000.0 / (took - clock()).max(1.0)).ceil().clamp(1.0, most) as usize
 }
 
 /// Something that is timed, and by what its nanoseconds are divided.
@@ -74,7 +71,7 @@ pub struct Check<'a> {
 
 /// These by turns: they change nothing, so that they can be called again.
 pub fn checks<const N: usize>(all: [Check; N]) -> [Figure; N] {
-    let rounds = all.each_ref().map(|check| rounds(nanoseconds(|| assert!((check.call)()))));
+    let rounds = all.each_ref().map(|check| rounds(nanoseconds(|| assert!((check.call)())), 1_000.0));
     let mut timings = [(); N].map(|_| Vec::new());
     for _ in 0..TIMINGS {
         for (i, check) in all.iter().enumerate() {
@@ -102,7 +99,7 @@ impl<E: Editor> Side<E> {
     pub fn new(batch: Batch, size: usize, from: E) -> Side<E> {
         let (given, e) = (given(batch, size), E::new(""));
         let mut side = Side { batch, size, given, from, e, rounds: 1, timings: Vec::new() };
-        side.rounds = rounds(side.once().0);
+        side.rounds = rounds(side.once().0, 64.0);
         side
     }
 
