@@ -5,7 +5,7 @@ use crate::sizes::RECORDS;
 
 pub const ENGLISH: &str = "Parish of St Mary, box 12, rentals and leases, 1701 to 1749. ";
 pub const SHORT_LINES: &str = "box 12\nrentals\tleases\n";
-/// English and French with a pound sign and accents, one of them a combining mark.
+/// German and French words with a pound sign and accents, one of them a combining mark.
 pub const MIXED: &str = "Stra\u{df}e, \u{a3}3 4s 11d, e\u{301}glise Saint-Andr\u{e9}, bo\u{ee}te 7. ";
 pub const NO_ASCII: &str = "\u{e9}\u{df}\u{178}e\u{301}";
 
