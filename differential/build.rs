@@ -5,6 +5,7 @@
 //! crate's own behind its text.
 //! Of keymap.rs only the five items that document 01 takes are cut out; the rest of it needs the whole of rustyline.
 use std::path::{Path, PathBuf};
+use std::process::Command;
 use std::{env, fs};
 
 const WHOLE: [&str; 4] = ["line_buffer", "undo", "kill_ring", "layout"];
@@ -44,6 +45,21 @@ fn link(archive: &Path) {
     println!("cargo:rustc-link-arg-bins={}", archive.display());
 }
 
+/// The versions that go into the recorded answers: those of Cargo.lock, and the compiler's.
+fn versions(own: &Path) -> String {
+    let lock = text_of(&own.join("Cargo.lock"));
+    let lines: Vec<&str> = lock.lines().collect();
+    let version = |name: &str| {
+        let at = lines.iter().position(|line| *line == format!("name = \"{name}\"")).expect(name);
+        lines[at + 1].trim_start_matches("version = ").trim_matches('"')
+    };
+    let crates = ["unicode-segmentation", "unicode-width"].map(|name| format!("{name} {}", version(name)));
+    let compiler = Command::new(env::var("RUSTC").unwrap()).arg("--version").output().unwrap();
+    let compiler = String::from_utf8(compiler.stdout).unwrap();
+    let compiler: Vec<&str> = compiler.split(' ').take(2).collect();
+    format!("rustyline 19.0.0, {}, {}", crates.join(", "), compiler.join(" "))
+}
+
 fn main() {
     let source = path("RUSTYLINE_SRC").join("src");
     let out = PathBuf::from(env::var("OUT_DIR").unwrap());
@@ -67,6 +83,7 @@ fn main() {
     }
     root += "}\n";
     fs::write(out.join("rustyline.rs"), root).unwrap();
+    println!("cargo:rustc-env=VERSIONS={}", versions(&own));
     println!("cargo:rustc-cfg=test");
     link(&path("EDIT_LINE_ARCHIVE"));
     if env::var("CARGO_PKG_NAME").unwrap() == "bench" {

@@ -11,8 +11,10 @@ use crate::line_buffer::LineBuffer;
 use crate::line_calls::{self, Args, Param};
 use crate::listeners::{Ears, Heard, Witness};
 use crate::log_case::{self, Damage, raw};
+use crate::log_checks::Loan;
 use crate::log_model::Bytes;
 use crate::oracle;
+use crate::record;
 use crate::undo::Changeset;
 
 /// What stands in the text's buffer before the first call: no text.
@@ -158,12 +160,14 @@ fn expected(entry: &Entry, case: &mut Case, args: &Args) -> Option<Expected> {
 /// The number that both give, or how they differ.
 pub fn compare(entry: &Entry, case: &mut Case, args: &Args) -> Result<u32, Difference> {
     let expected = expected(entry, case, args);
-    ask(case, args, expected, entry.ask)
+    ask(entry.name, entry.takes, case, args, expected, entry.ask)
 }
 
 /// Asks the library: the whole answer counts, every byte of the text and of both lists, and that no guard and no text
 /// given has changed.
 pub fn ask(
+    name: &'static str,
+    takes: &[Param],
     case: &mut Case,
     args: &Args,
     expected: Option<Expected>,
@@ -182,6 +186,7 @@ pub fn ask(
     let wrong: Vec<_> = places.filter_map(|(name, place)| Some((name, place?))).collect();
     match expected {
         Some(due) if due.answer == got && wrong.is_empty() => {
+            record_call(name, takes, case, args, &due);
             case.line = got.line;
             case.text.keep();
             case.log.keep(got.log);
@@ -193,4 +198,14 @@ pub fn ask(
             Err(Difference { text, lists: case.log.left(&got.log), got, wrong, expected })
         }
     }
+}
+
+fn record_call(name: &'static str, takes: &[Param], case: &Case, args: &Args, due: &Expected) {
+    let Loan { records, texts, log } = case.log.loan();
+    let buf = if takes.contains(&Param::Buf) { &args.buf[..] } else { &[] };
+    let arguments = takes.iter().filter(|&&param| param != Param::Buf).map(|&param| args.get(param)).collect();
+    let (text, line) = (case.buffer(), case.line);
+    let lent = record::Lent { text, records, texts, line, log, buf, new: &[], arguments };
+    let [records, texts] = record::lists(due.lists.as_ref());
+    record::call(name, lent, [due.text.as_deref(), records, texts], &due.answer);
 }

@@ -7,6 +7,7 @@ use crate::ffi::{self, Line, LineAnswer};
 use crate::lent::Lent;
 use crate::line_buffer::LineBuffer;
 use crate::oracle::{self, Outcome, done};
+use crate::record;
 
 #[derive(Clone, Copy, Debug, PartialEq, Eq)]
 pub enum Param {
@@ -315,7 +316,12 @@ pub fn compare(entry: &Entry, case: &mut Case, cursor: usize, args: &Args) -> Re
     let got = unsafe { (entry.ask)(case.lent.pointer(), size, line, args) };
     let changed = case.lent.changed();
     match expected(entry, case, line, args) {
-        Some(answer) if answer == got && changed.is_none() => Ok(got),
+        Some(answer) if answer == got && changed.is_none() => {
+            let arguments = entry.takes.iter().map(|&param| args.get(param)).collect();
+            let lent = record::Lent { text: case.lent.bytes(), line, arguments, ..record::Lent::default() };
+            record::line_call(entry.name, lent, &answer);
+            Ok(got)
+        }
         expected => Err(Difference { got, changed, expected }),
     }
 }

@@ -3,10 +3,11 @@ use std::panic::{AssertUnwindSafe, catch_unwind};
 
 use crate::ffi::{Log, LogAnswer, Used};
 use crate::lent::Lent;
-use crate::log_calls::{Args, Entry, Input, Lends, Raw};
+use crate::log_calls::{Args, Entry, Input, Lends, Param, Raw};
 use crate::log_checks::{self, Loan};
 use crate::log_model::{Bytes, Change};
 use crate::oracle;
+use crate::record;
 use crate::undo::{Changeset, lists};
 
 /// What stands in a buffer before the first call, over and over: neither a text nor a list.
@@ -220,9 +221,28 @@ pub fn compare(entry: &Entry, case: &mut Case, args: &Args) -> Result<u32, Diffe
     let wrong: Vec<_> = places.filter_map(|(name, place)| Some((name, place?))).collect();
     match expected {
         Some(due) if due.answer == got && wrong.is_empty() => {
+            record_call(entry, case, args, &due);
             case.keep(got.log);
             Ok(got.number)
         }
         expected => Err(Difference { left: case.left(&got.log), got, wrong, expected }),
     }
+}
+
+fn record_call(entry: &Entry, case: &Case, args: &Args, due: &Expected) {
+    let mut lent = record::Lent::default();
+    if entry.lends != Lends::Nothing {
+        (lent.records, lent.texts, lent.log) = (case.records.bytes(), case.texts.bytes(), case.log);
+    }
+    for param in entry.takes {
+        match param {
+            Param::Buf => lent.buf = &args.buf,
+            Param::Old => lent.buf = &args.old,
+            Param::New => lent.new = &args.new,
+            Param::Idx => lent.arguments.push(args.idx),
+            Param::Ch => lent.arguments.push(args.ch as usize),
+            Param::Len => lent.arguments.push(args.len),
+        }
+    }
+    record::log_call(entry.name, lent, due.lists.as_ref(), &due.answer);
 }

@@ -32,6 +32,8 @@ mod log_model;
 mod log_parts;
 mod log_shrink;
 mod oracle;
+mod record;
+mod record_lines;
 mod ring_account;
 mod ring_calls;
 mod ring_case;
@@ -70,6 +72,11 @@ fn main() -> ExitCode {
     };
     // Each input is told before its call: for a library that ends the program.
     let trace = std::env::var_os("DIFFERENTIAL_TRACE").is_some();
+    // Where the recorded answers are written.
+    let crates = std::env::var_os("DIFFERENTIAL_RECORD");
+    if crates.is_some() {
+        record::start(seed);
+    }
     let began = Instant::now();
     let lines = line_calls::ENTRIES.iter().map(|entry| (entry.name, entry.gives));
     let logs = log_calls::ENTRIES.iter().map(|entry| (entry.name, entry.gives));
@@ -80,10 +87,15 @@ fn main() -> ExitCode {
     let mut tally = tally::Tally::new(lines.chain(logs).chain(edits).chain(undos).chain(rings));
     let share = n / 6;
     let compared = line_parts::run(share, seed, trace, &mut tally)
+        .inspect(|()| record::next_part())
         .and_then(|()| log_parts::run(share, seed, trace, &mut tally, line_calls::ENTRIES.len()))
+        .inspect(|()| record::next_part())
         .and_then(|()| edit_parts::run(share, seed, trace, &mut tally))
+        .inspect(|()| record::next_part())
         .and_then(|()| undo_parts::run(share, seed, trace, &mut tally))
+        .inspect(|()| record::next_part())
         .and_then(|()| ring_parts::run(share, seed, trace, &mut tally, before_rings))
+        .inspect(|()| record::next_part())
         .and_then(|()| session_parts::run(n - 5 * share, seed, trace, &mut tally));
     let sessions = match compared {
         Ok(sessions) => sessions,
@@ -92,6 +104,10 @@ fn main() -> ExitCode {
             return ExitCode::FAILURE;
         }
     };
+    if let Some(Err(error)) = crates.map(|crates| record::write(crates.as_ref(), n, seed)) {
+        println!("the recorded answers could not be written: {error}");
+        return ExitCode::FAILURE;
+    }
     tally.print();
     let session_parts::Counts { sessions, calls, due, conclusions } = sessions;
     println!("{sessions} sessions of {calls} calls; at the end of {due} demand 3 is due, {conclusions} conclusions");

@@ -6,7 +6,8 @@ use crate::kill_ring::{KillRing, slots};
 use crate::lent::Lent;
 use crate::log_calls::Lends;
 use crate::log_case::{raw, stale};
-use crate::ring_calls::{Args, Entry, Input};
+use crate::record;
+use crate::ring_calls::{Args, Entry, Input, Param};
 use crate::ring_checks::{LENGTH, Loan, SLOT, ring_call};
 
 /// Part of a lent ring set to something else. Bytes beyond a buffer are left out.
@@ -194,6 +195,7 @@ pub fn compare(entry: &Entry, case: &mut Case, args: &Args) -> Result<u32, Diffe
     let mut text = Lent::new(&args.text);
     let expected = expected(entry, case, args);
     let (slots, lens) = (raw(&mut case.slots), raw(&mut case.lens));
+    let before = case.ring.ring;
     let input = Input { slots, lens, ring: case.ring.pointer(), text: raw(&mut text) };
     let got = unsafe { (entry.ask)(&input, args) };
 
@@ -203,10 +205,26 @@ pub fn compare(entry: &Entry, case: &mut Case, args: &Args) -> Result<u32, Diffe
     let wrong: Vec<_> = places.filter_map(|(name, place)| Some((name, place?))).collect();
     match expected {
         Some(due) if due.answer == got && due.ring == ring && wrong.is_empty() => {
+            record_call(entry, Loan { ring: before, ..case.loan() }, args, &due);
             case.slots.keep();
             case.lens.keep();
             Ok(got.number)
         }
         expected => Err(Difference { texts: case.left(&ring), got, ring, wrong, expected }),
     }
+}
+
+fn record_call(entry: &Entry, mut loan: Loan, args: &Args, due: &Expected) {
+    if entry.lends == Lends::Nothing {
+        (loan.slots, loan.lens) = (&[], &[]);
+    }
+    let mut lent = record::LentRing { loan, text: &[], arguments: Vec::new() };
+    for param in entry.takes {
+        match param {
+            Param::Size => lent.arguments.push(args.size),
+            Param::Text => lent.text = &args.text,
+            Param::Mode => lent.arguments.push(args.mode as usize),
+        }
+    }
+    record::ring_call(entry.name, lent, due.texts.as_ref(), &due.ring, &due.answer);
 }

@@ -30,6 +30,11 @@ fn drawn_length(rng: &mut Rng, habit: Habit, room: usize) -> usize {
     }
 }
 
+/// A text of this length. One long text in four has the same letter over and over: recorded, its line is short.
+fn slot_text(rng: &mut Rng, len: usize) -> Vec<u8> {
+    if len > 100 && rng.one_in(4) { vec![b'a'; len] } else { drawn_text(rng, len) }
+}
+
 pub fn drawn_size(rng: &mut Rng) -> usize {
     let any = 1 + rng.below(MAX_SLOTS);
     rng.pick(&[0, 1, 1, 2, 2, 3, 3, any])
@@ -55,7 +60,7 @@ pub fn drawn_ring(rng: &mut Rng, size: usize, habit: Habit) -> Vec<Step> {
     let mut set = Vec::new();
     for slot in 0..count {
         let len = drawn_length(rng, habit, SLOT).min(SLOT);
-        set.push(Damage::Text(slot, drawn_text(rng, len)));
+        set.push(Damage::Text(slot, slot_text(rng, len)));
     }
     set.extend([Damage::Count(count), Damage::Index(rng.below(count.max(1)))]);
     set.extend(drawn_action(rng, size, count));
@@ -87,7 +92,7 @@ pub fn drawn_call(rng: &mut Rng, case: &Case, habit: Habit) -> Call {
         16..=22 => Call::new(YANK_POP, Args::default()),
         _ => {
             let len = drawn_length(rng, habit, room);
-            kill(&drawn_text(rng, len), rng.pick(&[0, 1]))
+            kill(&slot_text(rng, len), rng.pick(&[0, 1]))
         }
     }
 }

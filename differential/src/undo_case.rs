@@ -77,5 +77,5 @@ fn expected(entry: &Entry, case: &mut Case, args: &Args) -> Option<Expected> {
 /// The number that both give, or how they differ. No byte of the log may change.
 pub fn compare(entry: &Entry, case: &mut Case, args: &Args) -> Result<u32, Difference> {
     let expected = expected(entry, case, args);
-    edit_case::ask(case, args, expected, entry.ask)
+    edit_case::ask(entry.name, entry.takes, case, args, expected, entry.ask)
 }

@@ -1,0 +1,297 @@
+//! The recorded answers: of the comparisons in which the library gives what is expected, a sample for each call and
+//! number. Rattle programs replay it; what a line means stands at the head of each data file (`STATE`, `RING`, `HEAD`).
+use std::cell::RefCell;
+use std::collections::{BTreeMap, HashSet};
+use std::path::Path;
+use std::{fs, io};
+
+use crate::ffi::{EditAnswer, LineAnswer, Log, LogAnswer, Ring, RingAnswer};
+use crate::r#gen::Rng;
+use crate::log_model::Bytes;
+pub use crate::record_lines::{Lent, LentRing};
+use crate::{edit_calls, line_calls, log_calls, ring_calls, undo_calls};
+
+/// The longest line of a sample, and of one that has to do with a limit.
+const LONGEST: usize = 300;
+const LONGEST_AT_A_LIMIT: usize = 600;
+
+/// The most bytes that a data file may have: a Rattle program's local array is no larger.
+const MOST: usize = 262_144;
+
+/// How many lines are kept of a call with a number.
+struct Share {
+    done: usize,
+    nothing: usize,
+    other: usize,
+    at_a_limit: usize,
+}
+
+impl Share {
+    fn of(&self, number: u32, at_a_limit: bool) -> usize {
+        match (at_a_limit, number) {
+            (true, _) => self.at_a_limit,
+            (_, 0) => self.done,
+            (_, 1) => self.nothing,
+            _ => self.other,
+        }
+    }
+}
+
+/// A program with its data file, and how many lines of each call it has.
+struct Data {
+    program: &'static str,
+    share: Share,
+    /// What a line is.
+    form: &'static str,
+    has: fn(&str) -> bool,
+}
+
+fn is_line(name: &str) -> bool {
+    line_calls::ENTRIES.iter().any(|entry| entry.name == name)
+}
+
+fn is_edit(name: &str) -> bool {
+    edit_calls::ENTRIES.iter().any(|entry| entry.name == name)
+}
+
+/// The calls of the crate `kills`.
+#[rustfmt::skip]
+const KILLS: [&str; 10] = [
+    "tlf_line_kill", "tlf_line_delete", "tlf_line_backspace", "tlf_line_kill_line", "tlf_line_kill_buffer",
+    "tlf_line_discard_line", "tlf_line_discard_buffer", "tlf_line_delete_prev_word", "tlf_line_delete_word",
+    "tlf_line_delete_to",
+];
+
+static FILES: [Data; 6] = [
+    Data {
+        program: "line_answers",
+        share: Share { done: 40, nothing: 24, other: 12, at_a_limit: 2 },
+        form: STATE,
+        has: is_line,
+    },
+    Data {
+        program: "edit_answers",
+        share: Share { done: 40, nothing: 24, other: 12, at_a_limit: 2 },
+        form: STATE,
+        has: |name| is_edit(name) && !KILLS.contains(&name),
+    },
+    Data {
+        program: "kill_answers",
+        share: Share { done: 40, nothing: 24, other: 12, at_a_limit: 2 },
+        form: STATE,
+        has: |name| KILLS.contains(&name),
+    },
+    Data {
+        program: "log_answers",
+        share: Share { done: 70, nothing: 50, other: 30, at_a_limit: 4 },
+        form: STATE,
+        has: |name| log_calls::ENTRIES.iter().any(|entry| entry.name == name),
+    },
+    Data {
+        program: "undo_answers",
+        share: Share { done: 120, nothing: 60, other: 40, at_a_limit: 4 },
+        form: STATE,
+        has: |name| undo_calls::ENTRIES.iter().any(|entry| entry.name == name),
+    },
+    Data {
+        program: "ring_answers",
+        share: Share { done: 120, nothing: 60, other: 40, at_a_limit: 16 },
+        form: RING,
+        has: |name| ring_calls::ENTRIES.iter().any(|entry| entry.name == name),
+    },
+];
+
+/// The head of a data file, behind its first lines.
+const STATE: &str = "\
+A line is a call with all that it is lent, '>', and all that it answers and leaves:
+    NAME TEXT RECORDS TEXTS BUF NEW LEN CURSOR UR UT RR RT LEVEL ARGUMENT* > TEXT RECORDS TEXTS NUMBER FROM TO LEN CURSOR UR UT RR RT LEVEL
+TEXT, RECORDS and TEXTS are the whole lent buffers, LEN and CURSOR the line, UR and UT the used lengths of the undo
+list's records and texts, RR and RT those of the redo list, LEVEL the group level. BUF is the text that the call is
+handed, and of the log's replace the old one with NEW the new one; the other arguments stand in the order of the
+call's parameters. Of a buffer that a call is not lent nothing is written, '-', and 0 of a state.
+Behind '>' TEXT, RECORDS and TEXTS are the used parts that are left; '=' where no byte of the whole buffer may change.
+";
+
+const RING: &str = "\
+A line is a call with all that it is lent, '>', and all that it answers and leaves:
+    NAME SLOTS LENS TEXT SIZE COUNT INDEX ACTION YANKED ARGUMENT* > SLOTS LENS NUMBER SLOT SIZE SIZE COUNT INDEX ACTION YANKED
+SLOTS and LENS are the whole lent buffers, TEXT is the text that the call is handed, SIZE to YANKED the ring's record.
+Behind '>' SLOTS are the texts of the slots in use, one behind the other, and LENS their lengths; '=' where no byte of
+the whole buffer may change. The first SIZE there is the size before, which yank_pop answers.
+";
+
+const HEAD: &str = "\
+Texts are in hexadecimal, '-' where there is none; '*' and a decimal number behind it say how often the byte before it
+stands there in all, and a comma begins the next bytes: 0a61*3,62 is 0a61616162. Numbers are decimal. Where more than 8
+bytes stand behind the used part of a buffer, each of them is written as 9f: no answer depends on them.
+0 and 1 with places, text, cursor, lists and slots are the Rust's answers. From 2 on the Rust has none: number and
+what is left are the harness's reading of document 01, and so are cancel, redo's cursor and, where undo, redo or
+cancel is stopped by 9 or 12, the number. A line move that measures U+0009 or \\r is the Rust's on a text that has a
+letter for each of them, as document 01 counts them.
+";
+
+struct Sample {
+    seen: u64,
+    lines: Vec<String>,
+}
+
+/// A sample's call, its number, whether it has to do with a limit, and the part of the run.
+type Key = (&'static str, u32, bool, usize);
+
+struct Recorder {
+    rng: Rng,
+    part: usize,
+    samples: BTreeMap<Key, Sample>,
+}
+
+thread_local! {
+    static RECORDER: RefCell<Option<Recorder>> = const { RefCell::new(None) };
+}
+
+/// From here on answers are recorded.
+pub fn start(seed: u64) {
+    let recorder = Recorder { rng: Rng::new(!seed), part: 0, samples: BTreeMap::new() };
+    RECORDER.with(|r| *r.borrow_mut() = Some(recorder));
+}
+
+/// The next part of the run: each has its own samples.
+pub fn next_part() {
+    RECORDER.with(|r| r.borrow_mut().iter_mut().for_each(|recorder| recorder.part += 1));
+}
+
+fn data_of(name: &str) -> &'static Data {
+    FILES.iter().find(|data| (data.has)(name)).expect(name)
+}
+
+impl Recorder {
+    /// A sample of all that come by, each as likely as the others, but for those whose line is too long.
+    fn note(&mut self, name: &'static str, number: u32, at_a_limit: bool, line: impl FnOnce() -> String) {
+        let share = data_of(name).share.of(number, at_a_limit);
+        let longest = if at_a_limit { LONGEST_AT_A_LIMIT } else { LONGEST };
+        let key = (name, number, at_a_limit, self.part);
+        let sample = self.samples.entry(key).or_insert(Sample { seen: 0, lines: Vec::new() });
+        sample.seen += 1;
+        let full = sample.lines.len() == share;
+        let place = if full { self.rng.below(sample.seen as usize) } else { sample.lines.len() };
+        if place >= share {
+            return;
+        }
+        let line = line();
+        if line.len() > longest {
+            return;
+        }
+        match full {
+            true => sample.lines[place] = line,
+            false => sample.lines.push(line),
+        }
+    }
+
+    /// The lines of a call with a number: as many from one part of the run as from another, none of them twice.
+    fn drawn(&self, name: &str, number: u32, at_a_limit: bool) -> Vec<String> {
+        let share = data_of(name).share.of(number, at_a_limit);
+        let wanted = |key: &Key| key.0 == name && key.1 == number && key.2 == at_a_limit;
+        let parts: Vec<&Vec<String>> =
+            self.samples.iter().filter(|(key, _)| wanted(key)).map(|(_, sample)| &sample.lines).collect();
+        let longest = parts.iter().map(|lines| lines.len()).max().unwrap_or(0);
+        let in_turn = (0..longest).flat_map(|turn| parts.iter().filter_map(move |lines| lines.get(turn)));
+        let mut seen = HashSet::new();
+        let mut lines: Vec<String> = in_turn.filter(|line| seen.insert(*line)).take(share).cloned().collect();
+        lines.sort_by_key(|line| (line.len(), line.clone()));
+        lines
+    }
+}
+
+fn note(name: &'static str, number: u32, at_a_limit: bool, line: impl FnOnce() -> String) {
+    RECORDER.with(|r| {
+        if let Some(recorder) = r.borrow_mut().as_mut() {
+            recorder.note(name, number, at_a_limit, line);
+        }
+    });
+}
+
+/// The name in a data file: that of the C interface without its first word.
+fn short(name: &str) -> &str {
+    name.strip_prefix("tlf_").expect("an entry's name")
+}
+
+/// A call that is lent a text or a log, what it leaves in the three buffers, and its answer.
+pub fn call(name: &'static str, lent: Lent, due: [Option<&[u8]>; 3], answer: &EditAnswer) {
+    if !lent.fits() {
+        return;
+    }
+    note(name, answer.number, lent.is_at_a_limit(), || lent.line(short(name), due, answer));
+}
+
+/// The two lists' bytes, where there are any.
+pub fn lists(due: Option<&Bytes>) -> [Option<&[u8]>; 2] {
+    [due.map(|lists| &lists.records[..]), due.map(|lists| &lists.texts[..])]
+}
+
+/// A call that is lent a text and does not write.
+pub fn line_call(name: &'static str, lent: Lent, answer: &LineAnswer) {
+    let &LineAnswer { number, from, to, line } = answer;
+    call(name, lent, [None; 3], &EditAnswer { number, from, to, line, log: Log::default() });
+}
+
+/// A call that is lent a log alone.
+pub fn log_call(name: &'static str, lent: Lent, due: Option<&Bytes>, answer: &LogAnswer) {
+    let &LogAnswer { number, from, to, log } = answer;
+    let [records, texts] = lists(due);
+    let line = lent.line;
+    call(name, lent, [None, records, texts], &EditAnswer { number, from, to, line, log });
+}
+
+/// A call that is lent a ring, what it leaves, and its answer.
+pub fn ring_call(name: &'static str, lent: LentRing, texts: Option<&Vec<Vec<u8>>>, ring: &Ring, answer: &RingAnswer) {
+    if !lent.fits() {
+        return;
+    }
+    note(name, answer.number, lent.is_at_a_limit(), || lent.line(short(name), texts, ring, answer));
+}
+
+/// All calls in the order of their tables, each with the numbers that it can give.
+fn calls() -> impl Iterator<Item = (&'static str, &'static [u32])> {
+    let lines = line_calls::ENTRIES.iter().map(|entry| (entry.name, entry.gives));
+    let edits = edit_calls::ENTRIES.iter().map(|entry| (entry.name, entry.gives));
+    let logs = log_calls::ENTRIES.iter().map(|entry| (entry.name, entry.gives));
+    let undos = undo_calls::ENTRIES.iter().map(|entry| (entry.name, entry.gives));
+    let rings = ring_calls::ENTRIES.iter().map(|entry| (entry.name, entry.gives));
+    lines.chain(edits).chain(logs).chain(undos).chain(rings)
+}
+
+fn commented(text: &str) -> String {
+    text.lines().map(|line| format!("# {line}\n")).collect()
+}
+
+/// Writes each program's data file, `stdin`, and what the program prints where all of it agrees, `stdout`.
+pub fn write(crates: &Path, n: u64, seed: u64) -> io::Result<()> {
+    RECORDER.with(|r| {
+        let recorder = r.borrow();
+        let recorder = recorder.as_ref().expect("started");
+        for data in &FILES {
+            let mut file = commented(&format!("Written by `differential/record {n} {seed}`; {}.", env!("VERSIONS")));
+            file += &commented(data.form);
+            file += &commented(HEAD);
+            let mut printed = String::new();
+            for (name, gives) in calls().filter(|(name, _)| (data.has)(name)) {
+                let mut count = 0;
+                for &number in gives {
+                    let lines: Vec<String> =
+                        [false, true].iter().flat_map(|&limit| recorder.drawn(name, number, limit)).collect();
+                    if lines.is_empty() && n >= crate::ENOUGH {
+                        return Err(io::Error::other(format!("no line of {name} with {number} is short enough")));
+                    }
+                    lines.iter().for_each(|line| file += &format!("{line}\n"));
+                    count += lines.len();
+                }
+                printed += &format!("{}: {count} agree\n", short(name));
+            }
+            assert!(file.len() <= MOST, "{} has {} bytes", data.program, file.len());
+            let folder = crates.join(data.program);
+            fs::create_dir_all(&folder)?;
+            fs::write(folder.join("stdin"), file)?;
+            fs::write(folder.join("stdout"), printed)?;
+        }
+        Ok(())
+    })
+}
