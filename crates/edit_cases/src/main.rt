@@ -15,7 +15,6 @@ ghost use Prim.Native.Nat.{_≤_};
 ghost use lib.ListN.{length};
 use changeset::Log;
 use changeset::Used;
-use check::same;
 use checks::Line;
 use edit::EditAnswer;
 use fields::is_at;
@@ -38,184 +37,34 @@ fn wide(x: u32) -> usize {
     x as usize
 }
 
-// A repeat count: 65,535 where the number is over it.
-fn count_of(x: u32) -> u16 {
-    if 65535 < x { 65535 } else { x as u16 }
-}
-
-// An amount of columns: 255 where the number is over it.
-fn amount_of(x: u32) -> u8 {
-    if 255 < x { 255 } else { x as u8 }
-}
-
 fn least(a: usize, b: usize) -> usize
     ensures { λ r. ⌜ (r ≤ a) × (r ≤ b) ⌝ }
 {
     if a < b { a } else { b }
 }
 
-// The number of a call by its name and the count of its numbers, 0 where there is none.
-fn code_of(name: &[u8], count: usize) -> usize {
-    match count {
-        0 => plain_code(name),
-        1 => code_with_one(name),
-        2 => code_with_two(name),
-        3 => code_with_three(name),
-        6 => code_if(name, b"kill", 1),
-        8 => code_if(name, b"indent", 20),
-        _ => 0,
-    }
+// Is there a call of this name with so many numbers?
+fn is_call(name: &[u8], count: usize) -> bool {
+    (kill_dispatch::key_of(name, count) != 0) | (edit_dispatch::key_of(name, count) != 0)
 }
 
-fn code_if(name: &[u8], call: &[u8], code: usize) -> usize {
-    if same(name, call) { code } else { 0 }
-}
-
-fn plain_code(name: &[u8]) -> usize {
-    if same(name, b"kill_line") {
-        return 2;
-    }
-    if same(name, b"kill_buffer") {
-        return 3;
-    }
-    if same(name, b"discard_line") {
-        return 4;
-    }
-    if same(name, b"discard_buffer") {
-        return 5;
-    }
-    code_if(name, b"transpose_chars", 17)
-}
-
-fn code_with_one(name: &[u8]) -> usize {
-    if same(name, b"backspace") {
-        return 6;
-    }
-    if same(name, b"delete") {
-        return 10;
-    }
-    if same(name, b"yank") {
-        return 12;
-    }
-    if same(name, b"yank_pop") {
-        return 13;
-    }
-    if same(name, b"edit_word") {
-        return 18;
-    }
-    if same(name, b"transpose_words") {
-        return 19;
-    }
-    code_if(name, b"update", 14)
-}
-
-fn code_with_two(name: &[u8]) -> usize {
-    if same(name, b"delete_prev_word") {
-        return 7;
-    }
-    if same(name, b"insert") {
-        return 11;
-    }
-    if same(name, b"delete_range") {
-        return 15;
-    }
-    code_if(name, b"replace", 16)
-}
-
-fn code_with_three(name: &[u8]) -> usize {
-    if same(name, b"delete_word") {
-        return 8;
-    }
-    code_if(name, b"delete_to", 9)
-}
-
-// The calls of kills, by their number.
-fn kill_call(
-    code: usize,
-    text: &mut [u8],
-    records: &mut [u8],
-    texts: &mut [u8],
-    line: Line,
-    log: Log,
-    v: &[u32; 12],
-) -> EditAnswer {
-    let a = v[0];
-    let b = v[1];
-    let c = v[2];
-    let na = count_of(a);
-    let nb = count_of(b);
-    let nc = count_of(c);
-    match code {
-        1 => kills::kill(text, records, texts, line, log, a, nb, c, v[3], v[4], v[5]),
-        2 => kills::kill_line(text, records, texts, line, log),
-        3 => kills::kill_buffer(text, records, texts, line, log),
-        4 => kills::discard_line(text, records, texts, line, log),
-        5 => kills::discard_buffer(text, records, texts, line, log),
-        6 => kills::backspace(text, records, texts, line, log, na),
-        7 => kills::delete_prev_word(text, records, texts, line, log, a, nb),
-        8 => kills::delete_word(text, records, texts, line, log, a, b, nc),
-        9 => kills::delete_to(text, records, texts, line, log, a, b, nc),
-        _ => kills::delete(text, records, texts, line, log, na),
-    }
-}
-
-fn indent_call(
-    text: &mut [u8],
-    records: &mut [u8],
-    texts: &mut [u8],
-    line: Line,
-    log: Log,
-    v: &[u32; 12],
-) -> EditAnswer {
-    let n = count_of(v[1]);
-    let amount = amount_of(v[6]);
-    let dedent = v[7] != 0;
-    indents::indent(
-        text,
-        records,
-        texts,
-        line,
-        log,
-        v[0],
-        n,
-        v[2],
-        v[3],
-        v[4],
-        v[5],
-        amount,
-        dedent,
-    )
-}
-
-// All calls, by their number.
+// The answer of the call of a name.
 fn call(
-    code: usize,
+    name: &[u8],
     text: &mut [u8],
     records: &mut [u8],
     texts: &mut [u8],
     line: Line,
     log: Log,
     buf: &[u8],
-    v: &[u32; 12],
+    v: &[usize],
 ) -> EditAnswer {
-    let a = v[0];
-    let na = count_of(a);
-    let nb = count_of(v[1]);
-    let from = wide(a);
-    let to = wide(v[1]);
-    match code {
-        11 => inserts::insert(text, records, texts, line, log, a, nb),
-        12 => inserts::yank(text, records, texts, line, log, buf, na),
-        13 => inserts::yank_pop(text, records, texts, line, log, from, buf),
-        14 => inserts::update(text, records, texts, line, log, buf, from),
-        15 => ranges::delete_range(text, records, texts, line, log, from, to),
-        16 => ranges::replace(text, records, texts, line, log, from, to, buf),
-        17 => rewrites::transpose_chars(text, records, texts, line, log),
-        18 => rewrites::edit_word(text, records, texts, line, log, a),
-        19 => transpose_words::transpose_words(text, records, texts, line, log, na),
-        20 => indent_call(text, records, texts, line, log, v),
-        _ => kill_call(code, text, records, texts, line, log, v),
+    let kill = kill_dispatch::key_of(name, v.len());
+    if kill != 0 {
+        return kill_dispatch::call(kill, text, records, texts, line, log, v);
     }
+    let edit = edit_dispatch::key_of(name, v.len());
+    edit_dispatch::call(edit, text, records, texts, line, log, buf, v)
 }
 
 fn print(s: &[u8]) {
@@ -315,13 +164,13 @@ fn print_answer(text: &[u8], records: &[u8], texts: &[u8], a: EditAnswer) {
 
 // The call on what is lent.
 fn call_lent(
-    code: usize,
+    name: &[u8],
     text: &mut [u8],
     records: &mut [u8],
     texts: &mut [u8],
     l: Lent,
     buf: &[u8],
-    v: &[u32; 12],
+    v: &[usize],
 ) -> EditAnswer {
     let c = least(l.text, text.len());
     let r = least(l.records, records.len());
@@ -329,7 +178,7 @@ fn call_lent(
     let line = l.line;
     let log = l.log;
     call(
-        code,
+        name,
         &mut text[0..c],
         &mut records[0..r],
         &mut texts[0..t],
@@ -352,17 +201,24 @@ fn run_case(
     requires { ⌜ from ≤ length (now s) ⌝ }
 {
     let mut buf = [0u8; 64];
-    let mut values = [0u32; 12];
+    let mut values = [0usize; 12];
     let end = place_of(s, from, b' ');
     let t = text_behind(s, end, &mut buf);
     let count = numbers_of(s, t.next, &mut values);
     let len = t.value;
-    let code = code_of(&s[from..end], count);
-    if code == 0 {
+    if !is_call(&s[from..end], count) {
         print(b" no such call\n");
         return l;
     }
-    let a = call_lent(code, text, records, texts, l, &buf[0..len], &values);
+    let a = call_lent(
+        &s[from..end],
+        text,
+        records,
+        texts,
+        l,
+        &buf[0..len],
+        &values[0..count],
+    );
     print_answer(text, records, texts, a);
     let line = a.line;
     let log = a.log;
@@ -379,14 +235,14 @@ fn run_case(
 fn lend(s: &[u8], end: usize, text: &mut [u8], records: &mut [u8], texts: &mut [u8]) -> Lent
     requires { ⌜ end ≤ length (now s) ⌝ }
 {
-    let mut v = [0u32; 12];
+    let mut v = [0usize; 12];
     let a = text_behind(s, end, text);
     let b = text_behind(s, a.next, records);
     let c = text_behind(s, b.next, texts);
     numbers_of(s, c.next, &mut v);
     let line = Line {
         len: a.value,
-        cursor: wide(v[1]),
+        cursor: v[1],
     };
     let redo = Used {
         records: b.value,
@@ -398,9 +254,9 @@ fn lend(s: &[u8], end: usize, text: &mut [u8], records: &mut [u8], texts: &mut [
         level: 0,
     };
     Lent {
-        text: wide(v[0]),
-        records: wide(v[2]),
-        texts: wide(v[3]),
+        text: v[0],
+        records: v[2],
+        texts: v[3],
         line,
         log,
     }

@@ -30,9 +30,6 @@ same-length-2 c = search needs
 returns-2 : tie.Need-returns-2 Inv-loop μ-loop
 returns-2 c = search needs
 
-cast-out : tie.Need-cast-out Inv-loop μ-loop
-cast-out c = search needs
-
 mul-out : tie.Need-mul-out Inv-loop μ-loop
 mul-out c = search needs
 
@@ -66,7 +63,6 @@ numbers-of-spec =
     returns
     same-length-2
     returns-2
-    cast-out
     mul-out
     slice-write-out
     add-count

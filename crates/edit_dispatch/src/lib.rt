@@ -1,0 +1,114 @@
+// The calls of `inserts`, `ranges`, `rewrites` and `indents` by their names: what the programs of cases and of recorded answers
+// share. The arguments besides a text stand in the order of the call's parameters.
+use changeset::Log;
+use check::same;
+use checks::Line;
+use edit::EditAnswer;
+use fields::amount_of;
+use fields::code_of;
+use fields::count_of;
+use fields::value_at;
+
+fn key_if(name: &[u8], call: &[u8], key: usize) -> usize {
+    if same(name, call) { key } else { 0 }
+}
+
+fn key_with_one(name: &[u8]) -> usize {
+    if same(name, b"yank") {
+        return 2;
+    }
+    if same(name, b"yank_pop") {
+        return 3;
+    }
+    if same(name, b"update") {
+        return 4;
+    }
+    if same(name, b"edit_word") {
+        return 8;
+    }
+    key_if(name, b"transpose_words", 9)
+}
+
+fn key_with_two(name: &[u8]) -> usize {
+    if same(name, b"insert") {
+        return 1;
+    }
+    if same(name, b"delete_range") {
+        return 5;
+    }
+    key_if(name, b"replace", 6)
+}
+
+// The call of this name with so many arguments besides a text, as `call` takes it; 0 where there is none.
+pub fn key_of(name: &[u8], count: usize) -> usize {
+    match count {
+        0 => key_if(name, b"transpose_chars", 7),
+        1 => key_with_one(name),
+        2 => key_with_two(name),
+        8 => key_if(name, b"indent", 10),
+        _ => 0,
+    }
+}
+
+fn indent_call(
+    text: &mut [u8],
+    records: &mut [u8],
+    texts: &mut [u8],
+    line: Line,
+    log: Log,
+    v: &[usize],
+) -> EditAnswer {
+    let mvt = code_of(value_at(v, 0));
+    let n = count_of(value_at(v, 1));
+    let at = code_of(value_at(v, 2));
+    let word = code_of(value_at(v, 3));
+    let search = code_of(value_at(v, 4));
+    let ch = code_of(value_at(v, 5));
+    let amount = amount_of(value_at(v, 6));
+    let dedent = value_at(v, 7) != 0;
+    indents::indent(
+        text,
+        records,
+        texts,
+        line,
+        log,
+        mvt,
+        n,
+        at,
+        word,
+        search,
+        ch,
+        amount,
+        dedent,
+    )
+}
+
+// The answer of a call that `key_of` gives, with this text to put in and these other arguments.
+pub fn call(
+    key: usize,
+    text: &mut [u8],
+    records: &mut [u8],
+    texts: &mut [u8],
+    line: Line,
+    log: Log,
+    buf: &[u8],
+    v: &[usize],
+) -> EditAnswer {
+    let a = value_at(v, 0);
+    let b = value_at(v, 1);
+    let code = code_of(a);
+    let n = count_of(a);
+    let nb = count_of(b);
+    match key {
+        1 => inserts::insert(text, records, texts, line, log, code, nb),
+        2 => inserts::yank(text, records, texts, line, log, buf, n),
+        3 => inserts::yank_pop(text, records, texts, line, log, a, buf),
+        4 => inserts::update(text, records, texts, line, log, buf, a),
+        5 => ranges::delete_range(text, records, texts, line, log, a, b),
+        6 => ranges::replace(text, records, texts, line, log, a, b, buf),
+        7 => rewrites::transpose_chars(text, records, texts, line, log),
+        8 => rewrites::edit_word(text, records, texts, line, log, code),
+        9 => transpose_words::transpose_words(text, records, texts, line, log, n),
+        _ => indent_call(text, records, texts, line, log, v),
+    }
+}

@@ -1,0 +1,4 @@
+// Replays the recorded answers of the edits of `kills`.
+fn main() {
+    replay::run();
+}
