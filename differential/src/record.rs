@@ -1,5 +1,5 @@
 //! The recorded answers: of the comparisons in which the library gives what is expected, a sample for each call and
-//! number. Rattle programs replay it; what a line means stands at the head of each data file (`STATE`, `RING`, `HEAD`).
+//! number. A Rattle program replays it; what a line means stands at the head of each data file (`STATE`, `RING`, `HEAD`).
 use std::cell::RefCell;
 use std::collections::{BTreeMap, HashSet};
 use std::path::Path;
@@ -37,9 +37,9 @@ impl Share {
     }
 }
 
-/// A program with its data file, and how many lines of each call it has.
+/// A data file, and how many lines of each call it has.
 struct Data {
-    program: &'static str,
+    file: &'static str,
     share: Share,
     /// What a line is.
     form: &'static str,
@@ -64,37 +64,37 @@ const KILLS: [&str; 10] = [
 
 static FILES: [Data; 6] = [
     Data {
-        program: "line_answers",
+        file: "line.txt",
         share: Share { done: 40, nothing: 24, other: 12, at_a_limit: 2 },
         form: STATE,
         has: is_line,
     },
     Data {
-        program: "edit_answers",
+        file: "edit.txt",
         share: Share { done: 40, nothing: 24, other: 12, at_a_limit: 2 },
         form: STATE,
         has: |name| is_edit(name) && !KILLS.contains(&name),
     },
     Data {
-        program: "kill_answers",
+        file: "kill.txt",
         share: Share { done: 40, nothing: 24, other: 12, at_a_limit: 2 },
         form: STATE,
         has: |name| KILLS.contains(&name),
     },
     Data {
-        program: "log_answers",
+        file: "log.txt",
         share: Share { done: 70, nothing: 50, other: 30, at_a_limit: 4 },
         form: STATE,
         has: |name| log_calls::ENTRIES.iter().any(|entry| entry.name == name),
     },
     Data {
-        program: "undo_answers",
+        file: "undo.txt",
         share: Share { done: 120, nothing: 60, other: 40, at_a_limit: 4 },
         form: STATE,
         has: |name| undo_calls::ENTRIES.iter().any(|entry| entry.name == name),
     },
     Data {
-        program: "ring_answers",
+        file: "ring.txt",
         share: Share { done: 120, nothing: 60, other: 40, at_a_limit: 16 },
         form: RING,
         has: |name| ring_calls::ENTRIES.iter().any(|entry| entry.name == name),
@@ -263,16 +263,18 @@ fn commented(text: &str) -> String {
     text.lines().map(|line| format!("# {line}\n")).collect()
 }
 
-/// Writes each program's data file, `stdin`, and what the program prints where all of it agrees, `stdout`.
-pub fn write(crates: &Path, n: u64, seed: u64) -> io::Result<()> {
+/// Writes the data files of the program that replays them, and what it prints where all of it agrees, `stdout`.
+pub fn write(program: &Path, n: u64, seed: u64) -> io::Result<()> {
     RECORDER.with(|r| {
         let recorder = r.borrow();
         let recorder = recorder.as_ref().expect("started");
+        fs::create_dir_all(program.join("data"))?;
+        let mut printed = String::new();
         for data in &FILES {
             let mut file = commented(&format!("Written by `differential/record {n} {seed}`; {}.", env!("VERSIONS")));
             file += &commented(data.form);
             file += &commented(HEAD);
-            let mut printed = String::new();
+            printed += &format!("{}\n", data.file);
             for (name, gives) in calls().filter(|(name, _)| (data.has)(name)) {
                 let mut count = 0;
                 for &number in gives {
@@ -286,12 +288,9 @@ pub fn write(crates: &Path, n: u64, seed: u64) -> io::Result<()> {
                 }
                 printed += &format!("{}: {count} agree\n", short(name));
             }
-            assert!(file.len() <= MOST, "{} has {} bytes", data.program, file.len());
-            let folder = crates.join(data.program);
-            fs::create_dir_all(&folder)?;
-            fs::write(folder.join("stdin"), file)?;
-            fs::write(folder.join("stdout"), printed)?;
+            assert!(file.len() <= MOST, "{} has {} bytes", data.file, file.len());
+            fs::write(program.join("data").join(data.file), file)?;
         }
-        Ok(())
+        fs::write(program.join("stdout"), printed)
     })
 }

@@ -171,9 +171,9 @@ fn replay(s: &[u8]) {
     print_count(&s[first..last], agreed);
 }
 
-// Replays standard input, as far as 262,144 bytes.
-pub fn run() {
+// Replays the file of a descriptor, as far as 262,144 bytes.
+pub fn run(fd: i32) {
     let mut input = [0u8; 262144];
-    let n = io::read_full(0, &mut input);
+    let n = io::read_full(fd, &mut input);
     replay(&input[..n]);
 }

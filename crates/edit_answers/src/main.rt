@@ -1,4 +1,0 @@
-// Replays the recorded answers of the edits of `inserts`, `ranges`, `rewrites` and `indents`.
-fn main() {
-    replay::run();
-}

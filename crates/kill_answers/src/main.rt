@@ -1,4 +1,0 @@
-// Replays the recorded answers of the edits of `kills`.
-fn main() {
-    replay::run();
-}

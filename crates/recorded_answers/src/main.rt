@@ -1,0 +1,17 @@
+// Replays the recorded answers: the lines that `differential/record` wrote to the files of data/, each file below its name.
+use libc::STDOUT_FILENO;
+
+fn replay_file(path: &[u8]) {
+    io::write_all(STDOUT_FILENO, path);
+    io::write_all(STDOUT_FILENO, b"\n");
+    replay::run(os::open_read(path));
+}
+
+fn main() {
+    replay_file(b"line.txt");
+    replay_file(b"edit.txt");
+    replay_file(b"kill.txt");
+    replay_file(b"log.txt");
+    replay_file(b"undo.txt");
+    replay_file(b"ring.txt");
+}

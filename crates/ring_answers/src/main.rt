@@ -1,4 +1,0 @@
-// Replays the recorded answers of the kill ring's calls.
-fn main() {
-    replay::run();
-}
