@@ -8,16 +8,16 @@
 // none; the other arguments stand in the order of the call's parameters, dedent as 0 or 1. A line that begins with '#' is a comment.
 // There is one space between two fields. Fields are written as those of movement_cases: texts in hexadecimal, all others in decimal.
 //
-// Printed of a case are its words, the number and the two places that are answered, the text's used length, its first 40 bytes
-// and the cursor, then of the undo list and of the redo list the two used lengths, the records in hexadecimal and the texts. In a
-// text \ stands before the hexadecimal digits of a byte that is not a visible ASCII character.
+// Printed of a case are its words, and the answer as `edit_print` prints it.
 ghost use Prim.Native.Nat.{_≤_};
 ghost use lib.ListN.{length};
 use changeset::Log;
 use changeset::Used;
 use checks::Line;
 use edit::EditAnswer;
+use edit_print::print_answer;
 use fields::is_at;
+use fields::least;
 use fields::numbers_of;
 use fields::past;
 use fields::place_of;
@@ -31,16 +31,6 @@ struct Lent {
     texts: usize,
     line: Line,
     log: Log,
-}
-
-fn wide(x: u32) -> usize {
-    x as usize
-}
-
-fn least(a: usize, b: usize) -> usize
-    ensures { λ r. ⌜ (r ≤ a) × (r ≤ b) ⌝ }
-{
-    if a < b { a } else { b }
 }
 
 // Is there a call of this name with so many numbers?
@@ -69,97 +59,6 @@ fn call(
 
 fn print(s: &[u8]) {
     io::write_all(STDOUT_FILENO, s);
-}
-
-// A number behind a space.
-fn print_number(n: usize) {
-    print(b" ");
-    io::print_decimal(STDOUT_FILENO, n as u64);
-}
-
-fn print_byte(b: u8) {
-    io::print_hex(STDOUT_FILENO, b as u64, 2);
-}
-
-fn print_character(b: u8) {
-    if (b < 32) | (126 < b) {
-        print(b"\\");
-        return print_byte(b);
-    }
-    let one = [b; 1];
-    print(&one);
-}
-
-// A text in quotes, behind a space.
-fn print_text(s: &[u8]) {
-    print(b" \"");
-    let mut at = 0;
-    while at < s.len() {
-        print_character(s[at]);
-        at += 1;
-    }
-    print(b"\"");
-}
-
-// Records, behind a space: '-' where there are none.
-fn print_records(s: &[u8]) {
-    print(b" ");
-    if s.len() == 0 {
-        print(b"-");
-    }
-    let mut at = 0;
-    while at < s.len() {
-        print_byte(s[at]);
-        at += 1;
-    }
-}
-
-// A list whose records and texts begin at two places of the buffers.
-fn print_list(records: &[u8], texts: &[u8], from: Used, u: Used) {
-    let a = least(from.records, records.len());
-    let b = a + least(u.records, records.len() - a);
-    let c = least(from.texts, texts.len());
-    let d = c + least(u.texts, texts.len() - c);
-    print_number(u.records);
-    print_number(u.texts);
-    print_records(&records[a..b]);
-    print_text(&texts[c..d]);
-}
-
-// The used lengths of a list of no records.
-fn none_used() -> Used {
-    Used {
-        records: 0,
-        texts: 0,
-    }
-}
-
-fn print_line(text: &[u8], line: Line) {
-    let n = least(line.len, text.len());
-    let shown = least(n, 40);
-    print(b" text");
-    print_number(line.len);
-    print_text(&text[0..shown]);
-    print(b" cursor");
-    print_number(line.cursor);
-}
-
-// Prints an answer and what it leaves.
-fn print_answer(text: &[u8], records: &[u8], texts: &[u8], a: EditAnswer) {
-    let line = a.line;
-    let log = a.log;
-    print_number(wide(a.number));
-    print(b" places");
-    print_number(a.from);
-    print_number(a.to);
-    print_line(text, line);
-    let u = log.undo;
-    let r = log.redo;
-    print(b" undo");
-    print_list(records, texts, none_used(), u);
-    print(b" redo");
-    print_list(records, texts, u, r);
-    print(b"\n");
 }
 
 // The call on what is lent.
@@ -231,7 +130,7 @@ fn run_case(
     }
 }
 
-// What a line lends whose first field ends at a place: nothing where no other field stands behind it.
+// What a line lends whose first field ends at a place.
 fn lend(s: &[u8], end: usize, text: &mut [u8], records: &mut [u8], texts: &mut [u8]) -> Lent
     requires { ⌜ end ≤ length (now s) ⌝ }
 {
@@ -244,12 +143,16 @@ fn lend(s: &[u8], end: usize, text: &mut [u8], records: &mut [u8], texts: &mut [
         len: a.value,
         cursor: v[1],
     };
+    let undo = Used {
+        records: 0,
+        texts: 0,
+    };
     let redo = Used {
         records: b.value,
         texts: c.value,
     };
     let log = Log {
-        undo: none_used(),
+        undo,
         redo,
         level: 0,
     };
@@ -257,6 +160,19 @@ fn lend(s: &[u8], end: usize, text: &mut [u8], records: &mut [u8], texts: &mut [
         text: v[0],
         records: v[2],
         texts: v[3],
+        line,
+        log,
+    }
+}
+
+// What is lent before the first line.
+fn nothing_lent() -> Lent {
+    let line = Line { len: 0, cursor: 0 };
+    let log = Log::new();
+    Lent {
+        text: 0,
+        records: 0,
+        texts: 0,
         line,
         log,
     }
@@ -281,7 +197,7 @@ fn replay(s: &[u8]) {
     let mut text = [0u8; 4096];
     let mut records = [0u8; 128];
     let mut texts = [0u8; 128];
-    let mut l = lend(&s[0..0], 0, &mut text, &mut records, &mut texts);
+    let mut l = nothing_lent();
     let mut at = 0;
     while at < s.len() {
         let end = place_of(s, at, b'\n');

@@ -11,26 +11,8 @@ Inv-loop s text₀ records₀ texts₀ l₀ at₀ text records texts l at = (at 
 abbrev μ-loop : tie.MeasureT-loop
 μ-loop s text₀ records₀ texts₀ l₀ at₀ text records texts l at = length s - at
 
-sub-lend : tie.Need-sub-lend Inv-loop μ-loop
-sub-lend c = search needs
-
-part-lend-start : tie.Need-part-lend-start Inv-loop μ-loop
-part-lend-start c = search needs
-
-part-lend-end : tie.Need-part-lend-end Inv-loop μ-loop
-part-lend-end c = search needs
-
-slice-aggregate-lend : tie.Need-slice-aggregate-lend Inv-loop μ-loop
-slice-aggregate-lend c = search needs
-
-slice-aggregate-lend-2 : tie.Need-slice-aggregate-lend-2 Inv-loop μ-loop
-slice-aggregate-lend-2 c = search needs
-
-slice-aggregate-lend-3 : tie.Need-slice-aggregate-lend-3 Inv-loop μ-loop
-slice-aggregate-lend-3 c = search needs
-
-lend-requires : tie.Need-lend-requires Inv-loop μ-loop
-lend-requires c κs = search needs
+nothing-lent-requires : tie.Need-nothing-lent-requires Inv-loop μ-loop
+nothing-lent-requires c κs = search needs
 
 loop-holds : tie.Need-loop-holds Inv-loop μ-loop
 loop-holds c = search needs
@@ -77,13 +59,7 @@ replay-spec =
     (tie.spec
     Inv-loop
     μ-loop
-    sub-lend
-    part-lend-start
-    part-lend-end
-    slice-aggregate-lend
-    slice-aggregate-lend-2
-    slice-aggregate-lend-3
-    lend-requires
+    nothing-lent-requires
     loop-holds
     place-of-requires
     sub-step
