@@ -23,6 +23,9 @@ const SEARCHES: [&str; 4] = ["Forward", "ForwardBefore", "Backward", "BackwardAf
 /// Bytes of a longer text that are shown.
 const SHOWN: usize = 400;
 
+/// Where the Rust has no answer.
+pub const PANIC: &str = "expected   the Rust panics here, and no check of this harness foresees it\n";
+
 /// The input: call, arguments, text with its cursor.
 pub fn input(entry: &Entry, case: &Case, cursor: usize, args: &Args) -> String {
     let buffer = case.lent.bytes();
@@ -47,9 +50,8 @@ pub fn answers(difference: &Difference) -> String {
         let _ = writeln!(out, "           and it wrote to place {place} from the buffer's start");
     }
     let _ = match &difference.expected {
-        Some(due) if due.number < 2 => writeln!(out, "expected   {} (the Rust)", answer(due)),
-        Some(due) => writeln!(out, "expected   {} (check {})", answer(due), due.number),
-        None => writeln!(out, "expected   the Rust panics here, and no check of this harness foresees it"),
+        Some(due) => writeln!(out, "expected   {} ({})", answer(due), by(due.number)),
+        None => write!(out, "{PANIC}"),
     };
     out
 }
@@ -60,18 +62,23 @@ fn answer(answer: &LineAnswer) -> String {
     format!("{number} {word}, from {from}, to {to}, used length {}, cursor {}", line.len, line.cursor)
 }
 
+/// Who expects an answer of this number.
+pub fn by(number: u32) -> String {
+    if number < 2 { "the Rust".into() } else { format!("check {number}") }
+}
+
 /// Document 01's word for a number.
 pub fn word(number: u32) -> &'static str {
     WORDS.get(number as usize).unwrap_or(&"no number of document 01")
 }
 
-pub fn arguments(uses: &[Param], args: &Args) -> String {
+fn arguments(uses: &[Param], args: &Args) -> String {
     let one = |&param: &Param| format!("{} {}", format!("{param:?}").to_lowercase(), value(param, args));
     if uses.is_empty() { "none".into() } else { uses.iter().map(one).collect::<Vec<_>>().join(", ") }
 }
 
 /// A number, with its name where it is a code or a character; a text.
-fn value(param: Param, args: &Args) -> String {
+pub fn value(param: Param, args: &Args) -> String {
     let number = args.get(param);
     let names: &[&str] = match param {
         Param::Mvt => &MOVEMENTS,

@@ -1,42 +1,62 @@
-//! A difference in a list of calls on a text and a log told to a reader.
+//! A step on a text and a log, and a difference there, told to a reader.
 use std::fmt::Write as _;
 
-use crate::account::{self, arguments, shown, word};
+use crate::account::{self, PANIC, by, shown, value, word};
 use crate::conclusions::Conclusion;
 use crate::edit_case::{self, Case};
 use crate::edit_lists::{Call, Difference, Step};
-use crate::edit_shrink::Differing;
 use crate::ffi::{EditAnswer, Line};
-use crate::log_account::{self, changes, numbered, state};
+use crate::list_account::{self, Tell};
+use crate::log_account::{self, changes, state};
 use crate::undo_calls::CANCEL;
 
-/// A call and what it is lent, before the damage that the step may do to it.
-pub fn input(case: &Case, step: &Step) -> String {
-    let loan = case.log.loan();
-    let Line { len, cursor } = case.line();
-    let mut out = String::new();
-    let _ = writeln!(out, "call       {}", told(step));
-    let _ = writeln!(out, "text       {}", shown(case.text(), cursor));
-    let _ = writeln!(out, "           C {}, used length {len}, cursor {cursor}, shown as |", case.size());
-    let _ = writeln!(out, "buffers    records {}, texts {}", loan.records.len(), loan.texts.len());
-    let _ = writeln!(out, "log        {}", state(&loan.log));
-    let _ = writeln!(out, "           {}", changes(&case.log.left(&loan.log), &loan.log));
-    out
-}
+impl Tell for Step {
+    fn told(&self) -> String {
+        match self {
+            Step::Call(call) => told_call(call),
+            Step::Damaged(faults, call) => {
+                let Line { len, cursor } = faults.line;
+                let text = shown(&faults.buffer, usize::MAX);
+                let buffer = format!("a text buffer of {} bytes {text}", faults.buffer.len());
+                format!("{}, with {buffer}, used length {len}, cursor {cursor}, and {:?}", told_call(call), faults.log)
+            }
+            Step::Log(step) => step.told(),
+            Step::Text(text, cursor) => {
+                format!("another text, its cursor shown as |: {}", shown(text.as_bytes(), *cursor))
+            }
+            Step::Grow([size, records, texts]) => {
+                format!("larger buffers: C at least {size}, records {records}, texts {texts}")
+            }
+            Step::Conclude(conclusion) => format!("demand 3: {}", told_conclusion(conclusion)),
+        }
+    }
 
-/// The list of calls, and the two answers to the last, or the conclusion that is wrong.
-pub fn difference(differing: &Differing) -> String {
-    let Differing { list, difference } = differing;
-    let [size, records, texts] = list.sizes;
-    let sizes = format!("C {size}, records {records}, texts {texts}");
-    let steps = numbered(list.steps.iter().map(told));
-    let answers = match difference {
-        Difference::Edit(difference) => answers(difference, list.steps.last().is_some_and(is_cancel)),
-        Difference::Line(difference) => account::answers(difference),
-        Difference::Log(difference) => log_account::answers(difference),
-        Difference::Conclusion(failure) => failure.told(),
-    };
-    format!("buffers    {sizes}, an empty text and an empty log\n{steps}{answers}")
+    fn input(&self, case: &Case) -> String {
+        let loan = case.log.loan();
+        let Line { len, cursor } = case.line();
+        let mut out = String::new();
+        let _ = writeln!(out, "call       {}", self.told());
+        let _ = writeln!(out, "text       {}", shown(case.text(), cursor));
+        let _ = writeln!(out, "           C {}, used length {len}, cursor {cursor}, shown as |", case.size());
+        let _ = writeln!(out, "buffers    records {}, texts {}", loan.records.len(), loan.texts.len());
+        let _ = writeln!(out, "log        {}", state(&loan.log));
+        let _ = writeln!(out, "           {}", changes(&case.log.left(&loan.log), &loan.log));
+        out
+    }
+
+    fn told_start([size, records, texts]: [usize; 3]) -> String {
+        format!("C {size}, records {records}, texts {texts}, an empty text and an empty log")
+    }
+
+    /// The two answers, or the conclusion that is wrong.
+    fn answers(&self, difference: &Difference) -> String {
+        match difference {
+            Difference::Edit(difference) => answers(difference, is_cancel(self)),
+            Difference::Line(difference) => account::answers(difference),
+            Difference::Log(difference) => log_account::answers(difference),
+            Difference::Conclusion(failure) => failure.told(),
+        }
+    }
 }
 
 /// Cancel is document 01's own.
@@ -50,17 +70,13 @@ fn answers(difference: &edit_case::Difference, is_cancel: bool) -> String {
     let _ = writeln!(out, "library    {}", answer(got));
     let _ = writeln!(out, "           text {}", shown(text, got.line.cursor));
     let _ = writeln!(out, "           {}", changes(lists, &got.log));
-    let Some(due) = expected else {
-        let _ = writeln!(out, "expected   the Rust panics here, and no check of this harness foresees it");
-        return out;
-    };
+    let Some(due) = expected else { return out + PANIC };
     for (buffer, place) in wrong.iter().filter(|_| got.number == due.answer.number) {
         let _ = writeln!(out, "           and it left a wrong byte at place {place} of {buffer}");
     }
     let by = match due.answer.number {
         0 | 1 if is_cancel => "document 01".into(),
-        0 | 1 => "the Rust".into(),
-        number => format!("check {number}"),
+        number => by(number),
     };
     let _ = writeln!(out, "expected   {} ({by})", answer(&due.answer));
     let _ = match &due.text {
@@ -80,28 +96,8 @@ fn answer(answer: &EditAnswer) -> String {
     format!("{number} {word}, from {from}, to {to}, used length {len}, cursor {cursor}, log: {}", state(log))
 }
 
-/// A step in words.
-fn told(step: &Step) -> String {
-    match step {
-        Step::Call(call) => told_call(call),
-        Step::Damaged(faults, call) => {
-            let Line { len, cursor } = faults.line;
-            let text = shown(&faults.buffer, usize::MAX);
-            let buffer = format!("a text buffer of {} bytes {text}", faults.buffer.len());
-            format!("{}, with {buffer}, used length {len}, cursor {cursor}, and {:?}", told_call(call), faults.log)
-        }
-        Step::Log(step) => log_account::told(step),
-        Step::Text(text, cursor) => format!("another text, its cursor shown as |: {}", shown(text.as_bytes(), *cursor)),
-        Step::Grow([size, records, texts]) => {
-            format!("larger buffers: C at least {size}, records {records}, texts {texts}")
-        }
-        Step::Conclude(conclusion) => format!("demand 3: {}", told_conclusion(conclusion)),
-    }
-}
-
 fn told_call(call: &Call) -> String {
-    let uses = call.uses();
-    if uses.is_empty() { call.name().into() } else { format!("{} {}", call.name(), arguments(&uses, &call.args)) }
+    list_account::told_call(call.name(), &call.uses(), |param| value(param, &call.args))
 }
 
 fn told_conclusion(conclusion: &Conclusion) -> String {

@@ -4,7 +4,7 @@ use crate::edit_calls::{ENTRIES, Entry};
 use crate::edit_case::Case;
 use crate::edit_lists::{Call, Faults, Step};
 use crate::ffi::Line;
-use crate::r#gen::{Draft, FAULTS, FOREIGN, Rng, behind, boundary, drawn_args, drawn_place, drawn_text, spoil};
+use crate::r#gen::{BLOCK, Draft, FAULTS, FOREIGN, Rng, behind, boundary, drawn_args, drawn_place, drawn_text, spoil};
 use crate::line_calls::{self, Args, BACKWARD_CHAR, FORWARD_CHAR, Param};
 use crate::log_case::Damage;
 use crate::log_faults::log_damage;
@@ -116,9 +116,6 @@ pub fn damaged(rng: &mut Rng, case: &Case, mut call: Call) -> Step {
     Step::Damaged(Faults { buffer: draft.buffer, line, log }, call)
 }
 
-/// A length that holds a whole block of any scan that takes many bytes at once.
-pub const BLOCK: usize = 130;
-
 /// Where foreign bytes stand.
 #[derive(Clone, Copy, PartialEq, Eq)]
 pub enum Whose {
@@ -131,7 +128,7 @@ pub enum Whose {
     Argument,
 }
 
-/// The call with foreign bytes at a place of a text of that length.
+/// The call with foreign bytes at a place of a text of `BLOCK` bytes.
 pub fn foreign_at(place: usize, foreign: &[u8], whose: Whose, mut call: Call) -> Vec<Step> {
     let bytes = (place..BLOCK).zip(foreign.iter().copied());
     let mut faults = Faults { buffer: vec![b'a'; BLOCK], line: Line { len: BLOCK, cursor: BLOCK }, log: Vec::new() };

@@ -5,10 +5,11 @@ use crate::edit_calls;
 use crate::edit_case::{self, Case};
 use crate::ffi::Line;
 use crate::line_calls::{self, Args, Param, uses};
-use crate::log_calls;
+use crate::lists::{self, Play};
 use crate::log_case::{self, Damage};
 use crate::log_lists;
 use crate::log_model::Change;
+use crate::tally;
 use crate::undo_calls;
 use crate::undo_case;
 
@@ -60,12 +61,11 @@ impl Call {
         uses(takes, &self.args)
     }
 
-    /// The tally's row: the tables stand there in this order, the log's behind the first.
     fn tally_row(&self) -> usize {
         match self.table {
             Table::Lines => self.row,
-            Table::Edits => EDITS + self.row,
-            Table::Undos => UNDOS + self.row,
+            Table::Edits => tally::EDITS + self.row,
+            Table::Undos => tally::UNDOS + self.row,
         }
     }
 
@@ -79,10 +79,6 @@ impl Call {
         }
     }
 }
-
-const LOGS: usize = line_calls::ENTRIES.len();
-const EDITS: usize = LOGS + log_calls::ENTRIES.len();
-const UNDOS: usize = EDITS + edit_calls::ENTRIES.len();
 
 /// Another text in a buffer of its own, and damages to the log.
 #[derive(Clone)]
@@ -115,88 +111,59 @@ impl Step {
     pub fn seam(count: usize) -> Step {
         Step::Log(log_lists::Step::Seam(count))
     }
+}
 
-    /// Whether the library is asked.
-    pub fn asks(&self) -> bool {
-        self.row().is_some() || matches!(self, Step::Conclude(_))
+impl Play for Step {
+    type Sizes = [usize; 3];
+    type Case = Case;
+    /// Whether the list is one of demand 3.
+    type Conditions = Conditions;
+    type Difference = Difference;
+
+    /// An empty text and an empty log; the sizes are those of text, records and texts.
+    fn start(sizes: [usize; 3]) -> Case {
+        Case::new(sizes)
     }
 
-    /// The tally's row of the call that it makes.
-    pub fn row(&self) -> Option<usize> {
+    fn play(&self, case: &mut Case, conditions: &mut Conditions) -> Result<Option<u32>, Difference> {
+        let mut number = None;
+        match self {
+            Step::Call(call) => number = Some(call.play(case)?),
+            Step::Damaged(faults, call) => {
+                number = Some(call.play(&mut case.damaged(&faults.buffer, faults.line, &faults.log))?);
+            }
+            Step::Log(step) => number = step.play(&mut case.log, &mut ()).map_err(Difference::Log)?,
+            Step::Text(text, cursor) => case.lay(text, *cursor),
+            Step::Grow(sizes) => case.grow(*sizes),
+            Step::Conclude(conclusion) => {
+                if let Some(first) = conditions.first_text() {
+                    conclusion.check(first, case).map_err(Difference::Conclusion)?;
+                }
+            }
+        }
+        conditions.note(self, number, case);
+        Ok(number)
+    }
+
+    fn tally_row(&self) -> Option<usize> {
         match self {
             Step::Call(call) | Step::Damaged(_, call) => Some(call.tally_row()),
-            Step::Log(step) => step.row().map(|row| LOGS + row),
+            Step::Log(step) => step.tally_row(),
             Step::Text(..) | Step::Grow(_) | Step::Conclude(_) => None,
         }
     }
+
+    fn asks(&self) -> bool {
+        self.tally_row().is_some() || matches!(self, Step::Conclude(_))
+    }
 }
 
-/// The sizes of the buffers for text, records and texts, and the steps from an empty text and an empty log on.
-#[derive(Clone)]
-pub struct List {
-    pub sizes: [usize; 3],
-    pub steps: Vec<Step>,
-}
+pub type List = lists::List<Step>;
+pub type Played = lists::Played<Step>;
 
 pub enum Difference {
     Edit(edit_case::Difference),
     Line(line_calls::Difference),
     Log(log_case::Difference),
     Conclusion(conclusions::Failure),
-}
-
-impl Difference {
-    /// Whether the Rust panics there and no check foresaw it.
-    pub fn is_panic(&self) -> bool {
-        match self {
-            Difference::Edit(difference) => difference.expected.is_none(),
-            Difference::Line(difference) => difference.expected.is_none(),
-            Difference::Log(difference) => difference.expected.is_none(),
-            Difference::Conclusion(_) => false,
-        }
-    }
-}
-
-/// A list as far as it was played: what it has left, and whether it is one of demand 3.
-pub struct Played {
-    pub list: List,
-    pub case: Case,
-    pub conditions: Conditions,
-}
-
-impl Played {
-    pub fn new(sizes: [usize; 3]) -> Played {
-        let list = List { sizes, steps: Vec::new() };
-        Played { list, case: Case::new(sizes), conditions: Conditions::default() }
-    }
-
-    /// One step on. A call gives its number.
-    pub fn step(&mut self, step: Step) -> Result<Option<u32>, Difference> {
-        let outcome = self.play(&step);
-        if let Ok(number) = outcome {
-            self.conditions.note(&step, number, &self.case);
-        }
-        self.list.steps.push(step);
-        outcome
-    }
-
-    fn play(&mut self, step: &Step) -> Result<Option<u32>, Difference> {
-        let case = &mut self.case;
-        match step {
-            Step::Call(call) => return call.play(case).map(Some),
-            Step::Damaged(faults, call) => {
-                let mut damaged = case.damaged(&faults.buffer, faults.line, &faults.log);
-                return call.play(&mut damaged).map(Some);
-            }
-            Step::Log(step) => return log_lists::play(&mut case.log, step).map_err(Difference::Log),
-            Step::Text(text, cursor) => case.lay(text, *cursor),
-            Step::Grow(sizes) => case.grow(*sizes),
-            Step::Conclude(conclusion) => {
-                if let Some(first) = self.conditions.first_text() {
-                    conclusion.check(first, case).map_err(Difference::Conclusion)?;
-                }
-            }
-        }
-        Ok(None)
-    }
 }

@@ -2,15 +2,16 @@
 //! small call, characters and foreign bytes, the largest text and log to the last byte, faults, drawn lists of calls.
 use crate::checks::MAX_TEXT;
 use crate::edit_calls::ENTRIES;
-use crate::edit_gen::{BLOCK, Habit, Whose, another_text, damaged, drawn_edit, drawn_step, edit_args, foreign_at};
+use crate::edit_gen::{Habit, Whose, another_text, damaged, drawn_edit, drawn_step, edit_args, foreign_at};
 use crate::edit_lists::{Call, Played, Step};
-use crate::edit_runner::Runner;
 use crate::ffi::Log;
-use crate::r#gen::{FIRST, FOREIGN, Rng, boundaries, code_args, members, small_args, small_text, small_texts};
+use crate::r#gen::{BLOCK, FIRST, Rng};
+use crate::r#gen::{boundaries, code_args, foreign_places, members, small_args, small_text, small_texts};
 use crate::line_calls::{Args, Param, WHOLE_BUFFER};
 use crate::log_checks::{MAX_RECORDS, MAX_TEXTS};
-use crate::log_gen::{drawn_change, drawn_size, filling, small_records};
+use crate::log_gen::{AMPLE, drawn_change, drawn_size, filling, small_records};
 use crate::log_model::Change;
+use crate::runner::Runner;
 use crate::tally::Tally;
 
 /// `n` comparisons, or the account of the first difference.
@@ -23,9 +24,6 @@ pub fn run(n: u64, seed: u64, trace: bool, tally: &mut Tally) -> Result<(), Stri
     faults(&mut runner, &mut rng, n)?;
     drawn(&mut runner, &mut rng, n)
 }
-
-/// Room for everything that a few small steps may record.
-const AMPLE: usize = 64;
 
 /// Every small text with every boundary as its cursor and every call: with all small arguments as far as half of
 /// `share` reaches, then once with drawn ones. The log holds the small records in turn, in front of the seam or behind
@@ -155,18 +153,14 @@ fn takes_text(row: usize) -> bool {
 /// Foreign bytes at every place of the text, of the undo list's texts, of the redo list's and of a text to put in, in
 /// turn with each call. As far as `limit` reaches.
 fn foreign_anywhere(runner: &mut Runner, limit: u64) -> Result<(), String> {
-    for place in 0..BLOCK {
-        for (number, foreign) in FOREIGN.iter().enumerate() {
-            if runner.done >= limit {
-                return Ok(());
-            }
-            let turn = place + number;
-            let whose = WHOSE[turn % WHOSE.len()];
-            let rows: Vec<usize> =
-                (0..ENTRIES.len()).filter(|&row| whose != Whose::Argument || takes_text(row)).collect();
-            let call = Call::edit(rows[turn / WHOSE.len() % rows.len()], FIRST);
-            runner.list([BLOCK; 3], &foreign_at(place, foreign, whose, call))?;
+    for (place, foreign, turn) in foreign_places() {
+        if runner.done >= limit {
+            break;
         }
+        let whose = WHOSE[turn % WHOSE.len()];
+        let rows: Vec<usize> = (0..ENTRIES.len()).filter(|&row| whose != Whose::Argument || takes_text(row)).collect();
+        let call = Call::edit(rows[turn / WHOSE.len() % rows.len()], FIRST);
+        runner.list([BLOCK; 3], &foreign_at(place, foreign, whose, call))?;
     }
     Ok(())
 }
@@ -231,11 +225,10 @@ fn faults(runner: &mut Runner, rng: &mut Rng, n: u64) -> Result<(), String> {
             runner.step(&mut played, Step::lay(drawn_change(rng, 5)))?;
         }
         runner.step(&mut played, Step::seam(rng.below(records + 1)))?;
-        for _ in 0..EDITS.min((limit - runner.done) as usize) {
-            let call = drawn_edit(rng, &played.case, Habit::Any);
-            let step = damaged(rng, &played.case, call);
-            runner.step(&mut played, step)?;
-        }
+        runner.go_on(&mut played, EDITS, limit, |case| {
+            let call = drawn_edit(rng, case, Habit::Any);
+            damaged(rng, case, call)
+        })?;
     }
     Ok(())
 }
@@ -250,13 +243,7 @@ fn drawn(runner: &mut Runner, rng: &mut Rng, n: u64) -> Result<(), String> {
         let text = another_text(rng, &played.case);
         runner.step(&mut played, text)?;
         let habit = rng.pick(&[Habit::Any, Habit::Any, Habit::Characters]);
-        for _ in 0..rng.below(24) {
-            if runner.done >= n {
-                break;
-            }
-            let step = drawn_step(rng, &played.case, habit);
-            runner.step(&mut played, step)?;
-        }
+        runner.go_on(&mut played, rng.below(24), n, |case| drawn_step(rng, case, habit))?;
     }
     Ok(())
 }

@@ -282,6 +282,15 @@ pub const FOREIGN: [&[u8]; 40] = [
     b"\xC5\xB7", b"\xC5\xB9", b"\xCB\xBF", b"\xCC\xB4", b"\xE2\x80\x8D", b"\xEE\x80\x80", b"\xF0\x9F\x98\x80",
 ];
 
+/// A length that holds a whole block of any scan that takes many bytes at once.
+pub const BLOCK: usize = 130;
+
+/// Every place of a text of that length with each of the foreign bytes, and a turn for what they go through in turn.
+pub fn foreign_places() -> impl Iterator<Item = (usize, &'static [u8], usize)> {
+    let at = |place| FOREIGN.iter().enumerate().map(move |(number, &foreign)| (place, foreign, place + number));
+    (0..BLOCK).flat_map(at)
+}
+
 /// Characters in two pieces.
 const CUT: [(&[u8], &[u8]); 4] =
     [(b"\xC3", b"\x9F"), (b"\xCC", b"\x81"), (b"\xE2\x82", b"\xAC"), (b"\xF0\x9F\x98", b"\x80")];

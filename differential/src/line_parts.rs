@@ -2,7 +2,7 @@
 //! texts with every call, characters and faults, texts of every length.
 use crate::account;
 use crate::checks::MAX_TEXT;
-use crate::r#gen::{CODE_POINTS, Draft, FAULTS, FOREIGN, Rng, SMALL};
+use crate::r#gen::{BLOCK, CODE_POINTS, Draft, FAULTS, FOREIGN, Rng, SMALL};
 use crate::r#gen::{
     behind, boundaries, boundary, code_args, drawn_args, drawn_text, members, small_args, small_text, small_texts,
     spoil,
@@ -168,9 +168,6 @@ fn every_member(runner: &mut Runner) -> Result<(), String> {
     }
     Ok(())
 }
-
-/// A length that holds a whole block of any scan that takes many bytes at once.
-const BLOCK: usize = 130;
 
 /// Foreign bytes at every place of a line of ASCII.
 fn foreign_anywhere(runner: &mut Runner) -> Result<(), String> {

@@ -1,51 +1,45 @@
-//! A difference in a list of calls told to a reader.
+//! A step on a log, and a difference there, told to a reader.
 use std::fmt::Write as _;
 
-use crate::account::{shown, word};
+use crate::account::{PANIC, by, shown, word};
 use crate::ffi::{Log, LogAnswer};
+use crate::list_account::{self, Tell, folded};
 use crate::log_calls::{Args, Param};
 use crate::log_case::{Case, Difference};
 use crate::log_lists::{Call, Step};
 use crate::log_model::{Bytes, Change, list};
-use crate::log_shrink::Differing;
 
-/// Steps and records of a longer list that are shown.
-const STEPS: usize = 100;
+/// Records of a longer list that are shown.
 const SHOWN: usize = 40;
 
-/// A call and the log that it is lent, before the damage that the step may do to it.
-pub fn input(case: &Case, step: &Step) -> String {
-    let loan = case.loan();
-    let mut out = String::new();
-    let _ = writeln!(out, "call       {}", told(step));
-    let _ = writeln!(out, "buffers    records {}, texts {}", loan.records.len(), loan.texts.len());
-    let _ = writeln!(out, "log        {}", state(&loan.log));
-    let _ = writeln!(out, "           {}", changes(&case.left(&loan.log), &loan.log));
-    out
-}
-
-/// The list of calls, and the two answers to the last.
-pub fn difference(differing: &Differing) -> String {
-    let Differing { list, difference } = differing;
-    let buffers = format!("buffers    records {}, texts {}, and an empty log", list.records, list.texts);
-    format!("{buffers}\n{}{}", numbered(list.steps.iter().map(told)), answers(difference))
-}
-
-/// The last of these steps, one to a line, with their numbers.
-pub fn numbered(steps: impl Iterator<Item = String>) -> String {
-    let steps = folded(steps);
-    let hidden = steps.len().saturating_sub(STEPS);
-    let mut out = String::new();
-    let mut number = 0;
-    for (i, (step, count)) in steps.iter().enumerate() {
-        let (first, last) = (number + 1, number + count);
-        let numbers = if first == last { first.to_string() } else { format!("{first} to {last}") };
-        if i >= hidden {
-            let _ = writeln!(out, "{numbers:<10} {step}");
+impl Tell for Step {
+    fn told(&self) -> String {
+        match self {
+            Step::Call(call) => told_call(call),
+            Step::Damaged(damages, call) => format!("{}, with {damages:?}", told_call(call)),
+            Step::Lay(change) => format!("a record laid on the undo list: {}", told_change(change)),
+            Step::Level(level) => format!("the level set to {level}"),
+            Step::Seam(count) => format!("the seam moved, {count} records in front of it"),
         }
-        number = last;
     }
-    out
+
+    fn input(&self, case: &Case) -> String {
+        let loan = case.loan();
+        let mut out = String::new();
+        let _ = writeln!(out, "call       {}", self.told());
+        let _ = writeln!(out, "buffers    records {}, texts {}", loan.records.len(), loan.texts.len());
+        let _ = writeln!(out, "log        {}", state(&loan.log));
+        let _ = writeln!(out, "           {}", changes(&case.left(&loan.log), &loan.log));
+        out
+    }
+
+    fn told_start([records, texts]: [usize; 2]) -> String {
+        format!("records {records}, texts {texts}, and an empty log")
+    }
+
+    fn answers(&self, difference: &Difference) -> String {
+        answers(difference)
+    }
 }
 
 /// The two answers.
@@ -53,15 +47,11 @@ pub fn answers(difference: &Difference) -> String {
     let mut out = String::new();
     let _ = writeln!(out, "library    {}", answer(&difference.got));
     let _ = writeln!(out, "           {}", changes(&difference.left, &difference.got.log));
-    let Some(due) = &difference.expected else {
-        let _ = writeln!(out, "expected   the Rust panics here, and no check of this harness foresees it");
-        return out;
-    };
+    let Some(due) = &difference.expected else { return out + PANIC };
     for (buffer, place) in difference.wrong.iter().filter(|_| difference.got.number == due.answer.number) {
         let _ = writeln!(out, "           and it left a wrong byte at place {place} of {buffer}");
     }
-    let by = if due.answer.number < 2 { "the Rust".into() } else { format!("check {}", due.answer.number) };
-    let _ = writeln!(out, "expected   {} ({by})", answer(&due.answer));
+    let _ = writeln!(out, "expected   {} ({})", answer(&due.answer), by(due.answer.number));
     let _ = match &due.lists {
         Some(lists) => writeln!(out, "           {}", changes(lists, &due.answer.log)),
         None => writeln!(out, "           and no byte of the buffers changes"),
@@ -69,33 +59,8 @@ pub fn answers(difference: &Difference) -> String {
     out
 }
 
-/// Each line with the number of times that it comes in a row.
-fn folded(lines: impl Iterator<Item = String>) -> Vec<(String, usize)> {
-    let mut all: Vec<(String, usize)> = Vec::new();
-    for line in lines {
-        match all.last_mut() {
-            Some((last, count)) if *last == line => *count += 1,
-            _ => all.push((line, 1)),
-        }
-    }
-    all
-}
-
-/// A step in words.
-pub fn told(step: &Step) -> String {
-    match step {
-        Step::Call(call) => told_call(call),
-        Step::Damaged(damages, call) => format!("{}, with {damages:?}", told_call(call)),
-        Step::Lay(change) => format!("a record laid on the undo list: {}", told_change(change)),
-        Step::Level(level) => format!("the level set to {level}"),
-        Step::Seam(count) => format!("the seam moved, {count} records in front of it"),
-    }
-}
-
 fn told_call(call: &Call) -> String {
-    let entry = call.entry();
-    let one = |&param: &Param| format!(" {} {}", format!("{param:?}").to_lowercase(), value(param, &call.args));
-    format!("{}{}", entry.name, entry.takes.iter().map(one).collect::<Vec<_>>().join(","))
+    list_account::told_call(call.entry().name, call.entry().takes, |param| value(param, &call.args))
 }
 
 fn value(param: Param, args: &Args) -> String {

@@ -13,6 +13,9 @@ use crate::undo::lists;
 /// of two characters, two clusters, a mark.
 const SMALL_TEXTS: [&str; 8] = ["", "a", "\u{DF}", "-", "e\u{301}", "ab", "\r\n", "\u{301}"];
 
+/// Room for everything that a few small steps may record.
+pub const AMPLE: usize = 64;
+
 /// Sizes of buffers: mostly so small that the log is full after a few calls.
 pub fn drawn_size(rng: &mut Rng, limit: usize) -> usize {
     let (few, some) = (rng.below(41), rng.below(600));

@@ -1,7 +1,9 @@
 //! A list of calls on one log, with what stands between them.
+use crate::lists::{self, Play};
 use crate::log_calls::{Args, ENTRIES, Entry};
 use crate::log_case::{Case, Damage, Difference, compare};
 use crate::log_model::Change;
+use crate::tally;
 
 #[derive(Clone)]
 pub struct Call {
@@ -28,34 +30,36 @@ pub enum Step {
     Seam(usize),
 }
 
-impl Step {
-    /// The row of the call that it makes.
-    pub fn row(&self) -> Option<usize> {
+impl Play for Step {
+    type Sizes = [usize; 2];
+    type Case = Case;
+    type Conditions = ();
+    type Difference = Difference;
+
+    /// An empty log.
+    fn start([records, texts]: [usize; 2]) -> Case {
+        Case::new(records, texts)
+    }
+
+    fn play(&self, case: &mut Case, (): &mut ()) -> Result<Option<u32>, Difference> {
         match self {
-            Step::Call(call) | Step::Damaged(_, call) => Some(call.row),
+            Step::Call(call) => return compare(call.entry(), case, &call.args).map(Some),
+            Step::Damaged(damages, call) => {
+                return compare(call.entry(), &mut case.damaged(damages), &call.args).map(Some);
+            }
+            Step::Lay(change) => case.lay(change),
+            Step::Level(level) => case.set_level(*level),
+            Step::Seam(count) => case.move_seam(*count),
+        }
+        Ok(None)
+    }
+
+    fn tally_row(&self) -> Option<usize> {
+        match self {
+            Step::Call(call) | Step::Damaged(_, call) => Some(tally::LOGS + call.row),
             Step::Lay(_) | Step::Level(_) | Step::Seam(_) => None,
         }
     }
 }
 
-/// The sizes of the buffers, and the steps from an empty log on.
-#[derive(Clone)]
-pub struct List {
-    pub records: usize,
-    pub texts: usize,
-    pub steps: Vec<Step>,
-}
-
-/// One step on a log. A call gives its number.
-pub fn play(case: &mut Case, step: &Step) -> Result<Option<u32>, Difference> {
-    match step {
-        Step::Call(call) => return compare(call.entry(), case, &call.args).map(Some),
-        Step::Damaged(damages, call) => {
-            return compare(call.entry(), &mut case.damaged(damages), &call.args).map(Some);
-        }
-        Step::Lay(change) => case.lay(change),
-        Step::Level(level) => case.set_level(*level),
-        Step::Seam(count) => case.move_seam(*count),
-    }
-    Ok(None)
-}
+pub type Played = lists::Played<Step>;

@@ -10,7 +10,6 @@ mod edit_checks;
 mod edit_gen;
 mod edit_lists;
 mod edit_parts;
-mod edit_runner;
 mod edit_shrink;
 // The declarations of the C interface stand once, in the host crate, where `include/check` holds them against the source.
 #[allow(dead_code)]
@@ -20,7 +19,10 @@ mod r#gen;
 mod lent;
 mod line_calls;
 mod line_parts;
+mod list_account;
+mod list_shrink;
 mod listeners;
+mod lists;
 mod log_account;
 mod log_calls;
 mod log_case;
@@ -43,6 +45,7 @@ mod ring_gen;
 mod ring_lists;
 mod ring_parts;
 mod ring_shrink;
+mod runner;
 mod session_gen;
 mod session_parts;
 mod shrink;
@@ -64,6 +67,9 @@ const DEFAULT: u64 = 1_200_000;
 /// From here on a call must have been seen with every number that it can give.
 const ENOUGH: u64 = 840_000;
 
+/// So many comparisons from a seed, each input told before its call or not; or the account of the first difference.
+type Part = fn(u64, u64, bool, &mut tally::Tally) -> Result<(), String>;
+
 fn main() -> ExitCode {
     let mut words = std::env::args().skip(1).map(|word| word.parse::<u64>());
     let (Ok(n), Ok(seed)) = (words.next().unwrap_or(Ok(DEFAULT)), words.next().unwrap_or(Ok(1))) else {
@@ -78,24 +84,12 @@ fn main() -> ExitCode {
         record::start(seed);
     }
     let began = Instant::now();
-    let lines = line_calls::ENTRIES.iter().map(|entry| (entry.name, entry.gives));
-    let logs = log_calls::ENTRIES.iter().map(|entry| (entry.name, entry.gives));
-    let edits = edit_calls::ENTRIES.iter().map(|entry| (entry.name, entry.gives));
-    let undos = undo_calls::ENTRIES.iter().map(|entry| (entry.name, entry.gives));
-    let rings = ring_calls::ENTRIES.iter().map(|entry| (entry.name, entry.gives));
-    let before_rings = lines.len() + logs.len() + edits.len() + undos.len();
-    let mut tally = tally::Tally::new(lines.chain(logs).chain(edits).chain(undos).chain(rings));
+    let mut tally = tally::Tally::new();
     let share = n / 6;
-    let compared = line_parts::run(share, seed, trace, &mut tally)
-        .inspect(|()| record::next_part())
-        .and_then(|()| log_parts::run(share, seed, trace, &mut tally, line_calls::ENTRIES.len()))
-        .inspect(|()| record::next_part())
-        .and_then(|()| edit_parts::run(share, seed, trace, &mut tally))
-        .inspect(|()| record::next_part())
-        .and_then(|()| undo_parts::run(share, seed, trace, &mut tally))
-        .inspect(|()| record::next_part())
-        .and_then(|()| ring_parts::run(share, seed, trace, &mut tally, before_rings))
-        .inspect(|()| record::next_part())
+    let parts: [Part; 5] = [line_parts::run, log_parts::run, edit_parts::run, undo_parts::run, ring_parts::run];
+    let compared = parts
+        .iter()
+        .try_for_each(|part| part(share, seed, trace, &mut tally).inspect(|()| record::next_part()))
         .and_then(|()| session_parts::run(n - 5 * share, seed, trace, &mut tally));
     let sessions = match compared {
         Ok(sessions) => sessions,

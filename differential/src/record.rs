@@ -9,6 +9,7 @@ use crate::ffi::{EditAnswer, LineAnswer, Log, LogAnswer, Ring, RingAnswer};
 use crate::r#gen::Rng;
 use crate::log_model::Bytes;
 pub use crate::record_lines::{Lent, LentRing};
+use crate::tally::calls;
 use crate::{edit_calls, line_calls, log_calls, ring_calls, undo_calls};
 
 /// The longest line of a sample, and of one that has to do with a limit.
@@ -247,16 +248,6 @@ pub fn ring_call(name: &'static str, lent: LentRing, texts: Option<&Vec<Vec<u8>>
         return;
     }
     note(name, answer.number, lent.is_at_a_limit(), || lent.line(short(name), texts, ring, answer));
-}
-
-/// All calls in the order of their tables, each with the numbers that it can give.
-fn calls() -> impl Iterator<Item = (&'static str, &'static [u32])> {
-    let lines = line_calls::ENTRIES.iter().map(|entry| (entry.name, entry.gives));
-    let edits = edit_calls::ENTRIES.iter().map(|entry| (entry.name, entry.gives));
-    let logs = log_calls::ENTRIES.iter().map(|entry| (entry.name, entry.gives));
-    let undos = undo_calls::ENTRIES.iter().map(|entry| (entry.name, entry.gives));
-    let rings = ring_calls::ENTRIES.iter().map(|entry| (entry.name, entry.gives));
-    lines.chain(edits).chain(logs).chain(undos).chain(rings)
 }
 
 fn commented(text: &str) -> String {

@@ -1,56 +1,58 @@
-//! A difference in a list of calls on a kill ring told to a reader.
+//! A step on a kill ring, and a difference there, told to a reader.
 use std::fmt::Write as _;
 
-use crate::account::{shown, word};
+use crate::account::{PANIC, by, shown, word};
 use crate::ffi::{Ring, RingAnswer};
-use crate::log_account::numbered;
+use crate::list_account::{self, Tell};
 use crate::ring_calls::{Args, Param};
 use crate::ring_case::{Case, Damage, Difference};
 use crate::ring_lists::{Call, Step};
-use crate::ring_shrink::Differing;
 
 const MODES: [&str; 2] = ["Append", "Prepend"];
 const ACTIONS: [&str; 3] = ["kill", "yank", "other"];
 
-/// A call and the ring that it is lent, before the damage that the step may do to it.
-pub fn input(case: &Case, step: &Step) -> String {
-    let loan = case.loan();
-    let mut out = String::new();
-    let _ = writeln!(out, "call       {}", told(step));
-    let _ = writeln!(out, "buffers    slots {}, lens {}", loan.slots.len(), loan.lens.len());
-    let _ = writeln!(out, "ring       {}", state(&loan.ring));
-    let _ = writeln!(out, "           {}", slots(&case.left(&loan.ring)));
-    out
-}
-
-/// The list of calls, and the two answers to the last.
-pub fn difference(differing: &Differing) -> String {
-    let Differing { list, difference } = differing;
-    let buffers = format!("buffers    slots {}, lens {}, and a ring not yet made", list.slots, list.lens);
-    format!("{buffers}\n{}{}", numbered(list.steps.iter().map(told)), answers(difference))
-}
-
-fn answers(difference: &Difference) -> String {
-    let Difference { got, ring, texts, wrong, expected } = difference;
-    let mut out = String::new();
-    let _ = writeln!(out, "library    {}", answer(got));
-    let _ = writeln!(out, "           ring: {}", state(ring));
-    let _ = writeln!(out, "           {}", slots(texts));
-    let Some(due) = expected else {
-        let _ = writeln!(out, "expected   the Rust panics here, and no check of this harness foresees it");
-        return out;
-    };
-    for (part, place) in wrong.iter().filter(|_| got.number == due.answer.number) {
-        let _ = writeln!(out, "           and it left a wrong byte at place {place} of {part}, or around it");
+impl Tell for Step {
+    fn told(&self) -> String {
+        match self {
+            Step::Call(call) => told_call(call),
+            Step::Damaged(damages, call) if damages.is_empty() => told_call(call),
+            Step::Damaged(damages, call) => format!("{}, with {}", told_call(call), told_damages(damages)),
+            Step::Set(damages) => format!("the ring set: {}", told_damages(damages)),
+        }
     }
-    let by = if due.answer.number < 2 { "the Rust".into() } else { format!("check {}", due.answer.number) };
-    let _ = writeln!(out, "expected   {} ({by})", answer(&due.answer));
-    let _ = writeln!(out, "           ring: {}", state(&due.ring));
-    let _ = match &due.texts {
-        Some(texts) => writeln!(out, "           {}", slots(texts)),
-        None => writeln!(out, "           and no byte of the buffers changes"),
-    };
-    out
+
+    fn input(&self, case: &Case) -> String {
+        let loan = case.loan();
+        let mut out = String::new();
+        let _ = writeln!(out, "call       {}", self.told());
+        let _ = writeln!(out, "buffers    slots {}, lens {}", loan.slots.len(), loan.lens.len());
+        let _ = writeln!(out, "ring       {}", state(&loan.ring));
+        let _ = writeln!(out, "           {}", slots(&case.left(&loan.ring)));
+        out
+    }
+
+    fn told_start([slots, lens]: [usize; 2]) -> String {
+        format!("slots {slots}, lens {lens}, and a ring not yet made")
+    }
+
+    fn answers(&self, difference: &Difference) -> String {
+        let Difference { got, ring, texts, wrong, expected } = difference;
+        let mut out = String::new();
+        let _ = writeln!(out, "library    {}", answer(got));
+        let _ = writeln!(out, "           ring: {}", state(ring));
+        let _ = writeln!(out, "           {}", slots(texts));
+        let Some(due) = expected else { return out + PANIC };
+        for (part, place) in wrong.iter().filter(|_| got.number == due.answer.number) {
+            let _ = writeln!(out, "           and it left a wrong byte at place {place} of {part}, or around it");
+        }
+        let _ = writeln!(out, "expected   {} ({})", answer(&due.answer), by(due.answer.number));
+        let _ = writeln!(out, "           ring: {}", state(&due.ring));
+        let _ = match &due.texts {
+            Some(texts) => writeln!(out, "           {}", slots(texts)),
+            None => writeln!(out, "           and no byte of the buffers changes"),
+        };
+        out
+    }
 }
 
 fn answer(answer: &RingAnswer) -> String {
@@ -78,20 +80,8 @@ fn brief(text: &[u8]) -> String {
     }
 }
 
-/// A step in words.
-fn told(step: &Step) -> String {
-    match step {
-        Step::Call(call) => told_call(call),
-        Step::Damaged(damages, call) if damages.is_empty() => told_call(call),
-        Step::Damaged(damages, call) => format!("{}, with {}", told_call(call), told_damages(damages)),
-        Step::Set(damages) => format!("the ring set: {}", told_damages(damages)),
-    }
-}
-
 fn told_call(call: &Call) -> String {
-    let entry = call.entry();
-    let one = |&param: &Param| format!(" {} {}", format!("{param:?}").to_lowercase(), value(param, &call.args));
-    format!("{}{}", entry.name, entry.takes.iter().map(one).collect::<Vec<_>>().join(","))
+    list_account::told_call(call.entry().name, call.entry().takes, |param| value(param, &call.args))
 }
 
 fn value(param: Param, args: &Args) -> String {

@@ -41,8 +41,8 @@ pub fn drawn_size(rng: &mut Rng) -> usize {
 }
 
 /// Buffers for a ring of this size, in bytes: just what it takes, or more.
-pub fn drawn_buffers(rng: &mut Rng, size: usize) -> (usize, usize) {
-    (size * SLOT + rng.pick(&[0, 0, 0, 1, 100, SLOT]), size * LENGTH + rng.pick(&[0, 0, 0, 1, 2, 20]))
+pub fn drawn_buffers(rng: &mut Rng, size: usize) -> [usize; 2] {
+    [size * SLOT + rng.pick(&[0, 0, 0, 1, 100, SLOT]), size * LENGTH + rng.pick(&[0, 0, 0, 1, 2, 20])]
 }
 
 pub fn new_ring(size: usize) -> Step {

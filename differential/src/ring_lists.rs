@@ -1,6 +1,8 @@
 //! A list of calls on one kill ring, with what stands between them.
+use crate::lists::{self, Play};
 use crate::ring_calls::{Args, ENTRIES, Entry, row};
 use crate::ring_case::{Case, Damage, Difference, compare};
+use crate::tally;
 
 #[derive(Clone)]
 pub struct Call {
@@ -27,32 +29,34 @@ pub enum Step {
     Set(Vec<Damage>),
 }
 
-impl Step {
-    /// The row of the call that it makes.
-    pub fn row(&self) -> Option<usize> {
+impl Play for Step {
+    type Sizes = [usize; 2];
+    type Case = Case;
+    type Conditions = ();
+    type Difference = Difference;
+
+    /// A record that no call has left.
+    fn start([slots, lens]: [usize; 2]) -> Case {
+        Case::new(slots, lens)
+    }
+
+    fn play(&self, case: &mut Case, (): &mut ()) -> Result<Option<u32>, Difference> {
         match self {
-            Step::Call(call) | Step::Damaged(_, call) => Some(call.row),
+            Step::Call(call) => compare(call.entry(), case, &call.args).map(Some),
+            Step::Damaged(damages, call) => compare(call.entry(), &mut case.damaged(damages), &call.args).map(Some),
+            Step::Set(damages) => {
+                *case = case.damaged(damages);
+                Ok(None)
+            }
+        }
+    }
+
+    fn tally_row(&self) -> Option<usize> {
+        match self {
+            Step::Call(call) | Step::Damaged(_, call) => Some(tally::RINGS + call.row),
             Step::Set(_) => None,
         }
     }
 }
 
-/// The sizes of the buffers, and the steps from a record on that no call has left.
-#[derive(Clone)]
-pub struct List {
-    pub slots: usize,
-    pub lens: usize,
-    pub steps: Vec<Step>,
-}
-
-/// One step on a ring. A call gives its number.
-pub fn play(case: &mut Case, step: &Step) -> Result<Option<u32>, Difference> {
-    match step {
-        Step::Call(call) => compare(call.entry(), case, &call.args).map(Some),
-        Step::Damaged(damages, call) => compare(call.entry(), &mut case.damaged(damages), &call.args).map(Some),
-        Step::Set(damages) => {
-            *case = case.damaged(damages);
-            Ok(None)
-        }
-    }
-}
+pub type Played = lists::Played<Step>;

@@ -3,83 +3,33 @@
 use std::collections::HashSet;
 
 use crate::checks::in_repertoire;
-use crate::r#gen::{CODE_POINTS, FOREIGN, Rng};
-use crate::ring_account;
+use crate::r#gen::{BLOCK, CODE_POINTS, Rng, foreign_places};
 use crate::ring_calls::{Args, ENTRIES, RESET, YANK, YANK_POP};
-use crate::ring_case::{Case, Damage, Difference};
+use crate::ring_case::Damage;
 use crate::ring_checks::{LENGTH, MAX_SLOTS, SLOT};
 use crate::ring_faults::drawn_fault;
 use crate::ring_gen::{Habit, drawn_buffers, drawn_call, drawn_ring, drawn_size, drawn_step, kill, new_ring};
-use crate::ring_lists::{Call, List, Step, play};
-use crate::ring_shrink::{Differing, smallest};
+use crate::ring_lists::{Call, Played, Step};
+use crate::runner::Runner;
 use crate::tally::Tally;
 
-struct Runner<'a> {
-    tally: &'a mut Tally,
-    /// The tally's row of the first call.
-    first: usize,
-    done: u64,
-    /// Tell each input before its call.
-    trace: bool,
-}
-
-/// A list as far as it was played.
-struct Played {
-    list: List,
-    case: Case,
-}
-
-impl Played {
-    fn copy(&self) -> Played {
-        Played { list: self.list.clone(), case: self.case.damaged(&[]) }
-    }
-}
-
-/// `n` comparisons, or the account of the first difference. The calls' rows in the tally are those from `first` on.
-pub fn run(n: u64, seed: u64, trace: bool, tally: &mut Tally, first: usize) -> Result<(), String> {
+/// `n` comparisons, or the account of the first difference.
+pub fn run(n: u64, seed: u64, trace: bool, tally: &mut Tally) -> Result<(), String> {
     let mut rng = Rng::new(seed);
-    let mut runner = Runner { tally, first, done: 0, trace };
+    let mut runner = Runner::new(tally, "rings", trace);
     every_list(&mut runner, n / 3)?;
     characters(&mut runner, n / 12)?;
     faults(&mut runner, &mut rng, n / 4)?;
     drawn(&mut runner, &mut rng, n)
 }
 
-impl Runner<'_> {
-    fn step(&mut self, played: &mut Played, step: Step) -> Result<(), String> {
-        let row = step.row();
-        self.done += u64::from(row.is_some());
-        if self.trace && row.is_some() {
-            println!("{}", ring_account::input(&played.case, &step));
-        }
-        let outcome = play(&mut played.case, &step);
-        played.list.steps.push(step);
-        match outcome {
-            Ok(number) => {
-                row.zip(number).into_iter().for_each(|(row, number)| self.tally.note(self.first + row, number));
-                Ok(())
-            }
-            Err(difference) => Err(self.account(&played.list, difference)),
-        }
-    }
+/// A list on a new ring, in buffers of just the sizes that it takes.
+fn on_new(runner: &mut Runner, size: usize, steps: &[Step]) -> Result<Played, String> {
+    runner.list([size * SLOT, size * LENGTH], &[&[new_ring(size)], steps].concat())
+}
 
-    fn account(&self, list: &List, difference: Difference) -> String {
-        let small = smallest(Differing { list: list.clone(), difference });
-        format!("difference in comparison {} of rings, made smaller\n{}", self.done, ring_account::difference(&small))
-    }
-
-    /// A list of a few steps, in buffers of these sizes.
-    fn list(&mut self, (slots, lens): (usize, usize), steps: &[Step]) -> Result<Played, String> {
-        let list = List { slots, lens, steps: Vec::new() };
-        let mut played = Played { list, case: Case::new(slots, lens) };
-        steps.iter().try_for_each(|step| self.step(&mut played, step.clone()))?;
-        Ok(played)
-    }
-
-    /// A list on a new ring, in buffers of just the sizes that it takes.
-    fn on_new(&mut self, size: usize, steps: &[Step]) -> Result<Played, String> {
-        self.list((size * SLOT, size * LENGTH), &[&[new_ring(size)], steps].concat())
-    }
+fn copy(played: &Played) -> Played {
+    Played { list: played.list.clone(), case: played.case.damaged(&[]), conditions: () }
 }
 
 /// The largest ring and the longest list of `every_list`.
@@ -103,7 +53,7 @@ fn every_list(runner: &mut Runner, share: u64) -> Result<(), String> {
     let calls = small_calls();
     let mut sizes = Vec::new();
     for size in 0..=SMALL_RING {
-        sizes.push((HashSet::new(), vec![runner.on_new(size, &[])?]));
+        sizes.push((HashSet::new(), vec![on_new(runner, size, &[])?]));
     }
     for _ in 0..LONGEST {
         for (seen, lists) in &mut sizes {
@@ -112,7 +62,7 @@ fn every_list(runner: &mut Runner, share: u64) -> Result<(), String> {
                 if runner.done >= limit {
                     return Ok(());
                 }
-                let mut played = list.copy();
+                let mut played = copy(list);
                 runner.step(&mut played, Step::Call(call.clone()))?;
                 if seen.insert(played.case.state()) {
                     longer.push(played);
@@ -132,7 +82,7 @@ fn characters(runner: &mut Runner, share: u64) -> Result<(), String> {
             break;
         }
         let text = char::from_u32(c).unwrap().to_string().into_bytes();
-        runner.on_new(1, &[Step::Call(kill(&text, 0)), Step::Call(kill(&text, 1))])?;
+        on_new(runner, 1, &[Step::Call(kill(&text, 0)), Step::Call(kill(&text, 1))])?;
         if !in_repertoire(c) {
             foreign_slot(runner, text, c as usize)?;
         }
@@ -146,27 +96,21 @@ fn foreign_slot(runner: &mut Runner, text: Vec<u8>, turn: usize) -> Result<(), S
     let mut set: Vec<Damage> = (0..).zip(slots).map(|(slot, text)| Damage::Text(slot, text)).collect();
     set.push(Damage::Count(SMALL_RING));
     let call = Call { row: 1 + turn % (ENTRIES.len() - 1), args: Args::default() };
-    runner.on_new(SMALL_RING, &[Step::Set(set), Step::Call(call)])?;
+    on_new(runner, SMALL_RING, &[Step::Set(set), Step::Call(call)])?;
     Ok(())
 }
 
-/// A length that holds a whole block of any scan that takes many bytes at once.
-const BLOCK: usize = 130;
-
 /// Foreign bytes at every place of a slot and of a text to kill, in turn. As far as `limit` reaches.
 fn foreign_anywhere(runner: &mut Runner, limit: u64) -> Result<(), String> {
-    for place in 0..BLOCK {
-        for (number, foreign) in FOREIGN.iter().enumerate() {
-            if runner.done >= limit {
-                return Ok(());
-            }
-            let mut text = vec![b'a'; BLOCK];
-            text[place..].iter_mut().zip(*foreign).for_each(|(byte, &foreign)| *byte = foreign);
-            let turn = place + number;
-            match turn % 2 {
-                0 => foreign_slot(runner, text, turn / 2)?,
-                _ => drop(runner.on_new(1, &[Step::Call(kill(&text, 0))])?),
-            }
+    for (place, foreign, turn) in foreign_places() {
+        if runner.done >= limit {
+            break;
+        }
+        let mut text = vec![b'a'; BLOCK];
+        text[place..].iter_mut().zip(foreign).for_each(|(byte, &foreign)| *byte = foreign);
+        match turn % 2 {
+            0 => foreign_slot(runner, text, turn / 2)?,
+            _ => drop(on_new(runner, 1, &[Step::Call(kill(&text, 0))])?),
         }
     }
     Ok(())
@@ -180,11 +124,10 @@ fn faults(runner: &mut Runner, rng: &mut Rng, share: u64) -> Result<(), String> 
     let limit = runner.done + share;
     while runner.done < limit {
         let (mut played, habit) = start(runner, rng)?;
-        for _ in 0..CALLS.min((limit - runner.done) as usize) {
-            let call = drawn_call(rng, &played.case, habit);
-            let step = drawn_fault(rng, &played.case, call);
-            runner.step(&mut played, step)?;
-        }
+        runner.go_on(&mut played, CALLS, limit, |case| {
+            let call = drawn_call(rng, case, habit);
+            drawn_fault(rng, case, call)
+        })?;
     }
     Ok(())
 }
@@ -201,13 +144,7 @@ fn start(runner: &mut Runner, rng: &mut Rng) -> Result<(Played, Habit), String> 
 fn drawn(runner: &mut Runner, rng: &mut Rng, n: u64) -> Result<(), String> {
     while runner.done < n {
         let (mut played, habit) = start(runner, rng)?;
-        for _ in 0..rng.below(40) {
-            if runner.done >= n {
-                break;
-            }
-            let step = drawn_step(rng, &played.case, habit);
-            runner.step(&mut played, step)?;
-        }
+        runner.go_on(&mut played, rng.below(40), n, |case| drawn_step(rng, case, habit))?;
     }
     Ok(())
 }

@@ -1,7 +1,7 @@
 //! Whole sessions, with the conclusions of demand 3 at the end of each whose conditions hold.
 use crate::edit_lists::Played;
-use crate::edit_runner::Runner;
 use crate::r#gen::Rng;
+use crate::runner::Runner;
 use crate::session_gen::{drawn_conclusions, drawn_habit, drawn_start, drawn_step, end, last_undo, more_records};
 use crate::tally::Tally;
 

@@ -1,15 +1,15 @@
 //! The inputs of undo, redo and cancel one by one, in six parts: every small list of groups, small texts with small
 //! records, foreign bytes, the largest texts and logs, faults, drawn lists.
 use crate::checks::MAX_TEXT;
-use crate::edit_gen::{BLOCK, Habit, Whose, another_text, damaged, drawn_step, foreign_at};
+use crate::edit_gen::{Habit, Whose, another_text, damaged, drawn_step, foreign_at};
 use crate::edit_lists::{Call, Played, Step};
-use crate::edit_runner::Runner;
-use crate::r#gen::{FIRST, FOREIGN, Rng, boundaries, small_text, small_texts};
+use crate::r#gen::{BLOCK, FIRST, Rng, boundaries, foreign_places, small_text, small_texts};
 use crate::line_calls::Args;
 use crate::log_checks::{MAX_LEVEL, MAX_RECORDS, MAX_TEXTS};
-use crate::log_gen::drawn_size;
+use crate::log_gen::{AMPLE, drawn_size};
 use crate::log_lists;
 use crate::log_model::Change;
+use crate::runner::Runner;
 use crate::tally::Tally;
 use crate::undo_calls::{CANCEL, ENTRIES, REDO, UNDO, row};
 use crate::undo_gen::{drawn_undo, fitting};
@@ -41,9 +41,6 @@ fn cancel(mark: usize) -> Step {
 fn level(level: usize) -> Step {
     Step::Log(log_lists::Step::Level(level))
 }
-
-/// Room for everything that a few small steps may record.
-const AMPLE: usize = 64;
 
 /// The records of `every_group`: the last fits every text when it is undone, and one of letters when it is redone.
 fn group_records() -> [Change<String>; 3] {
@@ -139,15 +136,12 @@ const WHOSE: [Whose; 3] = [Whose::Redo, Whose::Undo, Whose::Text];
 /// As far as `share` reaches.
 fn foreign_anywhere(runner: &mut Runner, share: u64) -> Result<(), String> {
     let limit = runner.done + share;
-    for place in 0..BLOCK {
-        for (number, foreign) in FOREIGN.iter().enumerate() {
-            if runner.done >= limit {
-                return Ok(());
-            }
-            let turn = place + number;
-            let call = Call::undo(turn / WHOSE.len() % ENTRIES.len(), FIRST);
-            runner.list([BLOCK; 3], &foreign_at(place, foreign, WHOSE[turn % WHOSE.len()], call))?;
+    for (place, foreign, turn) in foreign_places() {
+        if runner.done >= limit {
+            break;
         }
+        let call = Call::undo(turn / WHOSE.len() % ENTRIES.len(), FIRST);
+        runner.list([BLOCK; 3], &foreign_at(place, foreign, WHOSE[turn % WHOSE.len()], call))?;
     }
     Ok(())
 }
@@ -195,11 +189,10 @@ fn faults(runner: &mut Runner, rng: &mut Rng, n: u64) -> Result<(), String> {
     while runner.done < limit {
         let (sizes, steps) = fitting(rng);
         let mut played = runner.list(sizes, &steps)?;
-        for _ in 0..CALLS.min((limit - runner.done) as usize) {
-            let call = drawn_undo(rng, &played.case);
-            let step = damaged(rng, &played.case, call);
-            runner.step(&mut played, step)?;
-        }
+        runner.go_on(&mut played, CALLS, limit, |case| {
+            let call = drawn_undo(rng, case);
+            damaged(rng, case, call)
+        })?;
     }
     Ok(())
 }
@@ -213,12 +206,7 @@ fn drawn(runner: &mut Runner, rng: &mut Rng, n: u64) -> Result<(), String> {
         if turn % 2 == 0 {
             let (sizes, steps) = fitting(rng);
             let mut played = runner.list(sizes, &steps)?;
-            for _ in 0..rng.below(8) {
-                if runner.done < n {
-                    let call = drawn_undo(rng, &played.case);
-                    runner.step(&mut played, Step::Call(call))?;
-                }
-            }
+            runner.go_on(&mut played, rng.below(8), n, |case| Step::Call(drawn_undo(rng, case)))?;
         } else {
             edited(runner, rng, n)?;
         }
@@ -233,16 +221,8 @@ fn edited(runner: &mut Runner, rng: &mut Rng, n: u64) -> Result<(), String> {
     let text = another_text(rng, &played.case);
     runner.step(&mut played, text)?;
     let habit = rng.pick(&[Habit::Any, Habit::Characters, Habit::Characters]);
-    for _ in 0..rng.below(24) {
-        if runner.done >= n {
-            break;
-        }
-        let step = if rng.one_in(3) {
-            Step::Call(drawn_undo(rng, &played.case))
-        } else {
-            drawn_step(rng, &played.case, habit)
-        };
-        runner.step(&mut played, step)?;
-    }
-    Ok(())
+    runner.go_on(&mut played, rng.below(24), n, |case| match rng.one_in(3) {
+        true => Step::Call(drawn_undo(rng, case)),
+        false => drawn_step(rng, case, habit),
+    })
 }
