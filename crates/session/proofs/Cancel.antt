@@ -3,12 +3,11 @@ use Prim.Native.Nat.{ℕ, zero, suc, _+_, _-_, _≤_, _<_}
 use native.Mathlib.Omega.{arith}
 use mathlib.Core.Path.{_≡_, refl, ap, _∙_}
 use mathlib.Core.Bool.{true, false≢true}
-use mathlib.Core.Logic.{⊎-elim}
 use mathlib.Core.List.{List, [], _∷_}
 use lib.Dec.{eqb}
 use lib.ListN.{length}
 use borrow.Author.Tests.{eqb-true, le-leb, lt-leb}
-use Rattle.lists.proofs.Bools.{by-test, cond-cases}
+use Rattle.lists.proofs.Bools.{by-test}
 use Rattle.utf8.specs.Chars.{In}
 use Rattle.unicode.specs.Repertoire.{Repertoire}
 use Rattle.unicode.specs.Text.{isText}
@@ -18,21 +17,13 @@ use Rattle.journal.specs.Undo.{allSmall}
 use Rattle.edit.specs.Plan.{State}
 use Rattle.retrace.specs.Retrace.{Trail, undoing}
 use Rattle.undo.specs.Undo.{Walked, trailOf, opens, walkTo, beginsDown, cancelOut}
+use Rattle.undo.proofs.Cancels.{opens-within}
 use Rattle.session.specs.Calls.{cancel}
 use Rattle.session.specs.Sessions.{leaves, below, openAfter}
 use Rattle.session.proofs.Invariant.{openMarks, Groups, Bound, Chain, Inv, no-redo}
 use Rattle.session.proofs.Links.{undo-link, cursor-link, text-link}
 use Rattle.session.proofs.Walks.{small-tail}
 use Rattle.session.proofs.Recorded.{groups-drop}
-
--- the mark of an open group lies below the length
-opens-lt : (m : ℕ) (u : List Change) → opens m u ≡ true → m < length u
-unfolding opens
-opens-lt m [] h = absurd (false≢true h)
-opens-lt m (begin ∷ u) h =
-    ⊎-elim (λ q. omega (arith, eqb-true (length u) m (q .0))) (λ q. omega (arith, opens-lt m u (q .1))) (cond-cases (eqb (length u) m) true (opens m u) h)
-opens-lt m (end ∷ u) h = absurd (false≢true h)
-opens-lt m (edit x ∷ u) h = omega (arith, opens-lt m u h)
 
 -- a mark that is no lower goes
 below-first : (m b : ℕ) (bs : List ℕ) → m ≤ b → below m (b ∷ bs) ≡ below m bs
@@ -89,7 +80,7 @@ module _ (R : Repertoire) (F : Format) (Q : List ℕ → Type 0) (t₀ : List �
       rw (b, e, marks) (record { runs = refl; left = f }))
       (λ b.
       let o′ : opens m u ≡ true = rw b at o in
-      let l = opens-lt m u o′ in
+      let l = opens-within m u o′ in
       let e : suc k - suc (beginsDown m u) ≡ k - beginsDown m u = omega arith in
       let marks : below m g ≡ below m (openMarks k u) = ap (below m) (z .groups .marks) ∙ below-first m (length u) (openMarks k u) (omega arith) in
       rw (b, e, marks) (down C h m u (end ∷ r) k (openMarks k u) s o′ f))
@@ -98,7 +89,7 @@ module _ (R : Repertoire) (F : Format) (Q : List ℕ → Type 0) (t₀ : List �
       let l = z .chain .1 in
       rw (undo-link R C x (z .chain .0) s h l)
       (by-test _ (eqb (length u) m)
-      (λ b. absurd (omega (arith, eqb-true (length u) m b, opens-lt m u o)))
+      (λ b. absurd (omega (arith, eqb-true (length u) m b, opens-within m u o)))
       (λ b.
       rw b
       (down C h m u (turn (edit x) ∷ r) k g (record { text = z .chain .0; cursor = place x + length (old x); undone = true }) o

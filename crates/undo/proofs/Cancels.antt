@@ -41,7 +41,7 @@ begins-some m (end ∷ u) e = never _ false e refl
 begins-some m (edit x ∷ u) e = begins-some m u e
 
 -- it is one of the list's
-opens-within : (m : ℕ) (u : List Change) → opens m u ≡ true → m < length u
+pub opens-within : (m : ℕ) (u : List Change) → opens m u ≡ true → m < length u
 unfolding opens
 opens-within m [] e = never _ false e refl
 opens-within m (begin ∷ u) e = go (opens-within m u) (eqb (length u) m) refl e
