@@ -1,5 +1,5 @@
-// The calls of `inserts`, `ranges`, `rewrites` and `indents` by their names: what the programs of cases and of recorded answers
-// share. The arguments besides a text stand in the order of the call's parameters.
+// The calls of `inserts`, `ranges`, `rewrites`, `transpose_words` and `indents` by their names: what the programs of cases and of
+// recorded answers share. The arguments besides a text stand in the order of the call's parameters.
 use changeset::Log;
 use check::same;
 use checks::Line;
