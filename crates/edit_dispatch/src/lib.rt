@@ -1,4 +1,4 @@
-// The calls of `inserts`, `ranges`, `rewrites`, `transpose_words` and `indents` by their names: what the programs of cases and of
+// The calls of `inserts`, `ranges`, `transpose_chars`, `edit_word`, `transpose_words` and `indents` by their names: what the programs of cases and of
 // recorded answers share. The arguments besides a text stand in the order of the call's parameters.
 use changeset::Log;
 use check::same;
@@ -106,8 +106,8 @@ pub fn call(
         4 => inserts::update(text, records, texts, line, log, buf, a),
         5 => ranges::delete_range(text, records, texts, line, log, a, b),
         6 => ranges::replace(text, records, texts, line, log, a, b, buf),
-        7 => rewrites::transpose_chars(text, records, texts, line, log),
-        8 => rewrites::edit_word(text, records, texts, line, log, code),
+        7 => transpose_chars::transpose_chars(text, records, texts, line, log),
+        8 => edit_word::edit_word(text, records, texts, line, log, code),
         9 => transpose_words::transpose_words(text, records, texts, line, log, n),
         _ => indent_call(text, records, texts, line, log, v),
     }

@@ -33,7 +33,7 @@ use Rattle.changeset.specs.Calls.{undos, redos}
 use Rattle.changeset.specs.Outcomes.{beginOut, endOut}
 use Rattle.edit.specs.Plan.{splice, textAfter, listAfter, tooLong, answered, edited}
 use Rattle.buffer.specs.Edit.{copies}
-use Rattle.rewrites.specs.Rewrites.{actionList, editWordCall}
+use Rattle.edit_word.specs.EditWord.{actionList, editWordCall}
 use Rattle.transpose_words.specs.TransposeWords.{transposeWordsCall}
 use Rattle.retrace.specs.Retrace.{misfit, exchanging, undoing as Retrace·undoing}
 use Rattle.undo.specs.Undo as undos

@@ -30,10 +30,12 @@ use Rattle.ranges.specs.Ranges.{rangeTests, replaceTests}
 use Rattle.ranges.proofs.Tests.{range-in}
 use Rattle.inserts.specs.Inserts.{textTests, insertPlan, yankPlan, yankPopPlan, updatePlan}
 use Rattle.inserts.proofs.Suits.{insert-suits, insert-cursor, yank-suits, yank-cursor, yank-pop-suits, yank-pop-cursor, update-suits, update-cursor}
-use Rattle.rewrites.specs.Rewrites.{transposeCharsPlan, editWordPlan, actionOf, editWordBy}
-use Rattle.rewrites.specs.declared.ActionCode.{ActionCode}
-use Rattle.rewrites.specs.declared.ActionCode.the-variants as action
-use Rattle.rewrites.proofs.Plans.{transpose-chars-suits, edit-word-suits}
+use Rattle.transpose_chars.specs.TransposeChars.{transposeCharsPlan}
+use Rattle.edit_word.specs.EditWord.{editWordPlan, actionOf, editWordBy}
+use Rattle.edit_word.specs.declared.ActionCode.{ActionCode}
+use Rattle.edit_word.specs.declared.ActionCode.the-variants as action
+use Rattle.transpose_chars.proofs.Plans.{transpose-chars-suits}
+use Rattle.edit_word.proofs.Plans.{edit-word-suits}
 use Rattle.transpose_words.specs.TransposeWords.{transposeWordsPlan}
 use Rattle.transpose_words.proofs.Plans.{transpose-words-suits}
 use Rattle.indents.specs.Indents.{indentPlan, indentTests, touched, linesIn, splits, indentOf, indentBy}

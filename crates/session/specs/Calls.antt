@@ -15,7 +15,8 @@ use Rattle.edit.specs.Calls.{Lent, logLent, stateOf}
 use Rattle.kills.specs.Kills.{killCall, killLineCall, killBufferCall, discardLineCall, discardBufferCall, deleteCall, backspaceCall, deletePrevWordCall, deleteWordCall, deleteToCall}
 use Rattle.ranges.specs.Ranges.{replaceCall, deleteRangeCall}
 use Rattle.inserts.specs.Inserts.{updateCall, insertCall, yankCall, yankPopCall}
-use Rattle.rewrites.specs.Rewrites.{transposeCharsCall, editWordCall}
+use Rattle.transpose_chars.specs.TransposeChars.{transposeCharsCall}
+use Rattle.edit_word.specs.EditWord.{editWordCall}
 use Rattle.transpose_words.specs.TransposeWords.{transposeWordsCall}
 use Rattle.indents.specs.Indents.{indentCall}
 use Rattle.undo.specs.Undo.{undoCall, redoCall, cancelCall}

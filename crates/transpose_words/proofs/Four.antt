@@ -18,9 +18,9 @@ use Rattle.edit.proofs.Once.{part-text, part-length}
 use Rattle.edit.proofs.Pieces.{splice-text, splice-before, splice-behind, splice-start}
 use Rattle.edit.proofs.Splice.{splice-length}
 use Rattle.transpose_words.specs.declared.Words.{Words}
-use Rattle.rewrites.specs.Rewrites.{wordsOn, wordsBack}
+use Rattle.places.specs.Places.{wordsOn, wordsBack}
 use Rattle.transpose_words.specs.TransposeWords.{wordsAround, wordsPlan, Apart}
-use Rattle.rewrites.proofs.Stays.{words-on-place, words-back-place}
+use Rattle.places.proofs.Stays.{words-on-place, words-back-place}
 
 -- a part before the bytes that are replaced
 pub part-before : (t : List ℕ) (c d : ℕ) (s : List ℕ) (a b : ℕ) → a ≤ b → b ≤ c → c ≤ length t → part (splice t c d s) a b ≡ part t a b

@@ -9,7 +9,7 @@ use Rattle.checks.specs.Checks.{ownTests}
 use Rattle.journal.specs.Layout.{Format}
 use Rattle.edit.specs.Plan.{part, pasted, cutting, Plan, nothing, Outcome}
 use Rattle.edit.specs.Calls.{Lent, textOf, editCall}
-use Rattle.rewrites.specs.Rewrites.{wordsOn, wordsBack}
+use Rattle.places.specs.Places.{wordsOn, wordsBack}
 use Rattle.transpose_words.specs.declared.Words.{Words}
 
 -- w2 is the n-th word from the cursor on, and w1 the n-th word before w2; with fewer words each movement goes as far as it

@@ -26,8 +26,8 @@ use edit::room_put;
 use edit::says;
 use keymap::RepeatCount;
 use records::NARROW;
-use rewrites::words_back;
-use rewrites::words_on;
+use places::words_back;
+use places::words_on;
 
 // Two words of a text, by their places.
 pub struct Words {

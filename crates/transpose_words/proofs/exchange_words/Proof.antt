@@ -12,7 +12,7 @@ use Rattle.edit.proofs.Answers.{length-kept, nine, ten}
 use Rattle.edit.proofs.Made.{raw-part}
 use Rattle.edit.proofs.Once.{part-length}
 use Rattle.transpose_words.specs.TransposeWords.{wordsPlan}
-use Rattle.rewrites.proofs.Copied.{copied}
+use Rattle.transpose_chars.proofs.Copied.{copied}
 use Rattle.transpose_words.proofs.Four.{words-long, words-short}
 use Rattle.transpose_words.proofs.FourRoom.{text-within, small1, small2}
 use borrow.Author.Needs.{needs}

@@ -1,0 +1,54 @@
+use native.Mathlib.Omega.{arith}
+use mathlib.Core.Path.{sym, ap}
+use lib.Seq.{length-take-le}
+use denote.Ref.{now}
+use Rattle.cluster.specs.declared.Cluster.{Cluster}
+use Rattle.edit_word.proofs.Cased.{room-behind, capital-written, count-small}
+use borrow.Author.Needs.{needs}
+use Rattle.edit_word.proofs.capitalize.Statement.{statement}
+use Rattle.edit_word.proofs.capitalize.Tie as tie
+
+next-cluster-requires : tie.Need-next-cluster-requires
+next-cluster-requires c κs = search needs
+
+slice-aggregate-case-at : tie.Need-slice-aggregate-case-at
+slice-aggregate-case-at c = sym (length-take-le _ _ ((c .before .next-cluster .ensures .1)))
+
+case-at-requires : tie.Need-case-at-requires
+case-at-requires c κs = omega (arith, c .before .before .before .before .before .pre .0, length-take-le (c .before .before .next-cluster .result .len) (now (c .before .before .before .before .before .args .s)) ((c .before .before .next-cluster .ensures .1)))
+
+sub-case-at : tie.Need-sub-case-at
+sub-case-at c = search needs
+
+part-case-at-start : tie.Need-part-case-at-start
+part-case-at-start c = search needs
+
+part-case-at-end : tie.Need-part-case-at-end
+part-case-at-end c = search needs
+
+case-at-requires-2 : tie.Need-case-at-requires-2
+case-at-requires-2 c κs = room-behind (now (c .before .before .before .before .before .before .before .before .before .before .args .s)) (now (c .before .before .before .before .before .before .before .before .before .before .args .out)) (c .before .before .before .before .before .before .before .next-cluster .result .len) ((ap (λ (k : Cluster). k .len) (c .before .before .before .before .before .before .before .next-cluster .ensures .0))) ((c .before .before .before .before .before .before .before .next-cluster .ensures .1)) (c .before .before .before .before .before .before .before .before .before .before .pre .0) _ _ (c .before .before .before .before .case-at .ensures)
+
+add-result : tie.Need-add-result
+add-result c = omega (arith, count-small (now (c .before .before .before .before .before .before .before .before .before .before .before .before .before .args .s)) (now (c .before .before .before .before .before .before .before .before .before .before .before .before .before .args .out)) (c .before .before .before .before .before .before .before .before .before .before .next-cluster .result .len) ((ap (λ (k : Cluster). k .len) (c .before .before .before .before .before .before .before .before .before .before .next-cluster .ensures .0))) ((c .before .before .before .before .before .before .before .before .before .before .next-cluster .ensures .1)) (c .before .before .before .before .before .before .before .before .before .before .before .before .before .pre .0) _ _ _ _ (c .before .before .before .before .before .before .before .case-at .ensures) (c .before .before .case-at2 .ensures), c .before .before .before .before .before .before .before .before .before .before .before .before .before .pre .0, c .before .before .before .before .before .before .before .before .before .before .before .before .before .pre .1)
+
+same-length : tie.Need-same-length
+same-length c = search needs
+
+returns : tie.Need-returns
+returns c = capital-written (now (c .before .before .before .before .before .before .before .before .before .before .before .before .before .args .s)) (now (c .before .before .before .before .before .before .before .before .before .before .before .before .before .args .out)) (c .before .before .before .before .before .before .before .before .before .before .next-cluster .result .len) ((ap (λ (k : Cluster). k .len) (c .before .before .before .before .before .before .before .before .before .before .next-cluster .ensures .0))) ((c .before .before .before .before .before .before .before .before .before .before .next-cluster .ensures .1)) (c .before .before .before .before .before .before .before .before .before .before .before .before .before .pre .0) _ _ _ _ (c .before .before .before .before .before .before .before .case-at .ensures) (c .before .before .case-at2 .ensures)
+
+pub capitalize-spec : {M : Type 1} → statement M
+capitalize-spec =
+    tie.close
+    (tie.spec
+    next-cluster-requires
+    slice-aggregate-case-at
+    case-at-requires
+    sub-case-at
+    part-case-at-start
+    part-case-at-end
+    case-at-requires-2
+    add-result
+    same-length
+    returns)

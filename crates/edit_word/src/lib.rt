@@ -1,0 +1,184 @@
+// edit_word of LineBuffer: a word put in another case. Any text, cursor, log and code may be handed over: what is unfit is turned
+// away by a number of document 01.
+ghost use mathlib.Core.Path.{_≡_};
+ghost use mathlib.Core.Bool.{true, false};
+ghost use Prim.Native.Nat.{_+_, _≤_};
+ghost use lib.ListN.{length, take};
+ghost use Rattle.utf8.specs.Chars.{In};
+ghost use Rattle.unicode.specs.Repertoire.{catalogue};
+ghost use Rattle.unicode.specs.Case.{cased};
+ghost use Rattle.journal.specs.Layout.{narrow};
+ghost use Rattle.edit.specs.Plan.{edited};
+ghost use Rattle.edit.specs.Calls.{lent, sizesOf, stateOf, Edited, Ready};
+ghost use Rattle.places.specs.Places.{wordsOn};
+ghost use Rattle.edit_word.specs.declared.WordAction.the-variants.{Capitalize};
+ghost use Rattle.edit_word.specs.EditWord.{inCase, Written, WrittenAt, casePlan, actionOf, actionIs, editWordBy, editWordCall};
+use changeset::Log;
+use checks::Line;
+use cluster::next_cluster;
+use edit::EditAnswer;
+use edit::Own;
+use edit::cut_and_put;
+use edit::refusal;
+use edit::says;
+use motion::Found;
+use motion::skip_whitespace;
+use places::words_on;
+use records::NARROW;
+use unicode::Case;
+use unicode::change_case;
+
+pub enum WordAction {
+    Capitalize,
+    Lowercase,
+    Uppercase,
+}
+
+// What a code names.
+pub enum ActionCode {
+    Is(WordAction),
+    Unknown,
+}
+
+impl WordAction {
+    pub fn from_code(code: u32) -> ActionCode
+        ensures { λ r. ⌜ r ≡ actionOf code ⌝ }
+    {
+        match code {
+            0 => ActionCode::Is(WordAction::Capitalize),
+            1 => ActionCode::Is(WordAction::Lowercase),
+            2 => ActionCode::Is(WordAction::Uppercase),
+            _ => ActionCode::Unknown,
+        }
+    }
+}
+
+// A text in upper or in lower case, written into out at a place.
+fn case_at(s: &[u8], case: Case, out: &mut [u8], at: usize) -> usize
+    requires { ⌜ at + length (now s) ≤ length (now out) ⌝ }
+    ensures { λ r. ⌜ WrittenAt (cased catalogue case (now (s .entry))) (now (out .entry)) at (now (out .exit)) r ⌝ }
+{
+    change_case(s, case, &mut out[at..])
+}
+
+// The first cluster in upper case and the rest in lower case, written to the front of out.
+fn capitalize(s: &[u8], out: &mut [u8]) -> usize
+    requires { ⌜ length (now s) ≤ length (now out) ⌝ }
+    requires { ⌜ length (now out) ≤ 4096 ⌝ }
+    ensures { λ r. ⌜ Written (inCase catalogue Capitalize (now (s .entry))) (now (out .exit)) r ⌝ }
+{
+    let k = next_cluster(s);
+    let m = k.len;
+    let a = case_at(&s[..m], Case::Upper, out, 0);
+    let b = case_at(&s[m..], Case::Lower, out, a);
+    a + b
+}
+
+// A word in another case, written to the front of out.
+fn write_case(s: &[u8], action: WordAction, out: &mut [u8]) -> usize
+    requires { ⌜ length (now s) ≤ length (now out) ⌝ }
+    requires { ⌜ length (now out) ≤ 4096 ⌝ }
+    ensures { λ r. ⌜ Written (inCase catalogue action (now (s .entry))) (now (out .exit)) r ⌝ }
+{
+    match action {
+        WordAction::Capitalize => capitalize(s, out),
+        WordAction::Lowercase => case_at(s, Case::Lower, out, 0),
+        WordAction::Uppercase => case_at(s, Case::Upper, out, 0),
+    }
+}
+
+// The word from a place on put in another case.
+fn case_from(
+    text: &mut [u8],
+    records: &mut [u8],
+    texts: &mut [u8],
+    line: Line,
+    log: Log,
+    action: WordAction,
+    from: usize,
+) -> EditAnswer
+    requires { ⌜ Ready narrow (lent (now text) (now records) (now texts) line log) ⌝ }
+    requires { ⌜ In (take (line .len) (now text)) from from ⌝ }
+    ensures { λ r. ⌜ Edited narrow (lent (now (text .entry)) (now (records .entry)) (now (texts .entry)) line log)
+        (edited catalogue narrow (sizesOf (lent (now (text .entry)) (now (records .entry)) (now (texts .entry)) line log)) (length (now (text .entry)))
+        (casePlan catalogue (take (line .len) (now (text .entry))) action from (wordsOn catalogue (take (line .len) (now (text .entry))) 1 from))
+        (stateOf catalogue narrow (lent (now (text .entry)) (now (records .entry)) (now (texts .entry)) line log)))
+        r (now (text .exit)) (now (records .exit)) (now (texts .exit)) ⌝ }
+{
+    let len = line.len;
+    let to = words_on(&text[..len], from, 1);
+    let mut word = [0u8; 4096];
+    let n = write_case(&text[from..to], action, &mut word);
+    let behind = from + n;
+    cut_and_put(
+        NARROW,
+        text,
+        records,
+        texts,
+        line,
+        log,
+        from,
+        to,
+        from,
+        &word[..n],
+        behind,
+        0,
+    )
+}
+
+// edit_word by its action.
+fn edit_word_by(
+    text: &mut [u8],
+    records: &mut [u8],
+    texts: &mut [u8],
+    line: Line,
+    log: Log,
+    action: WordAction,
+) -> EditAnswer
+    ensures { λ r. ⌜ Edited narrow (lent (now (text .entry)) (now (records .entry)) (now (texts .entry)) line log)
+        (editWordBy catalogue narrow (lent (now (text .entry)) (now (records .entry)) (now (texts .entry)) line log) (actionIs action))
+        r (now (text .exit)) (now (records .exit)) (now (texts .exit)) ⌝ }
+{
+    let k = refusal(NARROW, text, records, texts, line, log, Own::none());
+    if k != 0 {
+        return says(k, line, log);
+    }
+    let len = line.len;
+    let cursor = line.cursor;
+    let f = skip_whitespace(&text[..len], cursor);
+    match f {
+        Found::At(p) => case_from(text, records, texts, line, log, action, p),
+        Found::Nothing => says(1, line, log),
+    }
+}
+
+// Wrong answers ruled out: the capital of U+00DF left as it is; a word that has its case already left unrecorded.
+pub fn edit_word(
+    text: &mut [u8],
+    records: &mut [u8],
+    texts: &mut [u8],
+    line: Line,
+    log: Log,
+    action: u32,
+) -> EditAnswer
+    ensures { λ r. ⌜ Edited narrow (lent (now (text .entry)) (now (records .entry)) (now (texts .entry)) line log)
+        (editWordCall catalogue narrow (lent (now (text .entry)) (now (records .entry)) (now (texts .entry)) line log) action)
+        r (now (text .exit)) (now (records .exit)) (now (texts .exit)) ⌝ }
+{
+    let code = WordAction::from_code(action);
+    let ActionCode::Is(a) = code else {
+        let own = Own {
+            sizes: false,
+            code: true,
+            foreign: false,
+            place: false,
+            split: false,
+        };
+        return says(
+            refusal(NARROW, text, records, texts, line, log, own),
+            line,
+            log,
+        );
+    };
+    edit_word_by(text, records, texts, line, log, a)
+}

@@ -1,0 +1,187 @@
+// The entries for C and Rust callers that cut text out by a movement: each is the call of the same name in `kills`.
+ghost use Rattle.unicode.specs.Repertoire.{catalogue};
+ghost use Rattle.journal.specs.Layout.{narrow};
+ghost use Rattle.edit.specs.Calls as edits;
+ghost use Rattle.kills.specs.Kills as kills;
+ghost use Rattle.kills.specs.Kills.{killCall, killLineCall, killBufferCall, discardLineCall, discardBufferCall, backspaceCall, deletePrevWordCall, deleteWordCall, deleteToCall};
+use changeset::Log;
+use checks::Line;
+use edit::EditAnswer;
+
+#[no_mangle]
+pub extern "C" fn tlf_line_kill(
+    text: &mut [u8],
+    records: &mut [u8],
+    texts: &mut [u8],
+    line: Line,
+    log: Log,
+    mvt: u32,
+    n: u16,
+    at: u32,
+    word: u32,
+    search: u32,
+    ch: u32,
+) -> EditAnswer
+    ensures { λ r. ⌜ edits.Edited narrow (edits.lent (now (text .entry)) (now (records .entry)) (now (texts .entry)) line log)
+        (killCall catalogue narrow (edits.lent (now (text .entry)) (now (records .entry)) (now (texts .entry)) line log) mvt n at word search ch)
+        r (now (text .exit)) (now (records .exit)) (now (texts .exit)) ⌝ }
+{
+    kills::kill(
+        text,
+        records,
+        texts,
+        line,
+        log,
+        mvt,
+        n,
+        at,
+        word,
+        search,
+        ch,
+    )
+}
+
+#[no_mangle]
+pub extern "C" fn tlf_line_kill_line(
+    text: &mut [u8],
+    records: &mut [u8],
+    texts: &mut [u8],
+    line: Line,
+    log: Log,
+) -> EditAnswer
+    ensures { λ r. ⌜ edits.Edited narrow (edits.lent (now (text .entry)) (now (records .entry)) (now (texts .entry)) line log)
+        (killLineCall catalogue narrow (edits.lent (now (text .entry)) (now (records .entry)) (now (texts .entry)) line log))
+        r (now (text .exit)) (now (records .exit)) (now (texts .exit)) ⌝ }
+{
+    kills::kill_line(text, records, texts, line, log)
+}
+
+#[no_mangle]
+pub extern "C" fn tlf_line_kill_buffer(
+    text: &mut [u8],
+    records: &mut [u8],
+    texts: &mut [u8],
+    line: Line,
+    log: Log,
+) -> EditAnswer
+    ensures { λ r. ⌜ edits.Edited narrow (edits.lent (now (text .entry)) (now (records .entry)) (now (texts .entry)) line log)
+        (killBufferCall catalogue narrow (edits.lent (now (text .entry)) (now (records .entry)) (now (texts .entry)) line log))
+        r (now (text .exit)) (now (records .exit)) (now (texts .exit)) ⌝ }
+{
+    kills::kill_buffer(text, records, texts, line, log)
+}
+
+#[no_mangle]
+pub extern "C" fn tlf_line_discard_line(
+    text: &mut [u8],
+    records: &mut [u8],
+    texts: &mut [u8],
+    line: Line,
+    log: Log,
+) -> EditAnswer
+    ensures { λ r. ⌜ edits.Edited narrow (edits.lent (now (text .entry)) (now (records .entry)) (now (texts .entry)) line log)
+        (discardLineCall catalogue narrow (edits.lent (now (text .entry)) (now (records .entry)) (now (texts .entry)) line log))
+        r (now (text .exit)) (now (records .exit)) (now (texts .exit)) ⌝ }
+{
+    kills::discard_line(text, records, texts, line, log)
+}
+
+#[no_mangle]
+pub extern "C" fn tlf_line_discard_buffer(
+    text: &mut [u8],
+    records: &mut [u8],
+    texts: &mut [u8],
+    line: Line,
+    log: Log,
+) -> EditAnswer
+    ensures { λ r. ⌜ edits.Edited narrow (edits.lent (now (text .entry)) (now (records .entry)) (now (texts .entry)) line log)
+        (discardBufferCall catalogue narrow (edits.lent (now (text .entry)) (now (records .entry)) (now (texts .entry)) line log))
+        r (now (text .exit)) (now (records .exit)) (now (texts .exit)) ⌝ }
+{
+    kills::discard_buffer(text, records, texts, line, log)
+}
+
+#[no_mangle]
+pub extern "C" fn tlf_line_backspace(
+    text: &mut [u8],
+    records: &mut [u8],
+    texts: &mut [u8],
+    line: Line,
+    log: Log,
+    n: u16,
+) -> EditAnswer
+    ensures { λ r. ⌜ edits.Edited narrow (edits.lent (now (text .entry)) (now (records .entry)) (now (texts .entry)) line log)
+        (backspaceCall catalogue narrow (edits.lent (now (text .entry)) (now (records .entry)) (now (texts .entry)) line log) n)
+        r (now (text .exit)) (now (records .exit)) (now (texts .exit)) ⌝ }
+{
+    kills::backspace(text, records, texts, line, log, n)
+}
+
+#[no_mangle]
+pub extern "C" fn tlf_line_delete_prev_word(
+    text: &mut [u8],
+    records: &mut [u8],
+    texts: &mut [u8],
+    line: Line,
+    log: Log,
+    word: u32,
+    n: u16,
+) -> EditAnswer
+    ensures { λ r. ⌜ edits.Edited narrow (edits.lent (now (text .entry)) (now (records .entry)) (now (texts .entry)) line log)
+        (deletePrevWordCall catalogue narrow (edits.lent (now (text .entry)) (now (records .entry)) (now (texts .entry)) line log) word n)
+        r (now (text .exit)) (now (records .exit)) (now (texts .exit)) ⌝ }
+{
+    kills::delete_prev_word(text, records, texts, line, log, word, n)
+}
+
+#[no_mangle]
+pub extern "C" fn tlf_line_delete_word(
+    text: &mut [u8],
+    records: &mut [u8],
+    texts: &mut [u8],
+    line: Line,
+    log: Log,
+    at: u32,
+    word: u32,
+    n: u16,
+) -> EditAnswer
+    ensures { λ r. ⌜ edits.Edited narrow (edits.lent (now (text .entry)) (now (records .entry)) (now (texts .entry)) line log)
+        (deleteWordCall catalogue narrow (edits.lent (now (text .entry)) (now (records .entry)) (now (texts .entry)) line log) at word n)
+        r (now (text .exit)) (now (records .exit)) (now (texts .exit)) ⌝ }
+{
+    kills::delete_word(text, records, texts, line, log, at, word, n)
+}
+
+#[no_mangle]
+pub extern "C" fn tlf_line_delete_to(
+    text: &mut [u8],
+    records: &mut [u8],
+    texts: &mut [u8],
+    line: Line,
+    log: Log,
+    search: u32,
+    ch: u32,
+    n: u16,
+) -> EditAnswer
+    ensures { λ r. ⌜ edits.Edited narrow (edits.lent (now (text .entry)) (now (records .entry)) (now (texts .entry)) line log)
+        (deleteToCall catalogue narrow (edits.lent (now (text .entry)) (now (records .entry)) (now (texts .entry)) line log) search ch n)
+        r (now (text .exit)) (now (records .exit)) (now (texts .exit)) ⌝ }
+{
+    kills::delete_to(text, records, texts, line, log, search, ch, n)
+}
+
+#[no_mangle]
+pub extern "C" fn tlf_line_delete(
+    text: &mut [u8],
+    records: &mut [u8],
+    texts: &mut [u8],
+    line: Line,
+    log: Log,
+    n: u16,
+) -> EditAnswer
+    ensures { λ r. ⌜ edits.Edited narrow (edits.lent (now (text .entry)) (now (records .entry)) (now (texts .entry)) line log)
+        (kills.deleteCall catalogue narrow (edits.lent (now (text .entry)) (now (records .entry)) (now (texts .entry)) line log) n)
+        r (now (text .exit)) (now (records .exit)) (now (texts .exit)) ⌝ }
+{
+    kills::delete(text, records, texts, line, log, n)
+}

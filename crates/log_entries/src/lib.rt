@@ -1,0 +1,160 @@
+// The entries for C and Rust callers to the log: each is the call of the same name.
+ghost use mathlib.Core.Path.{_≡_};
+ghost use Rattle.unicode.specs.Repertoire.{catalogue};
+ghost use Rattle.journal.specs.Layout.{narrow};
+ghost use Rattle.changeset.specs.Calls.{lent, Logged, answerOf, beginCall, endCall, insertCall, insertStrCall, deleteCall, replaceCall, truncateCall, lastInsertCall};
+ghost use Rattle.edit.specs.Calls as edits;
+ghost use Rattle.undo.specs.Undo.{undoCall, redoCall, cancelCall};
+use changeset::Log;
+use changeset::LogAnswer;
+use checks::Line;
+use edit::EditAnswer;
+
+#[no_mangle]
+pub extern "C" fn tlf_log_new() -> Log
+    ensures { λ r. ⌜ r ≡ record { undo = record { records = 0; texts = 0 }; redo = record { records = 0; texts = 0 }; level = 0 } ⌝ }
+{
+    Log::new()
+}
+
+#[no_mangle]
+pub extern "C" fn tlf_log_begin(records: &mut [u8], texts: &mut [u8], log: Log) -> LogAnswer
+    ensures { λ r. ⌜ Logged narrow (lent (now (records .entry)) (now (texts .entry)) log)
+        (beginCall catalogue narrow (lent (now (records .entry)) (now (texts .entry)) log)) r (now (records .exit)) (now (texts .exit)) ⌝ }
+{
+    log_calls::begin(records, texts, log)
+}
+
+#[no_mangle]
+pub extern "C" fn tlf_log_end(records: &mut [u8], texts: &mut [u8], log: Log) -> LogAnswer
+    ensures { λ r. ⌜ Logged narrow (lent (now (records .entry)) (now (texts .entry)) log)
+        (endCall catalogue narrow (lent (now (records .entry)) (now (texts .entry)) log)) r (now (records .exit)) (now (texts .exit)) ⌝ }
+{
+    log_calls::end(records, texts, log)
+}
+
+#[no_mangle]
+pub extern "C" fn tlf_log_insert(
+    records: &mut [u8],
+    texts: &mut [u8],
+    log: Log,
+    idx: usize,
+    ch: u32,
+) -> LogAnswer
+    ensures { λ r. ⌜ Logged narrow (lent (now (records .entry)) (now (texts .entry)) log)
+        (insertCall catalogue narrow (lent (now (records .entry)) (now (texts .entry)) log) idx ch) r (now (records .exit)) (now (texts .exit)) ⌝ }
+{
+    log_calls::insert(records, texts, log, idx, ch)
+}
+
+#[no_mangle]
+pub extern "C" fn tlf_log_insert_str(
+    records: &mut [u8],
+    texts: &mut [u8],
+    log: Log,
+    idx: usize,
+    buf: &[u8],
+) -> LogAnswer
+    ensures { λ r. ⌜ Logged narrow (lent (now (records .entry)) (now (texts .entry)) log)
+        (insertStrCall catalogue narrow (lent (now (records .entry)) (now (texts .entry)) log) idx (now (buf .entry))) r (now (records .exit)) (now (texts .exit)) ⌝ }
+{
+    log_calls::insert_str(records, texts, log, idx, buf)
+}
+
+#[no_mangle]
+pub extern "C" fn tlf_log_delete(
+    records: &mut [u8],
+    texts: &mut [u8],
+    log: Log,
+    idx: usize,
+    buf: &[u8],
+) -> LogAnswer
+    ensures { λ r. ⌜ Logged narrow (lent (now (records .entry)) (now (texts .entry)) log)
+        (deleteCall catalogue narrow (lent (now (records .entry)) (now (texts .entry)) log) idx (now (buf .entry))) r (now (records .exit)) (now (texts .exit)) ⌝ }
+{
+    log_calls::delete(records, texts, log, idx, buf)
+}
+
+#[no_mangle]
+pub extern "C" fn tlf_log_replace(
+    records: &mut [u8],
+    texts: &mut [u8],
+    log: Log,
+    idx: usize,
+    old: &[u8],
+    new: &[u8],
+) -> LogAnswer
+    ensures { λ r. ⌜ Logged narrow (lent (now (records .entry)) (now (texts .entry)) log)
+        (replaceCall catalogue narrow (lent (now (records .entry)) (now (texts .entry)) log) idx (now (old .entry)) (now (new .entry))) r (now (records .exit)) (now (texts .exit)) ⌝ }
+{
+    log_calls::replace(records, texts, log, idx, old, new)
+}
+
+#[no_mangle]
+pub extern "C" fn tlf_log_truncate(
+    records: &mut [u8],
+    texts: &mut [u8],
+    log: Log,
+    len: usize,
+) -> LogAnswer
+    ensures { λ r. ⌜ Logged narrow (lent (now (records .entry)) (now (texts .entry)) log)
+        (truncateCall catalogue narrow (lent (now (records .entry)) (now (texts .entry)) log) len) r (now (records .exit)) (now (texts .exit)) ⌝ }
+{
+    log_calls::truncate(records, texts, log, len)
+}
+
+#[no_mangle]
+pub extern "C" fn tlf_log_last_insert(records: &[u8], texts: &[u8], log: Log) -> LogAnswer
+    ensures { λ r. ⌜ r ≡ answerOf narrow (lent (now (records .entry)) (now (texts .entry)) log)
+        (lastInsertCall catalogue narrow (lent (now (records .entry)) (now (texts .entry)) log)) ⌝ }
+{
+    log_calls::last_insert(records, texts, log)
+}
+
+#[no_mangle]
+pub extern "C" fn tlf_log_undo(
+    text: &mut [u8],
+    records: &[u8],
+    texts: &[u8],
+    line: Line,
+    log: Log,
+    n: u16,
+) -> EditAnswer
+    ensures { λ r. ⌜ edits.Edited narrow (edits.lent (now (text .entry)) (now (records .entry)) (now (texts .entry)) line log)
+        (undoCall catalogue narrow (edits.lent (now (text .entry)) (now (records .entry)) (now (texts .entry)) line log) n)
+        r (now (text .exit)) (now (records .entry)) (now (texts .entry)) ⌝ }
+{
+    undo::undo(text, records, texts, line, log, n)
+}
+
+#[no_mangle]
+pub extern "C" fn tlf_log_redo(
+    text: &mut [u8],
+    records: &[u8],
+    texts: &[u8],
+    line: Line,
+    log: Log,
+    n: u16,
+) -> EditAnswer
+    ensures { λ r. ⌜ edits.Edited narrow (edits.lent (now (text .entry)) (now (records .entry)) (now (texts .entry)) line log)
+        (redoCall catalogue narrow (edits.lent (now (text .entry)) (now (records .entry)) (now (texts .entry)) line log) n)
+        r (now (text .exit)) (now (records .entry)) (now (texts .entry)) ⌝ }
+{
+    undo::redo(text, records, texts, line, log, n)
+}
+
+#[no_mangle]
+pub extern "C" fn tlf_log_cancel(
+    text: &mut [u8],
+    records: &[u8],
+    texts: &[u8],
+    line: Line,
+    log: Log,
+    mark: usize,
+) -> EditAnswer
+    ensures { λ r. ⌜ edits.Edited narrow (edits.lent (now (text .entry)) (now (records .entry)) (now (texts .entry)) line log)
+        (cancelCall catalogue narrow (edits.lent (now (text .entry)) (now (records .entry)) (now (texts .entry)) line log) mark)
+        r (now (text .exit)) (now (records .entry)) (now (texts .entry)) ⌝ }
+{
+    undo::cancel(text, records, texts, line, log, mark)
+}

@@ -1,0 +1,6 @@
+pub mod Starts
+pub mod Suits
+pub mod Copied
+pub mod Exchange
+pub mod Begins
+pub mod Plans
