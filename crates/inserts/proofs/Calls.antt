@@ -19,7 +19,7 @@ use Rattle.edit.proofs.Answers.{refused-by, passed-by, stays}
 use Rattle.edit.proofs.Tests.{own-passed}
 use Rattle.inserts.specs.Inserts.{insertPlan, yankPlan, textTests, insertCall, yankCall}
 use Rattle.buffer.specs.Edit.{copies}
-use Rattle.inserts.proofs.Puts.{carried}
+use Rattle.puts.proofs.Puts.{carried}
 
 module _ (l : Lent) (t : Tests) (p : Plan) (k : ℕ) (r : EditAnswer) where
   pub by-check : checked catalogue narrow l t ≡ k → (k ≡ 0 → ⊥) → r ≡ says k (l .line) (l .log) → Edited narrow l (editCall catalogue narrow l t p) r (l .text) (l .records) (l .texts)

@@ -1,6 +1,3 @@
-pub mod Copied
-pub mod Puts
 pub mod Calls
 pub mod Suits
 pub mod Twice
-pub mod InPlace

@@ -19,7 +19,7 @@ use Rattle.buffer.specs.Edit.{copies}
 use Rattle.edit.specs.Plan.{splice, AllSuit, textAfter}
 use Rattle.edit.proofs.Pieces.{splice-start, splice-end}
 use Rattle.inserts.specs.Inserts.{insertPlan, yankPlan, yankPopPlan, updatePlan}
-use Rattle.inserts.proofs.Copied.{copies-text}
+use Rattle.puts.proofs.Copied.{copies-text}
 
 module _ (R : Repertoire) (t : List ℕ) (pos : ℕ) (i : In t pos pos) where
   pub insert-suits : (c n : ℕ) → isChar R c ≡ true → AllSuit R (insertPlan pos c n .pieces) t

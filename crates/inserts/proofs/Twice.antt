@@ -20,7 +20,7 @@ use Rattle.edit.specs.Calls.{Lent, textOf, says, checked, Edited, Ready}
 use Rattle.edit.proofs.Tests.{split-as, own-split-as, own-passed, text-lent}
 use Rattle.inserts.specs.Inserts.{emptyIs, yankPopPlan, updatePlan, textTests, yankPopCall, updateCall}
 use Rattle.edit.proofs.Answers.{cursor-in}
-use Rattle.inserts.proofs.Puts.{carried}
+use Rattle.puts.proofs.Puts.{carried}
 use Rattle.inserts.proofs.Calls.{by-check, by-plan, madeTests, as-text, text-passed}
 use Rattle.inserts.proofs.Suits.{yank-pop-suits, update-suits}
 

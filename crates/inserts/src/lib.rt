@@ -1,137 +1,28 @@
 // The calls of LineBuffer that put a text in. Any text, cursor, log and place may be handed over: what is unfit is turned away by a
 // number of document 01.
 ghost use mathlib.Core.Path.{_≡_};
-ghost use mathlib.Core.Bool.{true};
-ghost use Prim.Native.Nat.{_+_, _-_, _*_, _≤_};
-ghost use lib.ListN.{length};
-ghost use Rattle.utf8.specs.Encode.{encode};
+ghost use Prim.Native.Nat.{_+_, _-_};
 ghost use Rattle.unicode.specs.Repertoire.{catalogue};
-ghost use Rattle.unicode.specs.Text.{isText, isChar};
 ghost use Rattle.journal.specs.Layout.{narrow};
-ghost use Rattle.edit.specs.Plan.{typed, pasted, once, edited};
-ghost use Rattle.edit.specs.Calls.{lent, sizesOf, stateOf, Edited, Ready};
+ghost use Rattle.edit.specs.Plan.{typed};
+ghost use Rattle.edit.specs.Calls.{lent, Edited};
 ghost use Rattle.inserts.specs.Inserts.{emptyIs, insertCall, yankCall, yankPopCall, updateCall};
-ghost use Rattle.buffer.specs.Edit.{copies as Inserts·copies};
-use buffer::insert_copies;
 use changeset::Log;
 use checks::Line;
 use edit::EditAnswer;
 use edit::Own;
-use edit::change;
 use edit::cut_and_put;
 use edit::is_split;
-use edit::put_in;
 use edit::refusal;
-use edit::room_now;
-use edit::room_put;
 use edit::says;
 use keymap::RepeatCount;
+use puts::put_copies;
+use puts::type_char;
 use records::NARROW;
 use unicode::check_char;
 use unicode::check_text;
-use unicode::is_alnum;
 use utf8::encode_at;
 use utf8::is_boundary;
-
-// A character typed at the cursor, which goes behind it; s are its bytes.
-fn type_char(
-    text: &mut [u8],
-    records: &mut [u8],
-    texts: &mut [u8],
-    line: Line,
-    log: Log,
-    ch: u32,
-    s: &[u8],
-) -> EditAnswer
-    requires { ⌜ Ready narrow (lent (now text) (now records) (now texts) line log) ⌝ }
-    requires { ⌜ isChar catalogue ch ≡ true ⌝ }
-    requires { ⌜ now s ≡ encode ch ⌝ }
-    ensures { λ r. ⌜ Edited narrow (lent (now (text .entry)) (now (records .entry)) (now (texts .entry)) line log)
-        (edited catalogue narrow (sizesOf (lent (now (text .entry)) (now (records .entry)) (now (texts .entry)) line log)) (length (now (text .entry)))
-        (once (typed (line .cursor) ch) (line .cursor + length (encode ch)))
-        (stateOf catalogue narrow (lent (now (text .entry)) (now (records .entry)) (now (texts .entry)) line log)))
-        r (now (text .exit)) (now (records .exit)) (now (texts .exit)) ⌝ }
-{
-    let pos = line.cursor;
-    change(
-        NARROW,
-        text,
-        records,
-        texts,
-        line,
-        log,
-        is_alnum(ch),
-        3,
-        pos,
-        pos,
-        s,
-        pos + s.len(),
-    )
-}
-
-// n copies of a text put in at the cursor, in place: 9 is answered before one is made, and 10 before a byte changes.
-fn put_copies(
-    text: &mut [u8],
-    records: &mut [u8],
-    texts: &mut [u8],
-    line: Line,
-    log: Log,
-    s: &[u8],
-    n: usize,
-) -> EditAnswer
-    requires { ⌜ Ready narrow (lent (now text) (now records) (now texts) line log) ⌝ }
-    requires { ⌜ isText catalogue (now s) ≡ true ⌝ }
-    requires { ⌜ (length (now s) ≤ 4096) × (n ≤ 65535) ⌝ }
-    ensures { λ r. ⌜ Edited narrow (lent (now (text .entry)) (now (records .entry)) (now (texts .entry)) line log)
-        (edited catalogue narrow (sizesOf (lent (now (text .entry)) (now (records .entry)) (now (texts .entry)) line log)) (length (now (text .entry)))
-        (once (pasted (line .cursor) (Inserts·copies n (now (s .entry)))) (line .cursor + length (Inserts·copies n (now (s .entry)))))
-        (stateOf catalogue narrow (lent (now (text .entry)) (now (records .entry)) (now (texts .entry)) line log)))
-        r (now (text .exit)) (now (records .exit)) (now (texts .exit)) ⌝ }
-{
-    let len = line.len;
-    let pos = line.cursor;
-    let size = s.len() * n;
-    if text.len() - len < size {
-        return says(9, line, log);
-    }
-    let none = [0u8; 1];
-    let end = pos + size;
-    if size == 0 {
-        return put_in(
-            NARROW,
-            text,
-            records,
-            texts,
-            line,
-            log,
-            pos,
-            &none[..0],
-            end,
-        );
-    }
-    let now = room_now(NARROW, records, texts, log);
-    let room = room_put(NARROW, records, texts, now, pos, size);
-    if !room.fits {
-        return says(10, line, log);
-    }
-    insert_copies(text, len, pos, s, n);
-    let a = log.record(
-        NARROW,
-        records,
-        texts,
-        false,
-        3,
-        pos,
-        &none[..0],
-        &text[pos..end],
-    );
-    let noted = a.log;
-    let made = Line {
-        len: len + size,
-        cursor: end,
-    };
-    says(0, made, noted)
-}
 
 // Wrong answers ruled out: n = 0 that keeps the redo list; two characters merged as if they were typed.
 pub fn insert(

@@ -71,15 +71,15 @@ pub fn call(
     let search = code_of(value_at(v, 4));
     let ch = code_of(value_at(v, 5));
     match key {
-        1 => kills::kill_line(text, records, texts, line, log),
-        2 => kills::kill_buffer(text, records, texts, line, log),
-        3 => kills::discard_line(text, records, texts, line, log),
-        4 => kills::discard_buffer(text, records, texts, line, log),
-        5 => kills::backspace(text, records, texts, line, log, n),
-        6 => kills::delete(text, records, texts, line, log, n),
-        7 => kills::delete_prev_word(text, records, texts, line, log, a, nb),
-        8 => kills::delete_word(text, records, texts, line, log, a, b, nc),
-        9 => kills::delete_to(text, records, texts, line, log, a, b, nc),
+        1 => deletions::kill_line(text, records, texts, line, log),
+        2 => deletions::kill_buffer(text, records, texts, line, log),
+        3 => deletions::discard_line(text, records, texts, line, log),
+        4 => deletions::discard_buffer(text, records, texts, line, log),
+        5 => deletions::backspace(text, records, texts, line, log, n),
+        6 => deletions::delete(text, records, texts, line, log, n),
+        7 => deletions::delete_prev_word(text, records, texts, line, log, a, nb),
+        8 => deletions::delete_word(text, records, texts, line, log, a, b, nc),
+        9 => deletions::delete_to(text, records, texts, line, log, a, b, nc),
         _ => kills::kill(text, records, texts, line, log, a, nb, at, word, search, ch),
     }
 }

@@ -53,7 +53,7 @@ pub extern "C" fn tlf_line_kill_line(
         (killLineCall catalogue narrow (edits.lent (now (text .entry)) (now (records .entry)) (now (texts .entry)) line log))
         r (now (text .exit)) (now (records .exit)) (now (texts .exit)) ⌝ }
 {
-    kills::kill_line(text, records, texts, line, log)
+    deletions::kill_line(text, records, texts, line, log)
 }
 
 #[no_mangle]
@@ -68,7 +68,7 @@ pub extern "C" fn tlf_line_kill_buffer(
         (killBufferCall catalogue narrow (edits.lent (now (text .entry)) (now (records .entry)) (now (texts .entry)) line log))
         r (now (text .exit)) (now (records .exit)) (now (texts .exit)) ⌝ }
 {
-    kills::kill_buffer(text, records, texts, line, log)
+    deletions::kill_buffer(text, records, texts, line, log)
 }
 
 #[no_mangle]
@@ -83,7 +83,7 @@ pub extern "C" fn tlf_line_discard_line(
         (discardLineCall catalogue narrow (edits.lent (now (text .entry)) (now (records .entry)) (now (texts .entry)) line log))
         r (now (text .exit)) (now (records .exit)) (now (texts .exit)) ⌝ }
 {
-    kills::discard_line(text, records, texts, line, log)
+    deletions::discard_line(text, records, texts, line, log)
 }
 
 #[no_mangle]
@@ -98,7 +98,7 @@ pub extern "C" fn tlf_line_discard_buffer(
         (discardBufferCall catalogue narrow (edits.lent (now (text .entry)) (now (records .entry)) (now (texts .entry)) line log))
         r (now (text .exit)) (now (records .exit)) (now (texts .exit)) ⌝ }
 {
-    kills::discard_buffer(text, records, texts, line, log)
+    deletions::discard_buffer(text, records, texts, line, log)
 }
 
 #[no_mangle]
@@ -114,7 +114,7 @@ pub extern "C" fn tlf_line_backspace(
         (backspaceCall catalogue narrow (edits.lent (now (text .entry)) (now (records .entry)) (now (texts .entry)) line log) n)
         r (now (text .exit)) (now (records .exit)) (now (texts .exit)) ⌝ }
 {
-    kills::backspace(text, records, texts, line, log, n)
+    deletions::backspace(text, records, texts, line, log, n)
 }
 
 #[no_mangle]
@@ -131,7 +131,7 @@ pub extern "C" fn tlf_line_delete_prev_word(
         (deletePrevWordCall catalogue narrow (edits.lent (now (text .entry)) (now (records .entry)) (now (texts .entry)) line log) word n)
         r (now (text .exit)) (now (records .exit)) (now (texts .exit)) ⌝ }
 {
-    kills::delete_prev_word(text, records, texts, line, log, word, n)
+    deletions::delete_prev_word(text, records, texts, line, log, word, n)
 }
 
 #[no_mangle]
@@ -149,7 +149,7 @@ pub extern "C" fn tlf_line_delete_word(
         (deleteWordCall catalogue narrow (edits.lent (now (text .entry)) (now (records .entry)) (now (texts .entry)) line log) at word n)
         r (now (text .exit)) (now (records .exit)) (now (texts .exit)) ⌝ }
 {
-    kills::delete_word(text, records, texts, line, log, at, word, n)
+    deletions::delete_word(text, records, texts, line, log, at, word, n)
 }
 
 #[no_mangle]
@@ -167,7 +167,7 @@ pub extern "C" fn tlf_line_delete_to(
         (deleteToCall catalogue narrow (edits.lent (now (text .entry)) (now (records .entry)) (now (texts .entry)) line log) search ch n)
         r (now (text .exit)) (now (records .exit)) (now (texts .exit)) ⌝ }
 {
-    kills::delete_to(text, records, texts, line, log, search, ch, n)
+    deletions::delete_to(text, records, texts, line, log, search, ch, n)
 }
 
 #[no_mangle]
@@ -183,5 +183,5 @@ pub extern "C" fn tlf_line_delete(
         (kills.deleteCall catalogue narrow (edits.lent (now (text .entry)) (now (records .entry)) (now (texts .entry)) line log) n)
         r (now (text .exit)) (now (records .exit)) (now (texts .exit)) ⌝ }
 {
-    kills::delete(text, records, texts, line, log, n)
+    deletions::delete(text, records, texts, line, log, n)
 }

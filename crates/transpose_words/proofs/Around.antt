@@ -9,9 +9,10 @@ use Rattle.lists.proofs.Bools.{or-none}
 use Rattle.utf8.specs.Chars.{valid, In}
 use Rattle.unicode.specs.Repertoire.{Repertoire}
 use Rattle.edit.specs.Plan.{nothing}
-use Rattle.transpose_words.specs.declared.Words.{Words}
-use Rattle.transpose_words.specs.TransposeWords.{wordsAround, wordsPlan, isOne, wordsOr, transposeWordsPlan, Apart}
-use Rattle.transpose_words.proofs.Four.{around-apart}
+use Rattle.word_pairs.specs.declared.Words.{Words}
+use Rattle.word_pairs.specs.WordPairs.{wordsAround, wordsPlan, Apart}
+use Rattle.transpose_words.specs.TransposeWords.{isOne, wordsOr, transposeWordsPlan}
+use Rattle.word_pairs.proofs.Four.{around-apart}
 
 module _ (R : Repertoire) (t : List ℕ) (n pos : ℕ) (w : Words) (e : w ≡ wordsAround R t n pos) where
   pub words-one : isOne w ≡ true → nothing (w .end1) ≡ transposeWordsPlan R t n pos

@@ -1,4 +1,2 @@
-pub mod Four
-pub mod FourRoom
 pub mod Around
 pub mod Plans

@@ -10,8 +10,9 @@ use Rattle.unicode.specs.Repertoire.{Repertoire}
 use Rattle.unicode.specs.Text.{isText}
 use Rattle.unicode.proofs.Text.{text-valid}
 use Rattle.edit.proofs.Suits.{PlanSuits, nothing-suits, nothing-cursor}
-use Rattle.transpose_words.specs.TransposeWords.{wordsAround, isOne, transposeWordsPlan}
-use Rattle.transpose_words.proofs.Four.{end1-in, words-suit, words-cursor}
+use Rattle.word_pairs.specs.WordPairs.{wordsAround}
+use Rattle.transpose_words.specs.TransposeWords.{isOne, transposeWordsPlan}
+use Rattle.word_pairs.proofs.Four.{end1-in, words-suit, words-cursor}
 use Rattle.transpose_words.proofs.Around.{words-apart}
 
 module _ (R : Repertoire) (t : List ℕ) (is : isText R t ≡ true) (pos : ℕ) (i : In t pos pos) where

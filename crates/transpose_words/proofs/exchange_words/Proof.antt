@@ -11,10 +11,10 @@ use Rattle.edit.specs.Calls.{lent}
 use Rattle.edit.proofs.Answers.{length-kept, nine, ten}
 use Rattle.edit.proofs.Made.{raw-part}
 use Rattle.edit.proofs.Once.{part-length}
-use Rattle.transpose_words.specs.TransposeWords.{wordsPlan}
+use Rattle.word_pairs.specs.WordPairs.{wordsPlan}
 use Rattle.transpose_chars.proofs.Copied.{copied}
-use Rattle.transpose_words.proofs.Four.{words-long, words-short}
-use Rattle.transpose_words.proofs.FourRoom.{text-within, small1, small2}
+use Rattle.word_pairs.proofs.Four.{words-long, words-short}
+use Rattle.word_pairs.proofs.FourRoom.{text-within, small1, small2}
 use borrow.Author.Needs.{needs}
 use Rattle.transpose_words.proofs.exchange_words.Statement.{statement}
 use Rattle.transpose_words.proofs.exchange_words.Tie as tie

@@ -7,10 +7,10 @@ use Rattle.unicode.specs.Text.{isText}
 use Rattle.edit.specs.Calls.{lent}
 use Rattle.records.proofs.Formats.{narrow-fit}
 use Rattle.unicode.proofs.Typed.{encode-max, typed-text}
-use Rattle.inserts.proofs.Puts.{an-insert, char-put}
+use Rattle.puts.proofs.Puts.{an-insert, char-put}
 use borrow.Author.Needs.{needs}
-use Rattle.inserts.proofs.type_char.Statement.{statement}
-use Rattle.inserts.proofs.type_char.Tie as tie
+use Rattle.puts.proofs.type_char.Statement.{statement}
+use Rattle.puts.proofs.type_char.Tie as tie
 
 is-alnum-requires : tie.Need-is-alnum-requires
 is-alnum-requires c κs = search needs

@@ -32,8 +32,8 @@ use Rattle.edit.proofs.Made as made-laws
 use Rattle.edit.proofs.Once.{once-paste, noted-insert}
 use Rattle.edit.proofs.Rooms.{Roomy, dry-now, dry-narrow, dry-put}
 use Rattle.edit.proofs.Splice.{splice-length}
-use Rattle.inserts.proofs.Copied.{copies-text}
-use Rattle.inserts.proofs.Puts.{an-insert, carried}
+use Rattle.puts.proofs.Copied.{copies-text}
+use Rattle.puts.proofs.Puts.{an-insert, carried}
 
 module _ (l : Lent) (h : Ready narrow l) (s : List ℕ) (is : isText catalogue s ≡ true) (n : ℕ) (room : length s * n ≤ length (l .text) - l .line .len) where
   abbrev pos : ℕ

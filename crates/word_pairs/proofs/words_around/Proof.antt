@@ -1,10 +1,10 @@
 use native.Mathlib.Omega.{arith}
 use denote.Ref.{now}
 use Rattle.unicode.specs.Repertoire.{catalogue}
-use Rattle.transpose_words.proofs.Four.{place-d, place-c, within-a, around-is}
+use Rattle.word_pairs.proofs.Four.{place-d, place-c, within-a, around-is}
 use borrow.Author.Needs.{needs}
-use Rattle.transpose_words.proofs.words_around.Statement.{statement}
-use Rattle.transpose_words.proofs.words_around.Tie as tie
+use Rattle.word_pairs.proofs.words_around.Statement.{statement}
+use Rattle.word_pairs.proofs.words_around.Tie as tie
 
 words-on-requires : tie.Need-words-on-requires
 words-on-requires c κs = search needs

@@ -17,9 +17,9 @@ use Rattle.edit.specs.Plan.{part, splice, textAfter, AllSuit, tooLong}
 use Rattle.edit.proofs.Once.{part-text, part-length}
 use Rattle.edit.proofs.Pieces.{splice-text, splice-before, splice-behind, splice-start}
 use Rattle.edit.proofs.Splice.{splice-length}
-use Rattle.transpose_words.specs.declared.Words.{Words}
+use Rattle.word_pairs.specs.declared.Words.{Words}
 use Rattle.places.specs.Places.{wordsOn, wordsBack}
-use Rattle.transpose_words.specs.TransposeWords.{wordsAround, wordsPlan, Apart}
+use Rattle.word_pairs.specs.WordPairs.{wordsAround, wordsPlan, Apart}
 use Rattle.places.proofs.Stays.{words-on-place, words-back-place}
 
 -- a part before the bytes that are replaced

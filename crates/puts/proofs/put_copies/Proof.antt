@@ -12,12 +12,12 @@ use Rattle.buffer.proofs.Copies.{copies-length}
 use Rattle.edit.specs.Calls.{lent}
 use Rattle.edit.proofs.Answers.{cursor-in}
 use Rattle.edit.proofs.Made.{no-bytes}
-use Rattle.inserts.proofs.Copied.{product-fits}
-use Rattle.inserts.proofs.Puts.{copies-long, copies-put}
-use Rattle.inserts.proofs.InPlace.{copies-narrow, copies-full, new-text, copies-made}
+use Rattle.puts.proofs.Copied.{product-fits}
+use Rattle.puts.proofs.Puts.{copies-long, copies-put}
+use Rattle.puts.proofs.InPlace.{copies-narrow, copies-full, new-text, copies-made}
 use borrow.Author.Needs.{needs}
-use Rattle.inserts.proofs.put_copies.Statement.{statement}
-use Rattle.inserts.proofs.put_copies.Tie as tie
+use Rattle.puts.proofs.put_copies.Statement.{statement}
+use Rattle.puts.proofs.put_copies.Tie as tie
 
 mul-size : tie.Need-mul-size
 mul-size c = omega (arith, ((product-fits (length ((now (c .before .before .before .before .args .s)))) ((c .before .before .before .before .args .n)) (c .before .before .before .before .pre .1 .1 .0) (c .before .before .before .before .pre .1 .1 .1))))

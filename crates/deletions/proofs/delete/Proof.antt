@@ -1,10 +1,10 @@
 use native.Mathlib.Omega.{arith}
 use denote.Ref.{now}
 use Rattle.edit.specs.Calls.{lent}
-use Rattle.kills.proofs.Deleted.{not-cut, was-cut}
+use Rattle.deletions.proofs.Deleted.{not-cut, was-cut}
 use borrow.Author.Needs.{needs}
-use Rattle.kills.proofs.delete.Statement.{statement}
-use Rattle.kills.proofs.delete.Tie as tie
+use Rattle.deletions.proofs.delete.Statement.{statement}
+use Rattle.deletions.proofs.delete.Tie as tie
 
 kill-movement-requires : tie.Need-kill-movement-requires
 kill-movement-requires c κs = search needs

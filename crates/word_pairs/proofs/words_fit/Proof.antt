@@ -14,10 +14,10 @@ use Rattle.edit.specs.Calls.{lent}
 use Rattle.edit.proofs.Answers.{length-kept}
 use Rattle.edit.proofs.Made.{raw-part}
 use Rattle.edit.proofs.Once.{part-text}
-use Rattle.transpose_words.proofs.FourRoom.{narrow0, narrow1, narrow2, narrow3, four-room}
+use Rattle.word_pairs.proofs.FourRoom.{narrow0, narrow1, narrow2, narrow3, four-room}
 use borrow.Author.Needs.{needs}
-use Rattle.transpose_words.proofs.words_fit.Statement.{statement}
-use Rattle.transpose_words.proofs.words_fit.Tie as tie
+use Rattle.word_pairs.proofs.words_fit.Statement.{statement}
+use Rattle.word_pairs.proofs.words_fit.Tie as tie
 
 sub-is-single : tie.Need-sub-is-single
 sub-is-single c = search needs

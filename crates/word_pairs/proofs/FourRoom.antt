@@ -23,9 +23,9 @@ use Rattle.edit.specs.Room.{roomCut, roomPut}
 use Rattle.edit.proofs.Answers.{length-kept}
 use Rattle.edit.proofs.Rooms.{Roomy, dry-now, dry-narrow, dry-cut, dry-put}
 use Rattle.edit.proofs.Left.{Left, begins, goes-on, ends, next-suits}
-use Rattle.transpose_words.specs.declared.Words.{Words}
-use Rattle.transpose_words.specs.TransposeWords.{wordsPlan, Apart}
-use Rattle.transpose_words.proofs.Four.{m1, m2, m3, text1, text2, size1, size2, long1, long2, long3, in1, in2, in3, is1, is2, is3, part2, words-suit, words-long}
+use Rattle.word_pairs.specs.declared.Words.{Words}
+use Rattle.word_pairs.specs.WordPairs.{wordsPlan, Apart}
+use Rattle.word_pairs.proofs.Four.{m1, m2, m3, text1, text2, size1, size2, long1, long2, long3, in1, in2, in3, is1, is2, is3, part2, words-suit, words-long}
 
 module _ (l : Lent) (h : Ready narrow l) (w : Words) (p : Apart (textOf l) w) where
   abbrev t : List ℕ
