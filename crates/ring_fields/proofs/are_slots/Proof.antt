@@ -1,8 +1,8 @@
 use borrow.Author.Needs.{needs}
 use Prim.Native.Nat.{_≤_}
 use lib.ListN.{length}
-use Rattle.ring_lines.proofs.are_slots.Statement.{statement}
-use Rattle.ring_lines.proofs.are_slots.Tie as tie
+use Rattle.ring_fields.proofs.are_slots.Statement.{statement}
+use Rattle.ring_fields.proofs.are_slots.Tie as tie
 
 abbrev Inv-loop : tie.InvT-loop
 Inv-loop due slots lens count left₀ at₀ base₀ low₀ left at base low = (at ≤ length due) × (base ≤ length slots) × (low ≤ length lens) × (left ≤ count)
