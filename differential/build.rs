@@ -85,7 +85,7 @@ fn main() {
     fs::write(out.join("rustyline.rs"), root).unwrap();
     println!("cargo:rustc-env=VERSIONS={}", versions(&own));
     println!("cargo:rustc-cfg=test");
-    link(&path("EDIT_LINE_ARCHIVE"));
+    link(&path("TULOFEWA_ARCHIVE"));
     if env::var("CARGO_PKG_NAME").unwrap() == "bench" {
         link(&path("SCAN_BENCH_ARCHIVE"));
     }

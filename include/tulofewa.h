@@ -1,6 +1,6 @@
 /*
  * Tulofewa, the catalogue edit line: text and cursor, motions and edits, undo with groups, a kill ring. These are the
- * entries of libedit_line.a (`rt staticlib edit_line`); include/check holds this file against their source.
+ * entries of target/libtulofewa.a, which ./library builds; include/check holds this file against their source.
  *
  * State. All of it is the caller's; an entry keeps nothing and allocates nothing. A text is a buffer and a tlf_line, a
  * log is two buffers and a tlf_log, a ring is two buffers and a tlf_ring. tlf_line and tlf_log go in by value and come

@@ -94,21 +94,14 @@ pub fn call(
     buf: &[u8],
     v: &[usize],
 ) -> EditAnswer {
+    if key <= 6 {
+        return insert_dispatch::call(key, text, records, texts, line, log, buf, v);
+    }
     let a = value_at(v, 0);
-    let b = value_at(v, 1);
-    let code = code_of(a);
-    let n = count_of(a);
-    let nb = count_of(b);
     match key {
-        1 => inserts::insert(text, records, texts, line, log, code, nb),
-        2 => inserts::yank(text, records, texts, line, log, buf, n),
-        3 => inserts::yank_pop(text, records, texts, line, log, a, buf),
-        4 => inserts::update(text, records, texts, line, log, buf, a),
-        5 => ranges::delete_range(text, records, texts, line, log, a, b),
-        6 => ranges::replace(text, records, texts, line, log, a, b, buf),
         7 => transpose_chars::transpose_chars(text, records, texts, line, log),
-        8 => edit_word::edit_word(text, records, texts, line, log, code),
-        9 => transpose_words::transpose_words(text, records, texts, line, log, n),
+        8 => edit_word::edit_word(text, records, texts, line, log, code_of(a)),
+        9 => transpose_words::transpose_words(text, records, texts, line, log, count_of(a)),
         _ => indent_call(text, records, texts, line, log, v),
     }
 }
