@@ -10,17 +10,14 @@ use Rattle.buffer.specs.Gap.{gapped, shut}
 use Rattle.buffer.proofs.Laws.{take-drop}
 
 -- ---- the text, and the buffer with the gap behind it
+pub shut-length : (len at : ℕ) (s : List ℕ) → length (shut len at s) ≡ length s
+unfolding gapped shut
+shut-length len at s = simp (length-append, length-take, length-drop) (omega arith)
+
 module _ (len at : ℕ) (s : List ℕ) (h : at ≤ len) (k : len ≤ length s) where
   pub gapped-length : length (gapped len at s) ≡ len
   unfolding gapped
   gapped-length = simp (length-append, length-take, length-drop) (omega arith)
-
-  pub shut-length : length (shut len at s) ≡ length s
-  unfolding shut
-  shut-length =
-      length-append (gapped len at s) (take (length s - len) (drop at s))
-      ∙ ap₂ (λ (a b : ℕ). a + b) gapped-length (length-take-le (length s - len) (drop at s) (simp length-drop (omega arith)))
-      ∙ omega arith
 
   pub shut-text : take len (shut len at s) ≡ gapped len at s
   unfolding shut

@@ -2,17 +2,18 @@
 use Prim.Native.Nat.{ℕ, _+_, _-_, _≤_, _<_}
 use native.Mathlib.Omega.{arith}
 use native.Mathlib.Nat.{add-sub-cancel-left}
-use mathlib.Core.Path.{_≡_, refl, sym, ap, subst, _∙_}
+use mathlib.Core.Path.{_≡_, refl, sym, ap, ap₂, subst, _∙_}
 use mathlib.Core.Bool.{true, false, and-false}
-use mathlib.Core.List.{List}
+use mathlib.Core.List.{List, _++_}
 use lib.Dec.{leb}
-use lib.ListN.{length, take}
+use lib.ListN.{length, take, drop}
 use borrow.Author.Tests.{le-leb, lt-leb, lt-ltb, le-ltb}
 use Rattle.lists.proofs.Bools.{by-test, by-less}
 use Rattle.utf8.specs.Chars.{boundary}
-use Rattle.buffer.specs.Edit.{inserted, cut}
+use Rattle.buffer.specs.Gap.{gapped}
+use Rattle.buffer.proofs.Gaps.{exchanged-before}
 use Rattle.edit.specs.Plan.{splice}
-use Rattle.edit.proofs.Splice.{splice-length, cut-put}
+use Rattle.edit.proofs.Splice.{splice-length}
 use Rattle.retrace.specs.Retrace.{Trail, Tried, done, stops, misfit, exchanging}
 use Rattle.retrace.specs.Records.{Exchanged}
 
@@ -81,12 +82,13 @@ module _ (C p n : ℕ) (s t : List ℕ) where
   pub stopped : (k : ℕ) (b : List ℕ) → exchanging C p n s t ≡ stops k → Exchanged (exchanging C p n s t) k b b
   stopped k b e = subst (λ (x : Tried). Exchanged x k b b) (sym e) (refl, refl)
 
-  -- cut out, which leaves m, and then put in
-  pub exchanged : (len : ℕ) (b m b' : List ℕ) → length t ≡ len → Fits → take (len - (p + n - p)) m ≡ cut t p (p + n) → take (len - n + length s) b' ≡ inserted (take (len - n) m) p s → Exchanged (exchanging C p n s t) 0 b b'
-  exchanged len b m b' e h f g =
-      let i : len - (p + n - p) ≡ len - n = ap (λ (x : ℕ). len - x) (add-sub-cancel-left p n) in
-      let j : take (len - n) m ≡ cut t p (p + n) = ap (λ (x : ℕ). take x m) (sym i) ∙ f in
+  -- the gap is moved to p, which leaves m; the n bytes behind it are then in the gap, and s is written before it
+  pub exchanged : (len : ℕ) (b m b' : List ℕ) → length t ≡ len → Fits → len ≤ length m → length m ≡ C → gapped len p m ≡ t → b' ≡ take p m ++ (s ++ drop (p + length s) m) → Exchanged (exchanging C p n s t) 0 b b'
+  unfolding splice
+  exchanged len b m b' e h i j f g =
       let k : length (splice t p (p + n) s) ≡ len - n + length s = swapped-length (h .ends) ∙ ap (λ (x : ℕ). x - n + length s) e in
-      let z = h .ends in
-      subst (λ (x : Tried). Exchanged x 0 b b') (sym (swaps h))
-      (refl, ap (λ (x : ℕ). take x b') k ∙ g ∙ ap (λ (x : List ℕ). inserted x p s) j ∙ cut-put t p (p + n) s (omega arith))
+      subst (λ (x : Tried). Exchanged x 0 b b') (sym (swaps h)) (
+        refl,
+        ap₂ (λ (x : ℕ) (y : List ℕ). gapped x (p + length s) y) k g ∙ exchanged-before m s len p n (omega (arith, h .ends)) i (omega (arith, h .room))
+            ∙ ap (λ (x : List ℕ). take p x ++ (s ++ drop (p + n) x)) f,
+      )

@@ -7,6 +7,10 @@ use mathlib.Core.List.{List, _++_}
 use lib.ListN.{length, take, drop, length-append, length-drop}
 use lib.Seq.{length-take-le, take-take, drop-drop, take-append-seam, drop-append-seam}
 use Rattle.lists.proofs.Parts.{drop-take}
+use Rattle.unicode.specs.Repertoire.{catalogue}
+use Rattle.unicode.specs.Text.{isText}
+use Rattle.buffer.specs.Gap.{gapped, shut}
+use Rattle.buffer.proofs.Gaps.{shut-length, shut-text}
 use Rattle.journal.specs.Change.{Edit, insert, delete, replace, Change, begin, end, edit, place, old, new, flipped}
 use Rattle.recording.proofs.Numbers.{texts-are}
 use Rattle.edit.specs.Plan.{splice}
@@ -89,55 +93,91 @@ module _ (C : ℕ) (r : Record) (ts : List ℕ) (t : ℕ) (s : Trail) where
       turned C x s ∙ rw (new-part x h from to (f .1) (f .2), f .0, h .numbers)
 
 -- ---- what is left, by the number
-pub stopped-step : (x : Tried) (q : Step) (k : ℕ) (b b' : List ℕ) → Exchanged x k b b' → (k ≡ 0 → ⊥) → Retraced x q (record { number = k; len = q .len; cursor = q .cursor; undone = q .undone }) b b'
+-- the buffer of a step, with its gap at the cursor put behind the text
+abbrev pub shutBy : Step → List ℕ → List ℕ
+shutBy q b = shut (q .len) (q .cursor) b
+
+-- a stop
+abbrev stoppedBy : Step → ℕ → Step
+stoppedBy q k = record { number = k; len = q .len; cursor = q .cursor; undone = q .undone }
+
+stopped-step : (x : Tried) (q : Step) (k : ℕ) (b b' : List ℕ) → Exchanged x k b b' → (k ≡ 0 → ⊥) → Retraced x q (stoppedBy q k) (shutBy q b) (shutBy q b')
 stopped-step (done s) q k b b' e f = absurd (f (e .0))
-stopped-step (stops n) q k b b' e f = (ap (λ (j : ℕ). record { number = j; len = q .len; cursor = q .cursor; undone = q .undone }) (e .0), e .1)
+stopped-step (stops n) q k b b' e f = (ap (stoppedBy q) (e .0), ap (shutBy q) (e .1))
 
 -- the text, the cursor and whether a record was undone, as a step has them with the text's buffer
-abbrev pub trailOf : Step → List ℕ → Trail
+abbrev trailOf : Step → List ℕ → Trail
 trailOf q b = record { text = take (q .len) b; cursor = q .cursor; undone = q .undone }
 
-module _ (r : Record) (ts : List ℕ) (t : ℕ) (q : Step) (b : List ℕ) (z : q .number ≡ 0) (m : q .len ≤ length b) where
-  -- a record of no text leaves everything
-  pub unmoved : (back : Bool) (c : Change) → Carries c r ts t → r .kind ≤ 2 → Retraced (undoing (length b) (facing back c) (trailOf q b)) q q b b
-  unmoved back c h k =
-      let e = length-take-le (q .len) b m in
-      subst (λ (x : Tried). Retraced x q q b b) (sym (bare (length b) r ts t (trailOf q b) back c h k))
-      (ap₂ (λ (n l : ℕ). record { number = n; len = l; cursor = q .cursor; undone = q .undone }) z (sym e), ap (λ (x : ℕ). take x b) e)
+module _ (r : Record) (ts : List ℕ) (t : ℕ) (q : Step) (b : List ℕ) (z : q .number ≡ 0) (v : q .cursor ≤ q .len) (m : q .len ≤ length (shutBy q b)) where
+  abbrev B : List ℕ
+  B = shutBy q b
 
-  module _ (out from to k : ℕ) (b' : List ℕ) (w : Within out from to (length ts))
-      (x : Exchanged (exchanging (length b) (r .place) out (take (to - from) (drop from ts)) (take (q .len) b)) k b b') where
+  -- the buffer is as long, and its text is the one around the gap
+  size : length B ≡ length b
+  size = shut-length (q .len) (q .cursor) b
+
+  used : q .len ≤ length b
+  used = omega (arith, m, size)
+
+  around : take (q .len) B ≡ gapped (q .len) (q .cursor) b
+  around = shut-text (q .len) (q .cursor) b v used
+
+  -- so it is a text of the repertoire as well
+  pub text-around : isText catalogue (take (q .len) B) ≡ true → isText catalogue (gapped (q .len) (q .cursor) b) ≡ true
+  text-around = subst (λ (l : List ℕ). isText catalogue l ≡ true) around
+
+  -- a record of no text leaves everything
+  pub unmoved : (back : Bool) (c : Change) → Carries c r ts t → r .kind ≤ 2 → Retraced (undoing (length B) (facing back c) (trailOf q B)) q q B B
+  unmoved back c h k =
+      let e = length-take-le (q .len) B m in
+      subst (λ (x : Tried). Retraced x q q B B) (sym (bare (length B) r ts t (trailOf q B) back c h k))
+      (ap₂ (λ (n l : ℕ). record { number = n; len = l; cursor = q .cursor; undone = q .undone }) z (sym e), ap (λ (x : ℕ). take x B) e)
+
+  module _ (out from to k : ℕ) (b' : List ℕ) (w : Within out from to (length ts)) (y : length b' ≡ length b)
+      (x : Exchanged (exchanging (length b) (r .place) out (take (to - from) (drop from ts)) (gapped (q .len) (q .cursor) b)) k b b') where
     abbrev part : List ℕ
     part = take (to - from) (drop from ts)
 
     part-length : length part ≡ to - from
     part-length = length-take-le (to - from) (drop from ts) (omega (arith, length-drop from ts, w .order, w .last))
 
+    -- what was exchanged, in the buffer with the gap put behind the text
+    there : Exchanged (exchanging (length B) (r .place) out part (take (q .len) B)) k b b'
+    there = subst (λ (n : ℕ). Exchanged (exchanging n (r .place) out part (take (q .len) B)) k b b') (sym size) (subst (λ (l : List ℕ). Exchanged (exchanging (length b) (r .place) out part l) k b b') (sym around) x)
+
     -- a stop leaves everything
     pub stops-at : (back : Bool) (c : Change) → Carries c r ts t → 2 < r .kind → Faces back r t out from to → (k ≡ 0 → ⊥)
-        → Retraced (undoing (length b) (facing back c) (trailOf q b)) q (record { number = k; len = q .len; cursor = q .cursor; undone = q .undone }) b b'
+        → Retraced (undoing (length B) (facing back c) (trailOf q B)) q (stoppedBy q k) B (shutBy q b')
     stops-at back c h i f j =
-        rw (exchanges (length b) r ts t (trailOf q b) back c out from to h i f) (stopped-step (exchanging (length b) (r .place) out part (take (q .len) b)) q k b b' x j)
+        rw (exchanges (length B) r ts t (trailOf q B) back c out from to h i f) (stopped-step (exchanging (length B) (r .place) out part (take (q .len) B)) q k b b' there j)
 
     module _ (j : k ≡ 0) where
-      fit : Fits (length b) (r .place) out part (take (q .len) b)
-      fit = fits-by (length b) (r .place) out part (take (q .len) b) b b' (subst (λ (y : ℕ). Exchanged (exchanging (length b) (r .place) out part (take (q .len) b)) y b b') j x)
+      fit : Fits (length B) (r .place) out part (take (q .len) B)
+      fit = fits-by (length B) (r .place) out part (take (q .len) B) b b' (subst (λ (i : ℕ). Exchanged (exchanging (length B) (r .place) out part (take (q .len) B)) i b b') j there)
 
       -- what is taken out lies in the text
       pub out-within : out ≤ q .len
-      out-within = omega (arith, fit .ends, length-take-le (q .len) b m)
+      out-within = omega (arith, fit .ends, length-take-le (q .len) B m)
 
       -- what is left is a text in the buffer
       pub left-within : q .len - out + (to - from) ≤ length b
-      left-within = omega (arith, fit .room, length-take-le (q .len) b m, part-length)
+      left-within = omega (arith, fit .room, length-take-le (q .len) B m, part-length, size)
 
-      -- and it is what the record, undone or redone, leaves
+      -- the step behind the record, its gap behind what was put in
+      abbrev next : Step
+      next = record { number = 0; len = q .len - out + (to - from); cursor = r .place + (to - from); undone = true }
+
+      -- it is what the record, undone or redone, leaves
       pub moves : (back : Bool) (c : Change) → Carries c r ts t → 2 < r .kind → Faces back r t out from to
-          → Retraced (undoing (length b) (facing back c) (trailOf q b)) q (record { number = 0; len = q .len - out + (to - from); cursor = r .place + (to - from); undone = true }) b b'
+          → Retraced (undoing (length B) (facing back c) (trailOf q B)) q next B (shutBy next b')
       moves back c h i f =
-          let e = length-take-le (q .len) b m in
-          let y = swaps (length b) (r .place) out part (take (q .len) b) fit in
-          let l : q .len - out + (to - from) ≡ length (splice (take (q .len) b) (r .place) (r .place + out) part) = omega (arith, swapped-length (length b) (r .place) out part (take (q .len) b) (fit .ends), part-length, e) in
-          subst (λ (v : Tried). Retraced v q (record { number = 0; len = q .len - out + (to - from); cursor = r .place + (to - from); undone = true }) b b')
-          (sym (exchanges (length b) r ts t (trailOf q b) back c out from to h i f ∙ y))
-          (ap₂ (λ (n p : ℕ). record { number = 0; len = n; cursor = r .place + p; undone = true }) l (sym part-length), subst (λ (v : Tried). Exchanged v k b b') y x .1)
+          let e = length-take-le (q .len) B m in
+          let g = swaps (length B) (r .place) out part (take (q .len) B) fit in
+          let S : List ℕ = splice (take (q .len) B) (r .place) (r .place + out) part in
+          let l : q .len - out + (to - from) ≡ length S = omega (arith, swapped-length (length B) (r .place) out part (take (q .len) B) (fit .ends), part-length, e) in
+          let p : r .place + (to - from) ≡ r .place + length part = ap (λ (n : ℕ). r .place + n) (sym part-length) in
+          let a : take (length S) (shut (length S) (r .place + length part) b') ≡ S =
+          shut-text (length S) (r .place + length part) b' (omega (arith, l, part-length, fit .ends, e)) (omega (arith, l, left-within, y)) ∙ subst (λ (u : Tried). Exchanged u k b b') g there .1 in
+          subst (λ (u : Tried). Retraced u q next B (shutBy next b')) (sym (exchanges (length B) r ts t (trailOf q B) back c out from to h i f ∙ g))
+          (ap₂ (λ (n p : ℕ). record { number = 0; len = n; cursor = p; undone = true }) l p, ap₂ (λ (n p : ℕ). take (length S) (shut n p b')) l p ∙ a)

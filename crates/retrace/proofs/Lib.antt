@@ -1,4 +1,5 @@
 pub mod Records
 pub mod Sizes
+pub mod Edges
 pub mod Exchanges
 pub mod Faces

@@ -1,18 +1,21 @@
-// One record undone or redone: undo.rs, undo and redo of Change. Records and their texts are only read.
+// One record undone or redone: undo.rs, undo and redo of Change. Records and their texts are only read. The text has a gap at the
+// cursor, so a record costs the distance from the cursor to its place, and its own bytes.
 ghost use mathlib.Core.Path.{_≡_};
 ghost use mathlib.Core.Bool.{true};
 ghost use Prim.Native.Nat.{_+_, _≤_, _<_};
 ghost use lib.ListN.{length, getD, take};
+ghost use Rattle.utf8.specs.Chars.{valid, boundary, noTail};
 ghost use Rattle.unicode.specs.Repertoire.{catalogue};
 ghost use Rattle.unicode.specs.Text.{isText};
 ghost use Rattle.journal.specs.Change.{Change};
 ghost use Rattle.journal.specs.Hold.{Listed};
 ghost use Rattle.journal.specs.Layout.{sizeOf};
+ghost use Rattle.buffer.specs.Gap.{gapped, shut};
 ghost use Rattle.records.specs.Formats.{asFormat, Fit};
 ghost use Rattle.retrace.specs.Retrace.{exchanging, undoing, facing};
 ghost use Rattle.retrace.specs.Records.{recordAt, Carries, Noted, Exchanged, Retraced};
-use buffer::cut_bytes;
-use buffer::insert_bytes;
+use buffer::move_gap;
+use buffer::write_at;
 use records::Format;
 use records::read_num;
 use records::record_size;
@@ -89,28 +92,42 @@ pub fn note_sizes(f: Format, records: &[u8], sizes: &mut [u8]) -> usize
     count
 }
 
-// Takes the bytes at a place out of the text and puts a text in there; or 12, then 9, and nothing is changed.
-fn exchange(text: &mut [u8], len: usize, place: usize, out: usize, put: &[u8]) -> u32
-    requires { ⌜ (len ≤ length (now text)) × (place < 4294967296) × (out < 4294967296) ⌝ }
-    requires { ⌜ isText catalogue (take len (now text)) ≡ true ⌝ }
-    ensures { λ r. ⌜ Exchanged (exchanging (length (now (text .entry))) place out (now (put .entry)) (take len (now (text .entry)))) r (now (text .entry)) (now (text .exit)) ⌝ }
+// Is the place i a character boundary of a text with its gap at a place? The byte there stands before the gap or behind it.
+fn is_edge(text: &[u8], len: usize, at: usize, i: usize) -> bool
+    requires { ⌜ (at ≤ len) × (len ≤ length (now text)) ⌝ }
+    ensures any { λ r. ⌜ r ≡ noTail (gapped len at (now (text .entry))) i ⌝ }
+    ensures text { λ r. ⌜ (valid (gapped len at (now (text .entry))) ≡ true → r ≡ boundary (gapped len at (now (text .entry))) i) ⌝ }
+{
+    if i < at {
+        return is_boundary(&text[..at], i);
+    }
+    let gap = text.len() - len;
+    is_boundary(&text[at + gap..], i - at)
+}
+
+// Takes the bytes at a place out of a text with its gap at a place, and puts a text in there: the gap then stands behind it. Or
+// 12, then 9, and nothing is changed.
+fn exchange(text: &mut [u8], len: usize, at: usize, place: usize, out: usize, put: &[u8]) -> u32
+    requires { ⌜ (at ≤ len) × (len ≤ length (now text)) × (place < 4294967296) × (out < 4294967296) ⌝ }
+    requires { ⌜ isText catalogue (gapped len at (now text)) ≡ true ⌝ }
+    ensures { λ r. ⌜ Exchanged (exchanging (length (now (text .entry))) place out (now (put .entry)) (gapped len at (now (text .entry)))) r (now (text .entry)) (now (text .exit)) ⌝ }
 {
     let end = place + out;
     if len < end {
         return 12;
     }
-    if !is_boundary(&text[..len], place) {
+    if !is_edge(text, len, at, place) {
         return 12;
     }
-    if !is_boundary(&text[..len], end) {
+    if !is_edge(text, len, at, end) {
         return 12;
     }
     let left = len - out;
     if text.len() - left < put.len() {
         return 9;
     }
-    cut_bytes(text, len, place, end);
-    insert_bytes(text, left, place, put);
+    move_gap(text, len, at, place);
+    write_at(text, place, put);
     0
 }
 
@@ -122,12 +139,13 @@ pub struct Step {
     pub undone: bool,
 }
 
-// A record undone (back) or redone, whose texts begin at t.
+// A record undone (back) or redone, whose texts begin at t. The text has its gap at the cursor, before and afterwards.
 pub fn retrace(text: &mut [u8], texts: &[u8], s: Step, r: Record, t: usize, back: bool) -> Step
-    requires { ⌜ (s .number ≡ 0) × (s .len ≤ length (now text)) × (r .place < 4294967296) × (t + (r .old + r .new) ≤ length (now texts)) × (length (now texts) ≤ 65535) ⌝ }
-    requires { ⌜ isText catalogue (take (s .len) (now text)) ≡ true ⌝ }
+    requires { ⌜ (s .number ≡ 0) × (s .cursor ≤ s .len) × (s .len ≤ length (shut (s .len) (s .cursor) (now text))) × (r .place < 4294967296) × (t + (r .old + r .new) ≤ length (now texts)) × (length (now texts) ≤ 65535) ⌝ }
+    requires { ⌜ isText catalogue (take (s .len) (shut (s .len) (s .cursor) (now text))) ≡ true ⌝ }
     ensures { λ q. ⌜ ((c : Change) → Carries c r (now (texts .entry)) t → Retraced
-        (undoing (length (now (text .entry))) (facing back c) (record { text = take (s .len) (now (text .entry)); cursor = s .cursor; undone = s .undone })) s q (now (text .entry)) (now (text .exit))) ⌝ }
+        (undoing (length (shut (s .len) (s .cursor) (now (text .entry)))) (facing back c) (record { text = take (s .len) (shut (s .len) (s .cursor) (now (text .entry))); cursor = s .cursor; undone = s .undone }))
+        s q (shut (s .len) (s .cursor) (now (text .entry))) (shut (q .len) (q .cursor) (now (text .exit)))) ⌝ }
 {
     if r.kind <= 2 {
         return s;
@@ -142,7 +160,7 @@ pub fn retrace(text: &mut [u8], texts: &[u8], s: Step, r: Record, t: usize, back
         to = mid;
     }
     let put = to - from;
-    let number = exchange(text, s.len, r.place, out, &texts[from..to]);
+    let number = exchange(text, s.len, s.cursor, r.place, out, &texts[from..to]);
     if number != 0 {
         return Step {
             number,

@@ -1,66 +1,55 @@
 use native.Mathlib.Omega.{arith}
 use mathlib.Core.Path.{_≡_, sym, _∙_}
 use mathlib.Core.Bool.{true}
-use lib.ListN.{length, take}
-use lib.Seq.{length-take-le}
+use lib.ListN.{length}
 use borrow.Author.Tests.{not-true, not-false}
 use denote.Ref.{now}
 use Rattle.utf8.specs.Chars.{valid}
 use Rattle.unicode.specs.Repertoire.{catalogue}
 use Rattle.unicode.proofs.Text.{text-valid}
+use Rattle.buffer.specs.Gap.{gapped}
+use Rattle.buffer.proofs.Gaps.{gapped-length}
 use Rattle.retrace.proofs.Exchanges.{ends-outside, cuts-first, cuts-last, too-long, stopped, exchanged}
 use borrow.Author.Needs.{needs}
 use Rattle.retrace.proofs.exchange.Statement.{statement}
 use Rattle.retrace.proofs.exchange.Tie as tie
 
 -- the text is as long as it is said to be, and is UTF-8
-used : (s : tie.Start) → length (take (s .args .len) (now (s .args .text))) ≡ s .args .len
-used s = length-take-le (s .args .len) (now (s .args .text)) (s .pre .0 .0)
+used : (s : tie.Start) → length (gapped (s .args .len) (s .args .at) (now (s .args .text))) ≡ s .args .len
+used s = gapped-length (s .args .len) (s .args .at) (now (s .args .text)) (s .pre .0 .0) (s .pre .0 .1)
 
-is-valid : (s : tie.Start) → valid (take (s .args .len) (now (s .args .text))) ≡ true
-is-valid s = text-valid catalogue (take (s .args .len) (now (s .args .text))) (s .pre .1)
+is-valid : (s : tie.Start) → valid (gapped (s .args .len) (s .args .at) (now (s .args .text))) ≡ true
+is-valid s = text-valid catalogue (gapped (s .args .len) (s .args .at) (now (s .args .text))) (s .pre .1)
 
 add-end : tie.Need-add-end
 add-end c = search needs
 
 returns : tie.Need-returns
-returns c = let s = c .before .before .before in let a = s .args in
-    stopped (length (now (a .text))) (a .place) (a .out) (now (a .put)) (take (a .len) (now (a .text))) 12 (now (a .text))
-    (ends-outside (length (now (a .text))) (a .place) (a .out) (now (a .put)) (take (a .len) (now (a .text))) (omega (arith, c .if1 .taken, used s)))
+returns c = let s = c .before .before .before in let a = s .args in let t = gapped (a .len) (a .at) (now (a .text)) in
+    stopped (length (now (a .text))) (a .place) (a .out) (now (a .put)) t 12 (now (a .text))
+    (ends-outside (length (now (a .text))) (a .place) (a .out) (now (a .put)) t (omega (arith, c .if1 .taken, used s)))
 
-slice-reshare-prefix-is-boundary : tie.Need-slice-reshare-prefix-is-boundary
-slice-reshare-prefix-is-boundary c = search needs
-
-slice-aggregate-is-boundary : tie.Need-slice-aggregate-is-boundary
-slice-aggregate-is-boundary c = sym (used (c .before .before .before .before))
-
-is-boundary-requires : tie.Need-is-boundary-requires
-is-boundary-requires c κs = search needs
+is-edge-requires : tie.Need-is-edge-requires
+is-edge-requires c κs = search needs
 
 same-length : tie.Need-same-length
 same-length c = search needs
 
 returns-2 : tie.Need-returns-2
-returns-2 c = let s = c .before .before .before .before .before .before in let a = s .args in
-    stopped (length (now (a .text))) (a .place) (a .out) (now (a .put)) (take (a .len) (now (a .text))) 12 (now (a .text))
-    (cuts-first (length (now (a .text))) (a .place) (a .out) (now (a .put)) (take (a .len) (now (a .text))) (sym (c .before .is-boundary .ensures .1 (is-valid s)) ∙ not-true _ (c .if2 .taken)))
+returns-2 c = let s = c .before .before .before .before .before .before in let a = s .args in let t = gapped (a .len) (a .at) (now (a .text)) in
+    stopped (length (now (a .text))) (a .place) (a .out) (now (a .put)) t 12 (now (a .text))
+    (cuts-first (length (now (a .text))) (a .place) (a .out) (now (a .put)) t (sym (c .before .is-edge .ensures .1 (is-valid s)) ∙ not-true _ (c .if2 .taken)))
 
-slice-reshare-prefix-is-boundary-2 : tie.Need-slice-reshare-prefix-is-boundary-2
-slice-reshare-prefix-is-boundary-2 c = search needs
-
-slice-aggregate-is-boundary-2 : tie.Need-slice-aggregate-is-boundary-2
-slice-aggregate-is-boundary-2 c = sym (used (c .before .before .before .before .before .before .before))
-
-is-boundary-requires-2 : tie.Need-is-boundary-requires-2
-is-boundary-requires-2 c κs = search needs
+is-edge-requires-2 : tie.Need-is-edge-requires-2
+is-edge-requires-2 c κs = search needs
 
 same-length-2 : tie.Need-same-length-2
 same-length-2 c = search needs
 
 returns-3 : tie.Need-returns-3
-returns-3 c = let s = c .before .before .before .before .before .before .before .before .before in let a = s .args in
-    stopped (length (now (a .text))) (a .place) (a .out) (now (a .put)) (take (a .len) (now (a .text))) 12 (now (a .text))
-    (cuts-last (length (now (a .text))) (a .place) (a .out) (now (a .put)) (take (a .len) (now (a .text))) (sym (c .before .is-boundary2 .ensures .1 (is-valid s)) ∙ not-true _ (c .if3 .taken)))
+returns-3 c = let s = c .before .before .before .before .before .before .before .before .before in let a = s .args in let t = gapped (a .len) (a .at) (now (a .text)) in
+    stopped (length (now (a .text))) (a .place) (a .out) (now (a .put)) t 12 (now (a .text))
+    (cuts-last (length (now (a .text))) (a .place) (a .out) (now (a .put)) t (sym (c .before .is-edge2 .ensures .1 (is-valid s)) ∙ not-true _ (c .if3 .taken)))
 
 sub-left : tie.Need-sub-left
 sub-left c = search needs
@@ -72,29 +61,29 @@ same-length-3 : tie.Need-same-length-3
 same-length-3 c = search needs
 
 returns-4 : tie.Need-returns-4
-returns-4 c = let s = c .before .before .before .before .before .before .before .before .before .before in let a = s .args in let h = c .before .before .before .before .before .before .before .if1 .left in
-    stopped (length (now (a .text))) (a .place) (a .out) (now (a .put)) (take (a .len) (now (a .text))) 9 (now (a .text))
-    (too-long (length (now (a .text))) (a .place) (a .out) (now (a .put)) (take (a .len) (now (a .text))) (omega (arith, h, used s)) (sym (c .before .before .before .before .before .is-boundary .ensures .1 (is-valid s)) ∙ not-false _ (c .before .before .before .before .if2 .left)) (sym (c .before .before .is-boundary2 .ensures .1 (is-valid s)) ∙ not-false _ (c .before .if3 .left)) (omega (arith, h, used s, c .if4 .taken)))
+returns-4 c = let s = c .before .before .before .before .before .before .before .before .before .before in let a = s .args in let t = gapped (a .len) (a .at) (now (a .text)) in let h = c .before .before .before .before .before .before .before .if1 .left in
+    stopped (length (now (a .text))) (a .place) (a .out) (now (a .put)) t 9 (now (a .text))
+    (too-long (length (now (a .text))) (a .place) (a .out) (now (a .put)) t (omega (arith, h, used s)) (sym (c .before .before .before .before .before .is-edge .ensures .1 (is-valid s)) ∙ not-false _ (c .before .before .before .before .if2 .left)) (sym (c .before .before .is-edge2 .ensures .1 (is-valid s)) ∙ not-false _ (c .before .if3 .left)) (omega (arith, h, used s, c .if4 .taken)))
 
-cut-bytes-requires : tie.Need-cut-bytes-requires
-cut-bytes-requires c κs = search needs
+move-gap-requires : tie.Need-move-gap-requires
+move-gap-requires c κs = search needs
 
-insert-bytes-requires : tie.Need-insert-bytes-requires
-insert-bytes-requires c κs = search needs
+write-at-requires : tie.Need-write-at-requires
+write-at-requires c κs = search needs
 
 same-length-4 : tie.Need-same-length-4
 same-length-4 c = search needs
 
 returns-5 : tie.Need-returns-5
-returns-5 c = let s = c .before .before .before .before .before .before .before .before .before .before .before .before .before .before .before .before .before .before in let a = s .args in let h = c .before .before .before .before .before .before .before .before .before .before .before .before .before .before .before .if1 .left in
-    exchanged (length (now (a .text))) (a .place) (a .out) (now (a .put)) (take (a .len) (now (a .text))) (a .len) (now (a .text)) (c .before .before .before .before .before .before .cut-bytes .last .0) _ (used s)
+returns-5 c = let s = c .before .before .before .before .before .before .before .before .before .before .before .before .before .before .before .before .before .before in let a = s .args in let t = gapped (a .len) (a .at) (now (a .text)) in let h = c .before .before .before .before .before .before .before .before .before .before .before .before .before .before .before .if1 .left in let m = c .before .before .before .before .before .before .move-gap in
+    exchanged (length (now (a .text))) (a .place) (a .out) (now (a .put)) t (a .len) (now (a .text)) (m .last .0) _ (used s)
     (record {
       ends = omega (arith, h, used s);
-      first = sym (c .before .before .before .before .before .before .before .before .before .before .before .before .before .is-boundary .ensures .1 (is-valid s)) ∙ not-false _ (c .before .before .before .before .before .before .before .before .before .before .before .before .if2 .left);
-      last = sym (c .before .before .before .before .before .before .before .before .before .before .is-boundary2 .ensures .1 (is-valid s)) ∙ not-false _ (c .before .before .before .before .before .before .before .before .before .if3 .left);
-      room = omega (arith, h, used s, c .before .before .before .before .before .before .before .before .if4 .left, s .pre .0 .0);
+      first = sym (c .before .before .before .before .before .before .before .before .before .before .before .before .before .is-edge .ensures .1 (is-valid s)) ∙ not-false _ (c .before .before .before .before .before .before .before .before .before .before .before .before .if2 .left);
+      last = sym (c .before .before .before .before .before .before .before .before .before .before .is-edge2 .ensures .1 (is-valid s)) ∙ not-false _ (c .before .before .before .before .before .before .before .before .before .if3 .left);
+      room = omega (arith, h, used s, c .before .before .before .before .before .before .before .before .if4 .left, s .pre .0 .1);
     })
-    (c .before .before .before .before .before .before .cut-bytes .ensures) (c .before .before .insert-bytes .ensures)
+    (omega (arith, m .kept .0, s .pre .0 .1)) (m .kept .0) (m .ensures) (c .before .before .write-at .ensures)
 
 pub exchange-spec : {M : Type 1} → statement M
 exchange-spec =
@@ -102,21 +91,17 @@ exchange-spec =
     (tie.spec
     add-end
     returns
-    slice-reshare-prefix-is-boundary
-    slice-aggregate-is-boundary
-    is-boundary-requires
+    is-edge-requires
     same-length
     returns-2
-    slice-reshare-prefix-is-boundary-2
-    slice-aggregate-is-boundary-2
-    is-boundary-requires-2
+    is-edge-requires-2
     same-length-2
     returns-3
     sub-left
     sub-if4
     same-length-3
     returns-4
-    cut-bytes-requires
-    insert-bytes-requires
+    move-gap-requires
+    write-at-requires
     same-length-4
     returns-5)

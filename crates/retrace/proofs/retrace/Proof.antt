@@ -4,7 +4,8 @@ use mathlib.Core.Bool.{Bool}
 use mathlib.Core.Logic.{⊎-elim}
 use lib.ListN.{length}
 use denote.Ref.{now}
-use Rattle.retrace.proofs.Faces.{Faces, Within, within, unmoved, stops-at, out-within, left-within, moves}
+use Rattle.buffer.proofs.Gaps.{shut-length}
+use Rattle.retrace.proofs.Faces.{Faces, Within, within, text-around, unmoved, stops-at, out-within, left-within, moves}
 use borrow.Author.Needs.{needs}
 use Rattle.retrace.proofs.retrace.Statement.{statement}
 use Rattle.retrace.proofs.retrace.Tie as tie
@@ -20,11 +21,11 @@ faces c =
 -- it lies in the texts
 inside : (c : tie.Joined2) → Within (c .if2 .out) (c .if2 .from) (c .if2 .to) (length (now (c .before .before .before .before .before .before .before .args .texts)))
 inside c =
-    within (c .before .before .before .before .before .before .before .args .back) (c .before .before .before .before .before .before .before .args .r) (c .before .before .before .before .before .before .before .args .t) (c .if2 .out) (c .if2 .from) (c .if2 .to) (length (now (c .before .before .before .before .before .before .before .args .texts))) (faces c) (c .before .before .before .before .before .before .before .pre .0 .3)
+    within (c .before .before .before .before .before .before .before .args .back) (c .before .before .before .before .before .before .before .args .r) (c .before .before .before .before .before .before .before .args .t) (c .if2 .out) (c .if2 .from) (c .if2 .to) (length (now (c .before .before .before .before .before .before .before .args .texts))) (faces c) (c .before .before .before .before .before .before .before .pre .0 .4)
 
 returns : tie.Need-returns
 returns c = let s = c .before .before .before .before in let a = s .args in
-    λ x h. unmoved (a .r) (now (a .texts)) (a .t) (a .s) (now (a .text)) (s .pre .0 .0) (s .pre .0 .1) (a .back) x h (c .if1 .taken)
+    λ x h. unmoved (a .r) (now (a .texts)) (a .t) (a .s) (now (a .text)) (s .pre .0 .0) (s .pre .0 .1) (s .pre .0 .2) (a .back) x h (c .if1 .taken)
 
 add-mid : tie.Need-add-mid
 add-mid c = search needs
@@ -45,32 +46,34 @@ part-exchange-end : tie.Need-part-exchange-end
 part-exchange-end c = inside (c .before .before .before) .last
 
 exchange-requires : tie.Need-exchange-requires
-exchange-requires c κs = let s = c .before .before .before .before .before .before .before .before .before .before .before in let p = s .pre .0 in ((p .1, p .2, omega (arith, inside (c .before .before .before .before) .taken, p .4)), s .pre .1)
+exchange-requires c κs = let s = c .before .before .before .before .before .before .before .before .before .before .before in let p = s .pre .0 in let a = s .args in
+    let e = shut-length (a .s .len) (a .s .cursor) (now (a .text)) in
+    ((p .1, omega (arith, e, p .2), p .3, omega (arith, inside (c .before .before .before .before) .taken, p .5)), text-around (a .r) (now (a .texts)) (a .t) (a .s) (now (a .text)) (p .0) (p .1) (p .2) (s .pre .1))
 
 same-length : tie.Need-same-length
 same-length c = search needs
 
 returns-2 : tie.Need-returns-2
 returns-2 c = let s = c .before .before .before .before .before .before .before .before .before .before .before .before .before .before .before in let a = s .args in let j = c .before .before .before .before .before .before .before .before in
-    λ x h. stops-at (a .r) (now (a .texts)) (a .t) (a .s) (now (a .text)) (s .pre .0 .0) (s .pre .0 .1) (j .if2 .out) (j .if2 .from) (j .if2 .to) (c .before .before .before .exchange .result) _ (inside j) (c .before .before .before .exchange .ensures) (a .back) x h (c .before .before .before .before .before .before .before .before .before .before .before .if1 .left) (faces j) (c .if3 .taken)
+    λ x h. stops-at (a .r) (now (a .texts)) (a .t) (a .s) (now (a .text)) (s .pre .0 .0) (s .pre .0 .1) (s .pre .0 .2) (j .if2 .out) (j .if2 .from) (j .if2 .to) (c .before .before .before .exchange .result) _ (inside j) (c .before .before .before .exchange .kept .0) (c .before .before .before .exchange .ensures) (a .back) x h (c .before .before .before .before .before .before .before .before .before .before .before .if1 .left) (faces j) (c .if3 .taken)
 
 sub-t17 : tie.Need-sub-t17
 sub-t17 c = let s = c .before .before .before .before .before .before .before .before .before .before .before .before .before .before .before .before .before in let a = s .args in let j = c .before .before .before .before .before .before .before .before .before .before in
-    out-within (a .r) (now (a .texts)) (a .t) (a .s) (now (a .text)) (s .pre .0 .0) (s .pre .0 .1) (j .if2 .out) (j .if2 .from) (j .if2 .to) (c .before .before .before .before .before .exchange .result) _ (inside j) (c .before .before .before .before .before .exchange .ensures) (c .before .before .if3 .left)
+    out-within (a .r) (now (a .texts)) (a .t) (a .s) (now (a .text)) (s .pre .0 .0) (s .pre .0 .1) (s .pre .0 .2) (j .if2 .out) (j .if2 .from) (j .if2 .to) (c .before .before .before .before .before .exchange .result) _ (inside j) (c .before .before .before .before .before .exchange .kept .0) (c .before .before .before .before .before .exchange .ensures) (c .before .before .if3 .left)
 
 add-t20 : tie.Need-add-t20
 add-t20 c = let s = c .before .before .before .before .before .before .before .before .before .before .before .before .before .before .before .before .before in let a = s .args in let j = c .before .before .before .before .before .before .before .before .before .before in
-    let l = left-within (a .r) (now (a .texts)) (a .t) (a .s) (now (a .text)) (s .pre .0 .0) (s .pre .0 .1) (j .if2 .out) (j .if2 .from) (j .if2 .to) (c .before .before .before .before .before .exchange .result) _ (inside j) (c .before .before .before .before .before .exchange .ensures) (c .before .before .if3 .left) in omega (arith, l)
+    let l = left-within (a .r) (now (a .texts)) (a .t) (a .s) (now (a .text)) (s .pre .0 .0) (s .pre .0 .1) (s .pre .0 .2) (j .if2 .out) (j .if2 .from) (j .if2 .to) (c .before .before .before .before .before .exchange .result) _ (inside j) (c .before .before .before .before .before .exchange .kept .0) (c .before .before .before .before .before .exchange .ensures) (c .before .before .if3 .left) in omega (arith, l)
 
 add-t21 : tie.Need-add-t21
-add-t21 c = let s = c .before .before .before .before .before .before .before .before .before .before .before .before .before .before .before .before .before .before in omega (arith, inside (c .before .before .before .before .before .before .before .before .before .before .before) .last, s .pre .0 .2, s .pre .0 .4)
+add-t21 c = let s = c .before .before .before .before .before .before .before .before .before .before .before .before .before .before .before .before .before .before in omega (arith, inside (c .before .before .before .before .before .before .before .before .before .before .before) .last, s .pre .0 .3, s .pre .0 .5)
 
 same-length-2 : tie.Need-same-length-2
 same-length-2 c = search needs
 
 returns-3 : tie.Need-returns-3
 returns-3 c = let s = c .before .before .before .before .before .before .before .before .before .before .before .before .before .before .before .before .before .before in let a = s .args in let j = c .before .before .before .before .before .before .before .before .before .before .before in
-    λ x h. moves (a .r) (now (a .texts)) (a .t) (a .s) (now (a .text)) (s .pre .0 .0) (s .pre .0 .1) (j .if2 .out) (j .if2 .from) (j .if2 .to) (c .before .before .before .before .before .before .exchange .result) _ (inside j) (c .before .before .before .before .before .before .exchange .ensures) (c .before .before .before .if3 .left) (a .back) x h (c .before .before .before .before .before .before .before .before .before .before .before .before .before .before .if1 .left) (faces j)
+    λ x h. moves (a .r) (now (a .texts)) (a .t) (a .s) (now (a .text)) (s .pre .0 .0) (s .pre .0 .1) (s .pre .0 .2) (j .if2 .out) (j .if2 .from) (j .if2 .to) (c .before .before .before .before .before .before .exchange .result) _ (inside j) (c .before .before .before .before .before .before .exchange .kept .0) (c .before .before .before .before .before .before .exchange .ensures) (c .before .before .before .if3 .left) (a .back) x h (c .before .before .before .before .before .before .before .before .before .before .before .before .before .before .if1 .left) (faces j)
 
 pub retrace-spec : {M : Type 1} → statement M
 retrace-spec =
