@@ -16,14 +16,14 @@ use Rattle.journal.proofs.Holds.{cleared}
 use Rattle.changeset.specs.declared.Log.{Log}
 use Rattle.changeset.proofs.Answers.{state, held-state, held-bytes}
 use Rattle.edit.specs.Plan.{State, Outcome, answered}
-use Rattle.edit.specs.Calls.{Lent, stateOf, says, Edited, Ready}
+use Rattle.edit.specs.Calls.{Lent, lent, stateOf, says, Edited, Ready}
 use Rattle.edit.specs.declared.EditAnswer.{EditAnswer}
 use Rattle.edit.proofs.Answers.{length-kept, state-kept}
 use Rattle.retrace.specs.declared.Step.{Step}
 use Rattle.retrace.specs.Retrace.{Trail, done, stops, undoing}
 use Rattle.undo.specs.declared.Passed.{Passed}
 use Rattle.undo.specs.Undo.{Walked, opens, beginsDown, walkTo, numberOf, cancelOut, trailOf}
-use Rattle.undo.specs.Steps.{trailBy, lineOf, lentBy, PassesOne, openBegins}
+use Rattle.undo.specs.Steps.{trailBy, lineOf, PassesOne, openBegins}
 use Rattle.undo.proofs.Seams.{held}
 use Rattle.undo.proofs.Walks.{walked, Come, come-first, outOf, answerBy, edited, ended, stopped-there, stop-ended, goes, come-next, from-there, to-there, trail-there, tried-there}
 
@@ -112,10 +112,10 @@ to-next C m (suc n) x u r s p e f = rw (e, ne-eqb (length u) m (λ z. omega arit
 -- what is left of the walk is what the whole comes to
 pub record Cancelling (F : Format) (l₀ : Lent) (m : ℕ) (t : List ℕ) (s : Step) (g : Log) (n : ℕ) : Type 0 where
   pub come : Come F l₀ t s g
-  pub count : length (stateOf catalogue F (lentBy t (l₀ .records) (l₀ .texts) s g) .log .undo) ≡ m + n
+  pub count : length (stateOf catalogue F (lent t (l₀ .records) (l₀ .texts) (lineOf s) g) .log .undo) ≡ m + n
   pub same :
-      downTo (length (l₀ .text)) m n (stateOf catalogue F (lentBy t (l₀ .records) (l₀ .texts) s g) .log .undo) (stateOf catalogue F (lentBy t (l₀ .records) (l₀ .texts) s g) .log .redo)
-      (trailBy (stateOf catalogue F (lentBy t (l₀ .records) (l₀ .texts) s g)) (s .undone))
+      downTo (length (l₀ .text)) m n (stateOf catalogue F (lent t (l₀ .records) (l₀ .texts) (lineOf s) g) .log .undo) (stateOf catalogue F (lent t (l₀ .records) (l₀ .texts) (lineOf s) g) .log .redo)
+      (trailBy (stateOf catalogue F (lent t (l₀ .records) (l₀ .texts) (lineOf s) g)) (s .undone))
       ≡ walkTo (length (l₀ .text)) m (stateOf catalogue F l₀ .log .undo) (stateOf catalogue F l₀ .log .redo) (trailOf (stateOf catalogue F l₀))
 
 module _ {F : Format} {l₀ : Lent} (h : Ready F l₀) (m : ℕ) (o : opens m (stateOf catalogue F l₀ .log .undo) ≡ true) where
@@ -139,7 +139,7 @@ module _ {F : Format} {l₀ : Lent} {m : ℕ} {t : List ℕ} {s : Step} {g : Log
   start = stateOf catalogue F l₀
 
   abbrev now : State
-  now = stateOf catalogue F (lentBy t (l₀ .records) (l₀ .texts) s g)
+  now = stateOf catalogue F (lent t (l₀ .records) (l₀ .texts) (lineOf s) g)
 
   -- a record is left to undo
   pub cancel-more : 0 < n → (x : Change) × (f : List Change) × (now .log .undo ≡ x ∷ f)
@@ -149,17 +149,19 @@ module _ {F : Format} {l₀ : Lent} {m : ℕ} {t : List ℕ} {s : Step} {g : Log
       go [] e = absurd (omega (arith, k .count, ap length e))
       go (x ∷ f) e = (x, f, e)
 
-  module _ (o : opens m (start .log .undo) ≡ true) (h : 0 < n) {x : Change} {f : List Change} (e : now .log .undo ≡ x ∷ f) (p : Passed) (t′ : List ℕ) (q : PassesOne F (lentBy t (l₀ .records) (l₀ .texts) s g) true (s .undone) p t′) where
+  module _ (o : opens m (start .log .undo) ≡ true) (h : 0 < n) {x : Change} {f : List Change} (e : now .log .undo ≡ x ∷ f) (p : Passed) (t′ : List ℕ) (q : PassesOne F (lent t (l₀ .records) (l₀ .texts) (lineOf s) g) true (s .undone) p t′) where
     at-record : walkTo (length (l₀ .text)) m (start .log .undo) (start .log .redo) (trailOf start) ≡ downTo (length (l₀ .text)) m n (x ∷ f) (now .log .redo) (trailBy now (s .undone))
     at-record = sym (k .same) ∙ ap (λ (a : List Change). downTo (length (l₀ .text)) m n a (now .log .redo) (trailBy now (s .undone))) e
 
     -- a record stops it
     pub cancel-stop : (p .step .number ≡ 0 → ⊥) → {r : EditAnswer} → r ≡ answerBy (numberOf (p .step .number) (p .step .undone)) (lineOf (p .step)) (p .log)
-        → Edited F l₀ (cancelOut (length (l₀ .text)) m start) r t′ (l₀ .records) (l₀ .texts)
+        → Edited F l₀ (cancelOut (length (l₀ .text)) m start) r t′ (l₀ .records) (l₀ .texts) × (r .line .cursor ≤ r .line .len)
     cancel-stop z {r} y =
         let a = at-record ∙ to-stop (length (l₀ .text)) m n x f (now .log .redo) (trailBy now (s .undone)) (p .step .number) h (stopped-there true (k .come) e p t′ q z) in
-        subst (λ (c : Outcome). Edited F l₀ c r t′ (l₀ .records) (l₀ .texts)) (sym (cancel-stopped (length (l₀ .text)) m start o (λ b. z (sym (ap (λ (w : Walked). w .stopped) a) ∙ b))))
-        (edited (stop-ended true (k .come) e p t′ q z a y))
+        let i = stop-ended true (k .come) e p t′ q z a y in (
+          subst (λ (c : Outcome). Edited F l₀ c r t′ (l₀ .records) (l₀ .texts)) (sym (cancel-stopped (length (l₀ .text)) m start o (λ b. z (sym (ap (λ (w : Walked). w .stopped) a) ∙ b)))) (edited i),
+          i .ready .within,
+        )
 
     -- one less is left
     pub cancelling-next : (i : length t′ ≡ length t) (z : p .step .number ≡ 0) → Cancelling F l₀ m t′ (p .step) (p .log) (n - 1)
@@ -170,7 +172,7 @@ module _ {F : Format} {l₀ : Lent} {m : ℕ} {t : List ℕ} {s : Step} {g : Log
           come = come-next true (k .come) e p t′ q i z;
           count = ap length (from-there true (k .come) e p t′ q i z) ∙ b;
           same =
-              ap₂ (λ (a c : List Change). downTo (length (l₀ .text)) m (n - 1) a c (trailBy (stateOf catalogue F (lentBy t′ (l₀ .records) (l₀ .texts) (p .step) (p .log))) (p .step .undone))) (from-there true (k .come) e p t′ q i z) (to-there true (k .come) e p t′ q i z)
+              ap₂ (λ (a c : List Change). downTo (length (l₀ .text)) m (n - 1) a c (trailBy (stateOf catalogue F (lent t′ (l₀ .records) (l₀ .texts) (lineOf (p .step)) (p .log))) (p .step .undone))) (from-there true (k .come) e p t′ q i z) (to-there true (k .come) e p t′ q i z)
               ∙ ap (downTo (length (l₀ .text)) m (n - 1) f (turn x ∷ now .log .redo)) (trail-there true (k .come) e p t′ q i z)
               ∙ sym
               (at-record ∙ ap (λ (a : ℕ). downTo (length (l₀ .text)) m a (x ∷ f) (now .log .redo) (trailBy now (s .undone))) j
@@ -201,7 +203,7 @@ module _ {F : Format} {l₀ : Lent} {m : ℕ} {t : List ℕ} {s : Step} {g : Log
       none = omega arith
 
       l : Lent
-      l = lentBy t (l₀ .records) (l₀ .texts) s g
+      l = lent t (l₀ .records) (l₀ .texts) (lineOf s) g
 
       level : ℕ
       level = l₀ .log .level - beginsDown m (start .log .undo)

@@ -7,6 +7,7 @@ pub mod Steps
 pub mod Walks
 pub mod Units
 pub mod Redos
+pub mod Gaps
 pub mod Opens
 pub mod Cancels
 pub mod Examples

@@ -21,14 +21,14 @@ use Rattle.changeset.specs.declared.Log.{Log}
 use Rattle.changeset.specs.Calls as log
 use Rattle.changeset.proofs.Recorded.{good}
 use Rattle.edit.specs.Plan.{splice}
-use Rattle.edit.specs.Calls.{Lent, logLent, stateOf, Stored, Ready}
+use Rattle.edit.specs.Calls.{Lent, lent, logLent, stateOf, Stored, Ready}
 use Rattle.edit.proofs.Answers.{cursor-in}
 use Rattle.edit.proofs.Held.{state-held, state-ready}
 use Rattle.edit.proofs.Pieces.{splice-text, splice-end}
 use Rattle.retrace.specs.declared.Step.{Step}
 use Rattle.retrace.specs.Retrace.{Trail, Tried, done, stops, misfit, exchanging, undoing}
 use Rattle.retrace.specs.Records.{stepTo, Retraced}
-use Rattle.undo.specs.Steps.{trailBy, lineOf, lentBy, stateAt, fromOf, passLog, Leaves}
+use Rattle.undo.specs.Steps.{trailBy, lineOf, stateAt, fromOf, passLog, Leaves}
 use Rattle.undo.proofs.Seams.{held}
 
 -- ---- a stop has a number over 1
@@ -132,8 +132,8 @@ pub record Went (F : Format) (l : Lent) (b : Bool) (x : Change) (w : groups.Log)
   pub trail : Trail
   pub tried : undoing (length (l .text)) x (trailBy (stateOf catalogue F l) b) ≡ done trail
   pub step : q ≡ stepTo trail
-  pub ready : Ready F (lentBy t (l .records) (l .texts) q g)
-  pub state : stateOf catalogue F (lentBy t (l .records) (l .texts) q g) ≡ stateAt trail w
+  pub ready : Ready F (lent t (l .records) (l .texts) (lineOf q) g)
+  pub state : stateOf catalogue F (lent t (l .records) (l .texts) (lineOf q) g) ≡ stateAt trail w
 
 -- it was stopped: all is as it was
 pub record Stopped (F : Format) (l : Lent) (b : Bool) (x : Change) (q : Step) (g : Log) (t : List ℕ) : Type 0 where
@@ -158,8 +158,8 @@ module _ (F : Format) (l : Lent) (b : Bool) (x : Change) (w : groups.Log) (q : S
             trail = p;
             tried = i;
             step = r .0;
-            ready = subst (λ (a : Step). Ready F (lentBy t (l .records) (l .texts) a g)) (sym (r .0)) (subst (λ (a : Log). Ready F (lentBy t (l .records) (l .texts) (stepTo p) a)) (sym (r .1)) c);
-            state = ap₂ (λ (i : Step) (j : Log). stateOf catalogue F (lentBy t (l .records) (l .texts) i j)) (r .0) (r .1) ∙ d;
+            ready = subst (λ (a : Step). Ready F (lent t (l .records) (l .texts) (lineOf a) g)) (sym (r .0)) (subst (λ (a : Log). Ready F (lent t (l .records) (l .texts) (lineOf (stepTo p)) a)) (sym (r .1)) c);
+            state = ap₂ (λ (i : Step) (j : Log). stateOf catalogue F (lent t (l .records) (l .texts) (lineOf i) j)) (r .0) (r .1) ∙ d;
           }
       go (stops k) i m f r = absurd (omega (arith, m, r .0))
 

@@ -10,13 +10,13 @@ use Rattle.journal.specs.Change.{Change, turn}
 use Rattle.journal.specs.Layout.{Format}
 use Rattle.changeset.specs.declared.Log.{Log}
 use Rattle.edit.specs.Plan.{State}
-use Rattle.edit.specs.Calls.{Lent, stateOf, Ready}
+use Rattle.edit.specs.Calls.{Lent, lent, stateOf, Ready}
 use Rattle.edit.specs.declared.EditAnswer.{EditAnswer}
 use Rattle.retrace.specs.declared.Step.{Step}
 use Rattle.retrace.specs.Retrace.{Trail, done, undoing}
 use Rattle.undo.specs.declared.Passed.{Passed}
 use Rattle.undo.specs.Undo.{Waiting, owed, passing, Walked, walk, numberOf}
-use Rattle.undo.specs.Steps.{trailBy, lineOf, lentBy, fromOf, toOf, PassesOne}
+use Rattle.undo.specs.Steps.{trailBy, lineOf, fromOf, toOf, PassesOne}
 use Rattle.undo.proofs.Seams.{usedOf}
 use Rattle.undo.proofs.Counts.{Waits, settles, unsettled}
 use Rattle.undo.proofs.Walks.{walked, walk-end, walk-stop, walk-on, walk-last, walk-next, Come, come-first, answerBy, Ends, ended, stopped-there, stop-ended, goes, come-next, falls, from-there, to-there, trail-there, tried-there}
@@ -28,8 +28,8 @@ pub record Walking (F : Format) (l₀ : Lent) (back : Bool) (W : Walked) (t : Li
   pub waits : Waits waiting ends begins
   pub few : ends + begins + usedOf back g ≤ 32768
   pub same :
-      walk (length (l₀ .text)) n waiting (fromOf back (stateOf catalogue F (lentBy t (l₀ .records) (l₀ .texts) s g) .log)) (toOf back (stateOf catalogue F (lentBy t (l₀ .records) (l₀ .texts) s g) .log))
-      (trailBy (stateOf catalogue F (lentBy t (l₀ .records) (l₀ .texts) s g)) (s .undone))
+      walk (length (l₀ .text)) n waiting (fromOf back (stateOf catalogue F (lent t (l₀ .records) (l₀ .texts) (lineOf s) g) .log)) (toOf back (stateOf catalogue F (lent t (l₀ .records) (l₀ .texts) (lineOf s) g) .log))
+      (trailBy (stateOf catalogue F (lent t (l₀ .records) (l₀ .texts) (lineOf s) g)) (s .undone))
       ≡ W
 
 -- the list that is walked over is no longer than its buffer
@@ -45,7 +45,7 @@ walking-first back n h = record { waiting = owed 0; come = come-first h; waits =
 
 module _ {F : Format} {l₀ : Lent} {back : Bool} {W : Walked} {t : List ℕ} {s : Step} {g : Log} {n ends begins : ℕ} (k : Walking F l₀ back W t s g n ends begins) where
   abbrev now : State
-  now = stateOf catalogue F (lentBy t (l₀ .records) (l₀ .texts) s g)
+  now = stateOf catalogue F (lent t (l₀ .records) (l₀ .texts) (lineOf s) g)
 
   -- no record is left
   pub walked-all : fromOf back (now .log) ≡ [] → {r : EditAnswer} → r ≡ answerBy (numberOf (s .number) (s .undone)) (lineOf s) g → Ends F l₀ back W r t
@@ -55,7 +55,7 @@ module _ {F : Format} {l₀ : Lent} {back : Bool} {W : Walked} {t : List ℕ} {s
       ∙ ap (λ (f : List Change). walked f (toOf back (now .log)) (trailBy now (s .undone)) 0) (sym e))
       (q ∙ ap (λ (i : ℕ). answerBy (numberOf i (s .undone)) (lineOf s) g) (k .come .number))
 
-  module _ {x : Change} {f : List Change} (e : fromOf back (now .log) ≡ x ∷ f) (p : Passed) (t′ : List ℕ) (o : PassesOne F (lentBy t (l₀ .records) (l₀ .texts) s g) back (s .undone) p t′) where
+  module _ {x : Change} {f : List Change} (e : fromOf back (now .log) ≡ x ∷ f) (p : Passed) (t′ : List ℕ) (o : PassesOne F (lent t (l₀ .records) (l₀ .texts) (lineOf s) g) back (s .undone) p t′) where
     -- the walk is at that record
     at-record : W ≡ walk (length (l₀ .text)) n (k .waiting) (x ∷ f) (toOf back (now .log)) (trailBy now (s .undone))
     at-record = sym (k .same) ∙ ap (λ (a : List Change). walk (length (l₀ .text)) n (k .waiting) a (toOf back (now .log)) (trailBy now (s .undone))) e
@@ -70,7 +70,7 @@ module _ {F : Format} {l₀ : Lent} {back : Bool} {W : Walked} {t : List ℕ} {s
 
     module _ (i : length t′ ≡ length t) (z : p .step .number ≡ 0) where
       abbrev next : State
-      next = stateOf catalogue F (lentBy t′ (l₀ .records) (l₀ .texts) (p .step) (p .log))
+      next = stateOf catalogue F (lent t′ (l₀ .records) (l₀ .texts) (lineOf (p .step)) (p .log))
 
       abbrev passed : Waiting
       passed = passing x (k .waiting)

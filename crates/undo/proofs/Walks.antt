@@ -24,7 +24,7 @@ use Rattle.retrace.specs.Retrace.{Trail, done, stops, undoing}
 use Rattle.retrace.specs.Records.{SizesOf}
 use Rattle.undo.specs.declared.Passed.{Passed}
 use Rattle.undo.specs.Undo.{Waiting, passing, settled, Walked, walk, numberOf}
-use Rattle.undo.specs.Steps.{trailBy, lineOf, lentBy, stateAt, fromOf, toOf, logBy, passLog, PassesOne}
+use Rattle.undo.specs.Steps.{trailBy, lineOf, stateAt, fromOf, toOf, logBy, passLog, PassesOne}
 use Rattle.undo.proofs.Seams.{sizes-left, usedOf, used-falls}
 use Rattle.undo.proofs.Passes.{Went, Stopped, fine, went, stopped}
 
@@ -98,7 +98,7 @@ lists-of false v = refl
 
 -- ---- where a walk that was lent l₀ has come to
 pub record Come (F : Format) (l₀ : Lent) (t : List ℕ) (s : Step) (g : Log) : Type 0 where
-  pub ready : Ready F (lentBy t (l₀ .records) (l₀ .texts) s g)
+  pub ready : Ready F (lent t (l₀ .records) (l₀ .texts) (lineOf s) g)
   pub number : s .number ≡ 0
   pub text : length t ≡ length (l₀ .text)
   pub level : g .level ≡ l₀ .log .level
@@ -139,7 +139,7 @@ edited {F} {l₀} {back} {W} {r} {t} e = subst (λ (o : Outcome). Edited F l₀ 
 
 module _ (back : Bool) {F : Format} {l₀ : Lent} {t : List ℕ} {s : Step} {g : Log} (c : Come F l₀ t s g) where
   abbrev l : Lent
-  l = lentBy t (l₀ .records) (l₀ .texts) s g
+  l = lent t (l₀ .records) (l₀ .texts) (lineOf s) g
 
   abbrev st : State
   st = stateOf catalogue F l
@@ -185,7 +185,7 @@ module _ (back : Bool) {F : Format} {l₀ : Lent} {t : List ℕ} {s : Step} {g :
 
       -- its log
       pub goes-log : q .log ≡ log.logOf F w
-      goes-log = log-kept F (lentBy t′ (l₀ .records) (l₀ .texts) (q .step) (q .log)) (goes .ready) ∙ ap (λ (a : State). log.logOf F (a .log)) (goes .state)
+      goes-log = log-kept F (lent t′ (l₀ .records) (l₀ .texts) (lineOf (q .step)) (q .log)) (goes .ready) ∙ ap (λ (a : State). log.logOf F (a .log)) (goes .state)
 
       -- the walk has come behind it
       pub come-next : Come F l₀ t′ (q .step) (q .log)
@@ -203,7 +203,7 @@ module _ (back : Bool) {F : Format} {l₀ : Lent} {t : List ℕ} {s : Step} {g :
 
       -- the lists and the trail there
       abbrev there : State
-      there = stateOf catalogue F (lentBy t′ (l₀ .records) (l₀ .texts) (q .step) (q .log))
+      there = stateOf catalogue F (lent t′ (l₀ .records) (l₀ .texts) (lineOf (q .step)) (q .log))
 
       pub from-there : fromOf back (there .log) ≡ f
       from-there = ap (λ (a : State). fromOf back (a .log)) (goes .state) ∙ from-by back f (turn x ∷ toOf back (st .log)) (g .level)
@@ -219,7 +219,7 @@ module _ (back : Bool) {F : Format} {l₀ : Lent} {t : List ℕ} {s : Step} {g :
       tried-there = ap (λ (n : ℕ). undoing n x (trailBy st (s .undone))) (sym (c .text)) ∙ goes .tried
 
 -- the sizes that are noted of the undo list are those of what is left of it
-pub sizes-next : {F : Format} {l₀ : Lent} {t : List ℕ} {s : Step} {g : Log} (c : Come F l₀ t s g) {x : Change} {f : List Change} (e : stateOf catalogue F (lentBy t (l₀ .records) (l₀ .texts) s g) .log .undo ≡ x ∷ f) (q : Passed) (t′ : List ℕ) (p : PassesOne F (lentBy t (l₀ .records) (l₀ .texts) s g) true (s .undone) q t′) (i : length t′ ≡ length t) (z : q .step .number ≡ 0) (sizes : List ℕ)
-    → SizesOf F sizes (stateOf catalogue F (lentBy t (l₀ .records) (l₀ .texts) s g) .log .undo) → SizesOf F sizes (stateOf catalogue F (lentBy t′ (l₀ .records) (l₀ .texts) (q .step) (q .log)) .log .undo)
+pub sizes-next : {F : Format} {l₀ : Lent} {t : List ℕ} {s : Step} {g : Log} (c : Come F l₀ t s g) {x : Change} {f : List Change} (e : stateOf catalogue F (lent t (l₀ .records) (l₀ .texts) (lineOf s) g) .log .undo ≡ x ∷ f) (q : Passed) (t′ : List ℕ) (p : PassesOne F (lent t (l₀ .records) (l₀ .texts) (lineOf s) g) true (s .undone) q t′) (i : length t′ ≡ length t) (z : q .step .number ≡ 0) (sizes : List ℕ)
+    → SizesOf F sizes (stateOf catalogue F (lent t (l₀ .records) (l₀ .texts) (lineOf s) g) .log .undo) → SizesOf F sizes (stateOf catalogue F (lent t′ (l₀ .records) (l₀ .texts) (lineOf (q .step)) (q .log)) .log .undo)
 sizes-next {F} c e q t′ p i z sizes y =
     subst (SizesOf F sizes) (sym (from-there true c e q t′ p i z)) (sizes-left (c .ready) e sizes y)

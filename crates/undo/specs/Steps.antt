@@ -4,6 +4,7 @@ use mathlib.Core.Path.{_≡_}
 use mathlib.Core.Bool.{Bool, true, false, cond}
 use mathlib.Core.List.{List, _∷_, reverse}
 use Rattle.unicode.specs.Repertoire.{catalogue}
+use Rattle.buffer.specs.Gap.{shut}
 use Rattle.checks.specs.declared.Line.{Line}
 use Rattle.journal.specs.Change.{Change, turn}
 use Rattle.journal.specs.Layout.{Format, Layout}
@@ -28,9 +29,13 @@ trailBy s b = record { text = s .text; cursor = s .cursor; undone = b }
 abbrev pub lineOf : Step → Line
 lineOf s = record { len = s .len; cursor = s .cursor }
 
+-- what is lent where the text has a gap at the cursor
+abbrev pub lentGap : List ℕ → List ℕ → List ℕ → Line → Log → Lent
+lentGap t rb tb a g = lent (shut (a .len) (a .cursor) t) rb tb a g
+
 -- what is lent where a walk has come to s
 abbrev pub lentBy : List ℕ → List ℕ → List ℕ → Step → Log → Lent
-lentBy t rb tb s g = lent t rb tb (lineOf s) g
+lentBy t rb tb s g = lentGap t rb tb (lineOf s) g
 
 -- a text, a cursor and a log
 abbrev pub stateAt : Trail → groups.Log → State

@@ -1,6 +1,7 @@
 // Undo, redo and cancel: undo.rs, undo and redo of Changeset, and document 01 for cancel and for the stops 12 and 9. Any text,
 // cursor and log may be handed over: what is unfit is turned away by a number of document 01. Records and their texts are only
-// read: the seam between the two lists moves.
+// read: the seam between the two lists moves. While records are walked the text has a gap at the cursor, so that a record costs
+// the distance from the place before it, and its own bytes.
 ghost use mathlib.Core.Path.{_≡_};
 ghost use mathlib.Core.Bool.{true, false, cond, _&&_};
 ghost use Prim.Native.Nat.{_≤_, _<_};
@@ -8,11 +9,13 @@ ghost use lib.Dec.{eqb};
 ghost use lib.ListN.{length};
 ghost use Rattle.unicode.specs.Repertoire.{catalogue};
 ghost use Rattle.journal.specs.Layout.{narrow};
+ghost use Rattle.buffer.specs.Gap.{shut};
 ghost use Rattle.records.specs.Formats.{asFormat, Fit};
 ghost use Rattle.edit.specs.Calls.{lent, stateOf, Edited, Ready};
 ghost use Rattle.retrace.specs.Records.{SizesOf};
 ghost use Rattle.undo.specs.Undo.{opens, beginsDown, numberOf, undoOut, redoOut, cancelOut, undoCall, redoCall, cancelCall};
-ghost use Rattle.undo.specs.Steps.{lineOf, lentBy, PassesOne, Redone, NotedIn, OpenAt};
+ghost use Rattle.undo.specs.Steps.{lineOf, lentGap, lentBy, PassesOne, Redone, NotedIn, OpenAt};
+use buffer::move_gap;
 use changeset::Log;
 use checks::Line;
 use edit::EditAnswer;
@@ -49,7 +52,7 @@ fn undo_record(
     requires { ⌜ Ready (asFormat f) (lentBy (now text) (now records) (now texts) s log) ⌝ }
     requires { ⌜ (s .number ≡ 0) × (0 < log .undo .records) × (length (now records) ≤ length (now sizes)) ⌝ }
     requires { ⌜ SizesOf (asFormat f) (now sizes) (stateOf catalogue (asFormat f) (lentBy (now text) (now records) (now texts) s log) .log .undo) ⌝ }
-    ensures { λ q. ⌜ PassesOne (asFormat f) (lentBy (now (text .entry)) (now (records .entry)) (now (texts .entry)) s log) true (s .undone) q (now (text .exit)) ⌝ }
+    ensures { λ q. ⌜ PassesOne (asFormat f) (lentBy (now (text .entry)) (now (records .entry)) (now (texts .entry)) s log) true (s .undone) q (shut (q .step .len) (q .step .cursor) (now (text .exit))) ⌝ }
 {
     let u = log.undo;
     let at = u.records;
@@ -80,7 +83,7 @@ fn redo_record(
     requires { ⌜ Fit f ⌝ }
     requires { ⌜ Ready (asFormat f) (lentBy (now text) (now records) (now texts) s log) ⌝ }
     requires { ⌜ (s .number ≡ 0) × (0 < log .redo .records) ⌝ }
-    ensures { λ q. ⌜ PassesOne (asFormat f) (lentBy (now (text .entry)) (now (records .entry)) (now (texts .entry)) s log) false (s .undone) q (now (text .exit)) ⌝ }
+    ensures { λ q. ⌜ PassesOne (asFormat f) (lentBy (now (text .entry)) (now (records .entry)) (now (texts .entry)) s log) false (s .undone) q (shut (q .step .len) (q .step .cursor) (now (text .exit))) ⌝ }
 {
     let u = log.undo;
     let at = u.records;
@@ -123,7 +126,8 @@ fn one_if(kind: usize, k: usize) -> usize
     0
 }
 
-// undo_units with the sizes of the undo list's records noted. A unit is done where the Ends passed are no more than the Begins.
+// undo_units with the sizes of the undo list's records noted, and the text's gap at the cursor. A unit is done where the Ends
+// passed are no more than the Begins.
 fn undo_noted(
     f: Format,
     text: &mut [u8],
@@ -135,12 +139,13 @@ fn undo_noted(
     n: usize,
 ) -> EditAnswer
     requires { ⌜ Fit f ⌝ }
-    requires { ⌜ Ready (asFormat f) (lent (now text) (now records) (now texts) line log) ⌝ }
+    requires { ⌜ Ready (asFormat f) (lentGap (now text) (now records) (now texts) line log) ⌝ }
     requires { ⌜ length (now records) ≤ length (now sizes) ⌝ }
-    requires { ⌜ SizesOf (asFormat f) (now sizes) (stateOf catalogue (asFormat f) (lent (now text) (now records) (now texts) line log) .log .undo) ⌝ }
-    ensures { λ r. ⌜ Edited (asFormat f) (lent (now (text .entry)) (now (records .entry)) (now (texts .entry)) line log)
-        (undoOut (length (now (text .entry))) n (stateOf catalogue (asFormat f) (lent (now (text .entry)) (now (records .entry)) (now (texts .entry)) line log)))
-        r (now (text .exit)) (now (records .entry)) (now (texts .entry)) ⌝ }
+    requires { ⌜ SizesOf (asFormat f) (now sizes) (stateOf catalogue (asFormat f) (lentGap (now text) (now records) (now texts) line log) .log .undo) ⌝ }
+    ensures edit { λ r. ⌜ Edited (asFormat f) (lentGap (now (text .entry)) (now (records .entry)) (now (texts .entry)) line log)
+        (undoOut (length (shut (line .len) (line .cursor) (now (text .entry)))) n (stateOf catalogue (asFormat f) (lentGap (now (text .entry)) (now (records .entry)) (now (texts .entry)) line log)))
+        r (shut (r .line .len) (r .line .cursor) (now (text .exit))) (now (records .entry)) (now (texts .entry)) ⌝ }
+    ensures cursor { λ r. ⌜ r .line .cursor ≤ r .line .len ⌝ }
 {
     let mut s = Step {
         number: 0,
@@ -176,7 +181,7 @@ fn undo_noted(
 }
 
 // Undo on a text and a log that the checks pass: the newest records, until n units are done. A unit is done where no End that
-// was passed waits for its Begin.
+// was passed waits for its Begin. The gap is opened at the cursor, and closed behind them.
 fn undo_units(
     f: Format,
     text: &mut [u8],
@@ -196,7 +201,11 @@ fn undo_units(
     let u = log.undo;
     let ur = u.records;
     note_sizes(f, &records[..ur], &mut sizes);
-    undo_noted(f, text, records, texts, &sizes, line, log, n)
+    move_gap(text, line.len, line.len, line.cursor);
+    let a = undo_noted(f, text, records, texts, &sizes, line, log, n);
+    let last = a.line;
+    move_gap(text, last.len, last.cursor, last.len);
+    a
 }
 
 // Wrong answers ruled out: undo 0 that undoes nothing; a unit that goes on over a group's Begin to the end of the list.
@@ -229,8 +238,8 @@ fn redo_unit(
     log: Log,
 ) -> EditAnswer
     requires { ⌜ Fit f ⌝ }
-    requires { ⌜ Ready (asFormat f) (lent (now text) (now records) (now texts) line log) ⌝ }
-    ensures { λ r. ⌜ Redone (asFormat f) (lent (now (text .entry)) (now (records .entry)) (now (texts .entry)) line log) r (now (text .exit)) ⌝ }
+    requires { ⌜ Ready (asFormat f) (lentGap (now text) (now records) (now texts) line log) ⌝ }
+    ensures { λ r. ⌜ Redone (asFormat f) (lentGap (now (text .entry)) (now (records .entry)) (now (texts .entry)) line log) r (shut (r .line .len) (r .line .cursor) (now (text .exit))) ⌝ }
 {
     let mut s = Step {
         number: 0,
@@ -270,9 +279,9 @@ fn behind(number: u32, k: u32) -> u32
     k
 }
 
-// Redo on a text and a log that the checks pass: n times the records of one unit. A stop ends them; where no record is left to
-// redo, the units left would change nothing.
-fn redo_units(
+// redo_units with the text's gap at the cursor. A stop ends the units; where no record is left to redo, those left would change
+// nothing.
+fn redo_gapped(
     f: Format,
     text: &mut [u8],
     records: &[u8],
@@ -282,10 +291,11 @@ fn redo_units(
     n: usize,
 ) -> EditAnswer
     requires { ⌜ Fit f ⌝ }
-    requires { ⌜ Ready (asFormat f) (lent (now text) (now records) (now texts) line log) ⌝ }
-    ensures { λ r. ⌜ Edited (asFormat f) (lent (now (text .entry)) (now (records .entry)) (now (texts .entry)) line log)
-        (redoOut (length (now (text .entry))) n (stateOf catalogue (asFormat f) (lent (now (text .entry)) (now (records .entry)) (now (texts .entry)) line log)))
-        r (now (text .exit)) (now (records .entry)) (now (texts .entry)) ⌝ }
+    requires { ⌜ Ready (asFormat f) (lentGap (now text) (now records) (now texts) line log) ⌝ }
+    ensures edit { λ r. ⌜ Edited (asFormat f) (lentGap (now (text .entry)) (now (records .entry)) (now (texts .entry)) line log)
+        (redoOut (length (shut (line .len) (line .cursor) (now (text .entry)))) n (stateOf catalogue (asFormat f) (lentGap (now (text .entry)) (now (records .entry)) (now (texts .entry)) line log)))
+        r (shut (r .line .len) (r .line .cursor) (now (text .exit))) (now (records .entry)) (now (texts .entry)) ⌝ }
+    ensures cursor { λ r. ⌜ r .line .cursor ≤ r .line .len ⌝ }
 {
     let mut line_now = line;
     let mut log_now = log;
@@ -305,6 +315,30 @@ fn redo_units(
         }
         left -= 1;
     }
+}
+
+// Redo on a text and a log that the checks pass: n times the records of one unit. The gap is opened at the cursor, and closed
+// behind them.
+fn redo_units(
+    f: Format,
+    text: &mut [u8],
+    records: &[u8],
+    texts: &[u8],
+    line: Line,
+    log: Log,
+    n: usize,
+) -> EditAnswer
+    requires { ⌜ Fit f ⌝ }
+    requires { ⌜ Ready (asFormat f) (lent (now text) (now records) (now texts) line log) ⌝ }
+    ensures { λ r. ⌜ Edited (asFormat f) (lent (now (text .entry)) (now (records .entry)) (now (texts .entry)) line log)
+        (redoOut (length (now (text .entry))) n (stateOf catalogue (asFormat f) (lent (now (text .entry)) (now (records .entry)) (now (texts .entry)) line log)))
+        r (now (text .exit)) (now (records .entry)) (now (texts .entry)) ⌝ }
+{
+    move_gap(text, line.len, line.len, line.cursor);
+    let a = redo_gapped(f, text, records, texts, line, log, n);
+    let last = a.line;
+    move_gap(text, last.len, last.cursor, last.len);
+    a
 }
 
 // Wrong answers ruled out: redo 0 answered 0; a unit redone without the End that closes it.
@@ -352,7 +386,7 @@ fn open_begins(records: &[u8], sizes: &[u8], count: usize, mark: usize) -> usize
     0
 }
 
-// The group of a mark undone and dropped: count is the number of records, begins that of the Begins dropped.
+// cancel_group with the text's gap at the cursor: count is the number of records, begins that of the Begins dropped.
 fn cancel_noted(
     f: Format,
     text: &mut [u8],
@@ -366,15 +400,16 @@ fn cancel_noted(
     begins: usize,
 ) -> EditAnswer
     requires { ⌜ Fit f ⌝ }
-    requires { ⌜ Ready (asFormat f) (lent (now text) (now records) (now texts) line log) ⌝ }
+    requires { ⌜ Ready (asFormat f) (lentGap (now text) (now records) (now texts) line log) ⌝ }
     requires { ⌜ length (now records) ≤ length (now sizes) ⌝ }
-    requires { ⌜ SizesOf (asFormat f) (now sizes) (stateOf catalogue (asFormat f) (lent (now text) (now records) (now texts) line log) .log .undo) ⌝ }
-    requires { ⌜ count ≡ length (stateOf catalogue (asFormat f) (lent (now text) (now records) (now texts) line log) .log .undo) ⌝ }
-    requires { ⌜ opens mark (stateOf catalogue (asFormat f) (lent (now text) (now records) (now texts) line log) .log .undo) ≡ true ⌝ }
-    requires { ⌜ begins ≡ beginsDown mark (stateOf catalogue (asFormat f) (lent (now text) (now records) (now texts) line log) .log .undo) ⌝ }
-    ensures { λ r. ⌜ Edited (asFormat f) (lent (now (text .entry)) (now (records .entry)) (now (texts .entry)) line log)
-        (cancelOut (length (now (text .entry))) mark (stateOf catalogue (asFormat f) (lent (now (text .entry)) (now (records .entry)) (now (texts .entry)) line log)))
-        r (now (text .exit)) (now (records .entry)) (now (texts .entry)) ⌝ }
+    requires { ⌜ SizesOf (asFormat f) (now sizes) (stateOf catalogue (asFormat f) (lentGap (now text) (now records) (now texts) line log) .log .undo) ⌝ }
+    requires { ⌜ count ≡ length (stateOf catalogue (asFormat f) (lentGap (now text) (now records) (now texts) line log) .log .undo) ⌝ }
+    requires { ⌜ opens mark (stateOf catalogue (asFormat f) (lentGap (now text) (now records) (now texts) line log) .log .undo) ≡ true ⌝ }
+    requires { ⌜ begins ≡ beginsDown mark (stateOf catalogue (asFormat f) (lentGap (now text) (now records) (now texts) line log) .log .undo) ⌝ }
+    ensures edit { λ r. ⌜ Edited (asFormat f) (lentGap (now (text .entry)) (now (records .entry)) (now (texts .entry)) line log)
+        (cancelOut (length (shut (line .len) (line .cursor) (now (text .entry)))) mark (stateOf catalogue (asFormat f) (lentGap (now (text .entry)) (now (records .entry)) (now (texts .entry)) line log)))
+        r (shut (r .line .len) (r .line .cursor) (now (text .exit))) (now (records .entry)) (now (texts .entry)) ⌝ }
+    ensures cursor { λ r. ⌜ r .line .cursor ≤ r .line .len ⌝ }
 {
     let mut s = Step {
         number: 0,
@@ -401,7 +436,8 @@ fn cancel_noted(
     says(0, last, g.cancel(u.records, u.texts, begins))
 }
 
-// Cancel on a text and a log that the checks pass: the group of the mark undone and dropped.
+// Cancel on a text and a log that the checks pass: the group of the mark undone and dropped. The gap is opened at the cursor,
+// and closed behind its records.
 fn cancel_group(
     f: Format,
     text: &mut [u8],
@@ -425,7 +461,8 @@ fn cancel_group(
     if begins == 0 {
         return says(1, line, log);
     }
-    cancel_noted(
+    move_gap(text, line.len, line.len, line.cursor);
+    let a = cancel_noted(
         f,
         text,
         records,
@@ -436,7 +473,10 @@ fn cancel_group(
         count,
         mark,
         begins,
-    )
+    );
+    let last = a.line;
+    move_gap(text, last.len, last.cursor, last.len);
+    a
 }
 
 // Wrong answers ruled out: the level of the group left as it was; the redo list kept.

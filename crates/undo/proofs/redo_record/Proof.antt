@@ -4,6 +4,7 @@ use mathlib.Core.Path.{refl}
 use mathlib.Core.Bool.{false}
 use denote.Ref.{now}
 use Rattle.records.specs.Formats.{asFormat}
+use Rattle.retrace.proofs.Faces.{shutBy}
 use Rattle.undo.specs.Steps.{lentBy}
 use Rattle.undo.proofs.Seams.{some-next, next-stands}
 use Rattle.undo.proofs.Steps.{next-whole, next-space, next-seam-there, record-stops, record-passes}
@@ -23,7 +24,7 @@ retrace-requires c κs =
     let h = s .pre .1 .0 in
     let n = some-next h (s .pre .1 .1 .1) .2 in
     let r = c .before .read-record in
-    ((s .pre .1 .1 .0, h .used, r .ensures .2, next-space h n (r .ensures .0), h .log .texts), h .text)
+    ((s .pre .1 .1 .0, h .within, h .used, r .ensures .2, next-space h n (r .ensures .0), h .log .texts), h .text)
 
 same-length : tie.Need-same-length
 same-length c = search needs
@@ -36,7 +37,7 @@ returns c =
     let l = lentBy (now (a .text)) (now (a .records)) (now (a .texts)) (a .s) (a .log) in
     let r = c .before .before .before .before .before .before .read-record in
     let q = c .before .before .before .before .retrace in
-    λ x d e. record-stops (asFormat (a .f)) l false x d (next-stands h e) (r .ensures .0) (a .s) (q .result) (q .last .0) (q .ensures) refl (c .if1 .taken)
+    λ x d e. record-stops (asFormat (a .f)) l false x d (next-stands h e) (r .ensures .0) (a .s) (q .result) (shutBy (q .result) (q .last .0)) (q .ensures) refl (c .if1 .taken)
 
 shared-slice-read-record-size : tie.Need-shared-slice-read-record-size
 shared-slice-read-record-size c = search needs
@@ -86,7 +87,7 @@ returns-2 c =
     let r = c .before .before .before .before .before .before .before .before .before .before .read-record in
     let q = c .before .before .before .before .before .before .before .before .retrace in
     let k = c .before .before .record-size in
-    λ x d e. record-passes (asFormat (a .f)) l false x d (next-stands h e) (r .ensures .0) (a .s) (q .result) (q .last .0) (q .ensures)
+    λ x d e. record-passes (asFormat (a .f)) l false x d (next-stands h e) (r .ensures .0) (a .s) (q .result) (shutBy (q .result) (q .last .0)) (q .ensures)
     (next-seam-there h e (r .ensures .0) (k .ensures .0)) (c .before .before .before .before .if1 .left) (c .move-seam .ensures)
 
 pub redo-record-spec : {M : Type 1} → statement M

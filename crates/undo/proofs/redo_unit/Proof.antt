@@ -1,28 +1,37 @@
 use borrow.Author.Needs.{needs}
 use native.Mathlib.Omega.{arith}
 use Prim.Native.Nat.{_+_}
-use mathlib.Core.Path.{refl, _∙_}
+use mathlib.Core.Path.{_≡_, refl, _∙_}
 use mathlib.Core.Bool.{false}
 use lib.ListN.{length}
+use denote.Ref.{now}
 use Rattle.unicode.specs.Repertoire.{catalogue}
 use Rattle.records.specs.Formats.{asFormat}
 use Rattle.edit.specs.Calls.{stateOf}
+use Rattle.retrace.proofs.Faces.{shutBy}
 use Rattle.undo.specs.Undo.{redoWalk}
-use Rattle.undo.specs.Steps.{lentBy}
+use Rattle.undo.specs.Steps.{lineOf, lentBy}
 use Rattle.undo.proofs.Seams.{some-next, none-next}
 use Rattle.undo.proofs.Counts.{one-of, counts-on}
 use Rattle.undo.proofs.Walks.{falls}
 use Rattle.undo.proofs.Units.{Walking, walking-first, walked-all, walked-stop, walking-on, walked-last}
 use Rattle.undo.proofs.Redos.{redone}
+use Rattle.undo.proofs.Gaps.{shut-kept, plain-kept, ends-there}
 use Rattle.undo.proofs.redo_unit.Statement.{statement}
 use Rattle.undo.proofs.redo_unit.Tie as tie
 
 abbrev Inv-loop : tie.InvT-loop
 Inv-loop f text₀ records texts s₀ g₀ ends₀ begins₀ text s g ends begins =
-    Walking (asFormat f) (lentBy text₀ records texts s₀ g₀) false (redoWalk (length text₀) (stateOf catalogue (asFormat f) (lentBy text₀ records texts s₀ g₀))) text s g 0 ends begins
+    Walking (asFormat f) (lentBy text₀ records texts s₀ g₀) false (redoWalk (length (shutBy s₀ text₀)) (stateOf catalogue (asFormat f) (lentBy text₀ records texts s₀ g₀))) (shutBy s text) s g 0 ends begins
 
 abbrev μ-loop : tie.MeasureT-loop
 μ-loop f text₀ records texts s₀ g₀ ends₀ begins₀ text s g ends begins = g .redo .records
+
+-- the buffer keeps its length
+text-kept : (c : tie.At-loop Inv-loop μ-loop) → length (c .loop .text) ≡ length (now (c .before .before .before .before .args .text))
+text-kept c =
+    let s = c .before .before .before .before in
+    plain-kept (s .args .line) (lineOf (c .loop .s)) (now (s .args .text)) (c .loop .text) (c .loop .inv .come .text)
 
 loop-holds : tie.Need-loop-holds Inv-loop μ-loop
 loop-holds c =
@@ -33,13 +42,13 @@ answer-requires : tie.Need-answer-requires Inv-loop μ-loop
 answer-requires c κs = search needs
 
 same-length : tie.Need-same-length Inv-loop μ-loop
-same-length c = search needs
+same-length c = text-kept (c .before .before .before .before)
 
 returns : tie.Need-returns Inv-loop μ-loop
 returns c =
     let b = c .before .before .before .before .loop in
     let k = b .inv in
-    redone (walked-all k (none-next (k .come .ready) (c .before .if1 .taken)) (c .answer .ensures))
+    redone (ends-there (c .answer .ensures) (b .text) (walked-all k (none-next (k .come .ready) (c .before .if1 .taken)) (c .answer .ensures)))
 
 redo-record-requires : tie.Need-redo-record-requires Inv-loop μ-loop
 redo-record-requires c κs =
@@ -53,10 +62,8 @@ answer-requires-2 c κs = search needs
 
 same-length-2 : tie.Need-same-length-2 Inv-loop μ-loop
 same-length-2 c =
-    let b = c .before .before .before .before .before .before .before .before .before .before .before .before .loop in
-    let k = b .inv in
     let u = c .before .before .before .before .before .before .before .redo-record in
-    u .kept .1 .0 ∙ k .come .text
+    u .kept .1 .0 ∙ text-kept (c .before .before .before .before .before .before .before .before .before .before .before .before)
 
 returns-2 : tie.Need-returns-2 Inv-loop μ-loop
 returns-2 c =
@@ -64,7 +71,7 @@ returns-2 c =
     let k = b .inv in
     let n = some-next (k .come .ready) (omega (arith, c .before .before .before .before .before .before .before .before .before .if1 .left)) in
     let u = c .before .before .before .before .before .before .before .redo-record in
-    redone (walked-stop k (n .2) (u .result) (u .last .1 .0) (u .ensures) (c .before .if2 .taken) (c .answer2 .ensures))
+    redone (ends-there (c .answer2 .ensures) (u .last .1 .0) (walked-stop k (n .2) (u .result) (shutBy (u .result .step) (u .last .1 .0)) (u .ensures) (c .before .if2 .taken) (c .answer2 .ensures)))
 
 one-if-requires : tie.Need-one-if-requires Inv-loop μ-loop
 one-if-requires c κs = search needs
@@ -91,10 +98,8 @@ answer-requires-3 c κs = search needs
 
 same-length-3 : tie.Need-same-length-3 Inv-loop μ-loop
 same-length-3 c =
-    let b = c .before .before .before .before .before .before .before .before .before .before .before .before .before .before .before .loop in
-    let k = b .inv in
     let u = c .before .before .before .before .before .before .before .before .before .before .redo-record in
-    u .kept .1 .0 ∙ k .come .text
+    u .kept .1 .0 ∙ text-kept (c .before .before .before .before .before .before .before .before .before .before .before .before .before .before .before)
 
 returns-3 : tie.Need-returns-3 Inv-loop μ-loop
 returns-3 c =
@@ -108,7 +113,8 @@ returns-3 c =
     let w = counts-on (u .result .kind) (i .ensures .0) (j .ensures .0) (n .0) (k .waiting) (b .ends) (b .begins) (k .waits) (u .ensures (n .0) (n .1) (n .2) .0) in
     let few = one-of (u .result .kind) (i .ensures .0) (j .ensures .0) in
     redone
-    (walked-last k (n .2) (u .result) (u .last .1 .0) (u .ensures) (u .kept .1 .0) z (b .ends + i .result) (b .begins + j .result) w (omega (arith, few)) (c .before .if3 .taken) refl (c .answer3 .ensures))
+    (ends-there (c .answer3 .ensures) (u .last .1 .0)
+    (walked-last k (n .2) (u .result) (shutBy (u .result .step) (u .last .1 .0)) (u .ensures) (shut-kept (lineOf (b .s)) (lineOf (u .result .step)) (b .text) (u .last .1 .0) (u .kept .1 .0)) z (b .ends + i .result) (b .begins + j .result) w (omega (arith, few)) (c .before .if3 .taken) refl (c .answer3 .ensures)))
 
 loop-less : tie.Need-loop-less Inv-loop μ-loop
 loop-less c =
@@ -117,7 +123,7 @@ loop-less c =
     let n = some-next (k .come .ready) (omega (arith, c .before .before .before .before .before .before .before .before .before .before .before .if1 .left)) in
     let u = c .before .before .before .before .before .before .before .before .before .redo-record in
     let z = c .before .before .before .if2 .left in
-    falls false (k .come) (n .2) (u .result) (u .last .1 .0) (u .ensures) (u .kept .1 .0) z
+    falls false (k .come) (n .2) (u .result) (shutBy (u .result .step) (u .last .1 .0)) (u .ensures) (shut-kept (lineOf (b .s)) (lineOf (u .result .step)) (b .text) (u .last .1 .0) (u .kept .1 .0)) z
 
 loop-again : tie.Need-loop-again Inv-loop μ-loop
 loop-again c =
@@ -130,7 +136,7 @@ loop-again c =
     let z = c .before .before .before .if2 .left in
     let w = counts-on (u .result .kind) (i .ensures .0) (j .ensures .0) (n .0) (k .waiting) (b .ends) (b .begins) (k .waits) (u .ensures (n .0) (n .1) (n .2) .0) in
     let few = one-of (u .result .kind) (i .ensures .0) (j .ensures .0) in
-    walking-on k (n .2) (u .result) (u .last .1 .0) (u .ensures) (u .kept .1 .0) z (b .ends + i .result) (b .begins + j .result) w (omega (arith, few)) (c .if3 .left)
+    walking-on k (n .2) (u .result) (shutBy (u .result .step) (u .last .1 .0)) (u .ensures) (shut-kept (lineOf (b .s)) (lineOf (u .result .step)) (b .text) (u .last .1 .0) (u .kept .1 .0)) z (b .ends + i .result) (b .begins + j .result) w (omega (arith, few)) (c .if3 .left)
 
 pub redo-unit-spec : {M : Type 1} → statement M
 redo-unit-spec =

@@ -1,7 +1,7 @@
 use borrow.Author.Needs.{needs}
 use native.Mathlib.Omega.{arith}
 use Prim.Native.Nat.{_+_, _-_}
-use mathlib.Core.Path.{_∙_}
+use mathlib.Core.Path.{_≡_, _∙_}
 use mathlib.Core.Bool.{true}
 use lib.ListN.{length}
 use denote.Ref.{now}
@@ -9,22 +9,30 @@ use Rattle.unicode.specs.Repertoire.{catalogue}
 use Rattle.records.specs.Formats.{asFormat}
 use Rattle.edit.specs.Calls.{stateOf}
 use Rattle.retrace.specs.Records.{SizesOf}
+use Rattle.retrace.proofs.Faces.{shutBy}
 use Rattle.undo.specs.Undo.{undoWalk, undoOut}
-use Rattle.undo.specs.Steps.{lentBy}
+use Rattle.undo.specs.Steps.{lineOf, lentBy}
 use Rattle.undo.proofs.Seams.{some-newest, none-newest}
 use Rattle.undo.proofs.Counts.{one-of, counts-back}
 use Rattle.undo.proofs.Walks.{edited, falls, sizes-next}
 use Rattle.undo.proofs.Units.{Walking, walking-first, walked-all, walked-stop, walking-on, walking-next, walked-last}
+use Rattle.undo.proofs.Gaps.{shut-kept, plain-kept, ends-there}
 use Rattle.undo.proofs.undo_noted.Statement.{statement}
 use Rattle.undo.proofs.undo_noted.Tie as tie
 
 abbrev Inv-loop : tie.InvT-loop
 Inv-loop f text₀ records texts sizes n s₀ g₀ left₀ ends₀ begins₀ text s g left ends begins =
-    Walking (asFormat f) (lentBy text₀ records texts s₀ g₀) true (undoWalk (length text₀) n (stateOf catalogue (asFormat f) (lentBy text₀ records texts s₀ g₀))) text s g (left - 1) ends begins
+    Walking (asFormat f) (lentBy text₀ records texts s₀ g₀) true (undoWalk (length (shutBy s₀ text₀)) n (stateOf catalogue (asFormat f) (lentBy text₀ records texts s₀ g₀))) (shutBy s text) s g (left - 1) ends begins
     × SizesOf (asFormat f) sizes (stateOf catalogue (asFormat f) (lentBy text records texts s g) .log .undo)
 
 abbrev μ-loop : tie.MeasureT-loop
 μ-loop f text₀ records texts sizes n s₀ g₀ left₀ ends₀ begins₀ text s g left ends begins = g .undo .records
+
+-- the buffer keeps its length
+text-kept : (c : tie.At-loop Inv-loop μ-loop) → length (c .loop .text) ≡ length (now (c .before .before .before .before .before .args .text))
+text-kept c =
+    let s = c .before .before .before .before .before in
+    plain-kept (s .args .line) (lineOf (c .loop .s)) (now (s .args .text)) (c .loop .text) (c .loop .inv .0 .come .text)
 
 loop-holds : tie.Need-loop-holds Inv-loop μ-loop
 loop-holds c =
@@ -35,14 +43,15 @@ answer-requires : tie.Need-answer-requires Inv-loop μ-loop
 answer-requires c κs = search needs
 
 same-length : tie.Need-same-length Inv-loop μ-loop
-same-length c = search needs
+same-length c = text-kept (c .before .before .before .before)
 
 returns : tie.Need-returns Inv-loop μ-loop
 unfolding undoOut
 returns c =
     let b = c .before .before .before .before .loop in
     let k = b .inv .0 in
-    edited (walked-all k (none-newest (k .come .ready) (c .before .if1 .taken)) (c .answer .ensures))
+    let e = ends-there (c .answer .ensures) (b .text) (walked-all k (none-newest (k .come .ready) (c .before .if1 .taken)) (c .answer .ensures)) in
+    (edited e, e .ready .within)
 
 undo-record-requires : tie.Need-undo-record-requires Inv-loop μ-loop
 undo-record-requires c κs =
@@ -56,10 +65,8 @@ answer-requires-2 c κs = search needs
 
 same-length-2 : tie.Need-same-length-2 Inv-loop μ-loop
 same-length-2 c =
-    let b = c .before .before .before .before .before .before .before .before .before .before .before .before .loop in
-    let k = b .inv .0 in
     let u = c .before .before .before .before .before .before .before .undo-record in
-    u .kept .1 .0 ∙ k .come .text
+    u .kept .1 .0 ∙ text-kept (c .before .before .before .before .before .before .before .before .before .before .before .before)
 
 returns-2 : tie.Need-returns-2 Inv-loop μ-loop
 unfolding undoOut
@@ -68,7 +75,8 @@ returns-2 c =
     let k = b .inv .0 in
     let n = some-newest (k .come .ready) (omega (arith, c .before .before .before .before .before .before .before .before .before .if1 .left)) in
     let u = c .before .before .before .before .before .before .before .undo-record in
-    edited (walked-stop k (n .2) (u .result) (u .last .1 .0) (u .ensures) (c .before .if2 .taken) (c .answer2 .ensures))
+    let e = ends-there (c .answer2 .ensures) (u .last .1 .0) (walked-stop k (n .2) (u .result) (shutBy (u .result .step) (u .last .1 .0)) (u .ensures) (c .before .if2 .taken) (c .answer2 .ensures)) in
+    (edited e, e .ready .within)
 
 one-if-requires : tie.Need-one-if-requires Inv-loop μ-loop
 one-if-requires c κs = search needs
@@ -97,7 +105,7 @@ loop-less c =
     let n = some-newest (k .come .ready) (omega (arith, c .before .before .before .before .before .before .before .before .before .before .before .if1 .left)) in
     let u = c .before .before .before .before .before .before .before .before .before .undo-record in
     let z = c .before .before .before .if2 .left in
-    falls true (k .come) (n .2) (u .result) (u .last .1 .0) (u .ensures) (u .kept .1 .0) z
+    falls true (k .come) (n .2) (u .result) (shutBy (u .result .step) (u .last .1 .0)) (u .ensures) (shut-kept (lineOf (b .s)) (lineOf (u .result .step)) (b .text) (u .last .1 .0) (u .kept .1 .0)) z
 
 loop-again : tie.Need-loop-again Inv-loop μ-loop
 loop-again c =
@@ -111,8 +119,8 @@ loop-again c =
     let z = c .before .before .before .if2 .left in
     let w = counts-back (u .result .kind) (i .ensures .0) (j .ensures .0) (n .0) (k .waiting) (b .ends) (b .begins) (k .waits) (u .ensures (n .0) (n .1) (n .2) .0) in
     let few = one-of (u .result .kind) (i .ensures .0) (j .ensures .0) in (
-      walking-on k (n .2) (u .result) (u .last .1 .0) (u .ensures) (u .kept .1 .0) z (b .ends + j .result) (b .begins + i .result) w (omega (arith, few)) (c .if3 .taken),
-      sizes-next (k .come) (n .2) (u .result) (u .last .1 .0) (u .ensures) (u .kept .1 .0) z (now (s .args .sizes)) (b .inv .1),
+      walking-on k (n .2) (u .result) (shutBy (u .result .step) (u .last .1 .0)) (u .ensures) (shut-kept (lineOf (b .s)) (lineOf (u .result .step)) (b .text) (u .last .1 .0) (u .kept .1 .0)) z (b .ends + j .result) (b .begins + i .result) w (omega (arith, few)) (c .if3 .taken),
+      sizes-next (k .come) (n .2) (u .result) (shutBy (u .result .step) (u .last .1 .0)) (u .ensures) (shut-kept (lineOf (b .s)) (lineOf (u .result .step)) (b .text) (u .last .1 .0) (u .kept .1 .0)) z (now (s .args .sizes)) (b .inv .1),
     )
 
 answer-requires-3 : tie.Need-answer-requires-3 Inv-loop μ-loop
@@ -120,10 +128,8 @@ answer-requires-3 c κs = search needs
 
 same-length-3 : tie.Need-same-length-3 Inv-loop μ-loop
 same-length-3 c =
-    let b = c .before .before .before .before .before .before .before .before .before .before .before .before .before .before .before .before .loop in
-    let k = b .inv .0 in
     let u = c .before .before .before .before .before .before .before .before .before .before .before .undo-record in
-    u .kept .1 .0 ∙ k .come .text
+    u .kept .1 .0 ∙ text-kept (c .before .before .before .before .before .before .before .before .before .before .before .before .before .before .before .before)
 
 returns-3 : tie.Need-returns-3 Inv-loop μ-loop
 unfolding undoOut
@@ -137,9 +143,11 @@ returns-3 c =
     let z = c .before .before .before .before .before .if2 .left in
     let w = counts-back (u .result .kind) (i .ensures .0) (j .ensures .0) (n .0) (k .waiting) (b .ends) (b .begins) (k .waits) (u .ensures (n .0) (n .1) (n .2) .0) in
     let few = one-of (u .result .kind) (i .ensures .0) (j .ensures .0) in
-    edited
-    (walked-last k (n .2) (u .result) (u .last .1 .0) (u .ensures) (u .kept .1 .0) z (b .ends + j .result) (b .begins + i .result) w (omega (arith, few)) (c .before .before .if3 .left) (omega (arith, c .before .if4 .taken))
-    (c .answer3 .ensures))
+    let e =
+    ends-there (c .answer3 .ensures) (u .last .1 .0)
+    (walked-last k (n .2) (u .result) (shutBy (u .result .step) (u .last .1 .0)) (u .ensures) (shut-kept (lineOf (b .s)) (lineOf (u .result .step)) (b .text) (u .last .1 .0) (u .kept .1 .0)) z (b .ends + j .result) (b .begins + i .result) w (omega (arith, few)) (c .before .before .if3 .left) (omega (arith, c .before .if4 .taken))
+    (c .answer3 .ensures)) in
+    (edited e, e .ready .within)
 
 sub-left : tie.Need-sub-left Inv-loop μ-loop
 sub-left c = omega (arith, c .if4 .left)
@@ -151,7 +159,7 @@ loop-less-2 c =
     let n = some-newest (k .come .ready) (omega (arith, c .before .before .before .before .before .before .before .before .before .before .before .before .if1 .left)) in
     let u = c .before .before .before .before .before .before .before .before .before .before .undo-record in
     let z = c .before .before .before .before .if2 .left in
-    falls true (k .come) (n .2) (u .result) (u .last .1 .0) (u .ensures) (u .kept .1 .0) z
+    falls true (k .come) (n .2) (u .result) (shutBy (u .result .step) (u .last .1 .0)) (u .ensures) (shut-kept (lineOf (b .s)) (lineOf (u .result .step)) (b .text) (u .last .1 .0) (u .kept .1 .0)) z
 
 loop-again-2 : tie.Need-loop-again-2 Inv-loop μ-loop
 loop-again-2 c =
@@ -165,8 +173,8 @@ loop-again-2 c =
     let z = c .before .before .before .before .if2 .left in
     let w = counts-back (u .result .kind) (i .ensures .0) (j .ensures .0) (n .0) (k .waiting) (b .ends) (b .begins) (k .waits) (u .ensures (n .0) (n .1) (n .2) .0) in
     let few = one-of (u .result .kind) (i .ensures .0) (j .ensures .0) in (
-      walking-next k (n .2) (u .result) (u .last .1 .0) (u .ensures) (u .kept .1 .0) z (b .ends + j .result) (b .begins + i .result) w (omega (arith, few)) (c .before .if3 .left) (omega (arith, c .if4 .left)),
-      sizes-next (k .come) (n .2) (u .result) (u .last .1 .0) (u .ensures) (u .kept .1 .0) z (now (s .args .sizes)) (b .inv .1),
+      walking-next k (n .2) (u .result) (shutBy (u .result .step) (u .last .1 .0)) (u .ensures) (shut-kept (lineOf (b .s)) (lineOf (u .result .step)) (b .text) (u .last .1 .0) (u .kept .1 .0)) z (b .ends + j .result) (b .begins + i .result) w (omega (arith, few)) (c .before .if3 .left) (omega (arith, c .if4 .left)),
+      sizes-next (k .come) (n .2) (u .result) (shutBy (u .result .step) (u .last .1 .0)) (u .ensures) (shut-kept (lineOf (b .s)) (lineOf (u .result .step)) (b .text) (u .last .1 .0) (u .kept .1 .0)) z (now (s .args .sizes)) (b .inv .1),
     )
 
 pub undo-noted-spec : {M : Type 1} → statement M
