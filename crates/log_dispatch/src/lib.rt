@@ -104,7 +104,7 @@ pub fn call(
     match key {
         10 => undo::undo(text, records, texts, line, log, n),
         11 => undo::redo(text, records, texts, line, log, n),
-        12 => undo::cancel(text, records, texts, line, log, a),
+        12 => cancel::cancel(text, records, texts, line, log, a),
         _ => on_line(line, log_call(key, records, texts, log, buf, new, v)),
     }
 }

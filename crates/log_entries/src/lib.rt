@@ -4,7 +4,8 @@ ghost use Rattle.unicode.specs.Repertoire.{catalogue};
 ghost use Rattle.journal.specs.Layout.{narrow};
 ghost use Rattle.changeset.specs.Calls.{lent, Logged, answerOf, beginCall, endCall, insertCall, insertStrCall, deleteCall, replaceCall, truncateCall, lastInsertCall};
 ghost use Rattle.edit.specs.Calls as edits;
-ghost use Rattle.undo.specs.Undo.{undoCall, redoCall, cancelCall};
+ghost use Rattle.undo.specs.Undo.{undoCall, redoCall};
+ghost use Rattle.cancel.specs.Cancel.{cancelCall};
 use changeset::Log;
 use changeset::LogAnswer;
 use checks::Line;
@@ -156,5 +157,5 @@ pub extern "C" fn tlf_log_cancel(
         (cancelCall catalogue narrow (edits.lent (now (text .entry)) (now (records .entry)) (now (texts .entry)) line log) mark)
         r (now (text .exit)) (now (records .entry)) (now (texts .entry)) ⌝ }
 {
-    undo::cancel(text, records, texts, line, log, mark)
+    cancel::cancel(text, records, texts, line, log, mark)
 }

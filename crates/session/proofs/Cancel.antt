@@ -16,8 +16,9 @@ use Rattle.journal.specs.Layout.{Format}
 use Rattle.journal.specs.Undo.{allSmall}
 use Rattle.edit.specs.Plan.{State}
 use Rattle.retrace.specs.Retrace.{Trail, undoing}
-use Rattle.undo.specs.Undo.{Walked, trailOf, opens, walkTo, beginsDown, cancelOut}
-use Rattle.undo.proofs.Cancels.{opens-within}
+use Rattle.undo.specs.Undo.{Walked, trailOf}
+use Rattle.cancel.specs.Cancel.{opens, walkTo, beginsDown, cancelOut}
+use Rattle.cancel.proofs.Cancels.{opens-within}
 use Rattle.session.specs.Calls.{cancel}
 use Rattle.session.specs.Sessions.{leaves, below, openAfter}
 use Rattle.session.proofs.Invariant.{openMarks, Groups, Bound, Chain, Inv, no-redo}

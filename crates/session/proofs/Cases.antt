@@ -37,6 +37,7 @@ use Rattle.edit_word.specs.EditWord.{actionList, editWordCall}
 use Rattle.transpose_words.specs.TransposeWords.{transposeWordsCall}
 use Rattle.retrace.specs.Retrace.{misfit, exchanging, undoing as Retrace·undoing}
 use Rattle.undo.specs.Undo as undos
+use Rattle.cancel.specs.Cancel as cancels
 use Rattle.kill_ring.specs.declared.Action.the-variants.{Yank}
 use Rattle.kill_ring.specs.Ring as ring
 use Rattle.kill_ring.specs.Calls as ringCalls
@@ -135,7 +136,7 @@ pub record Cases : Type 0 where
       × (ringCalls.yankPopCall catalogue (playedRing.lending (cb 0)) ≡ ring.answered 0 1 1 (cb 1)) × (ringCalls.yankPopCall catalogue (playedRing.lending (cb 1)) ≡ ring.answered 0 0 1 (cb 0))
 
 pub cases : Cases
-unfolding within one two lead3 three lead4 four firstOf first charsFrom validFrom startBefore scalar size isMember isControl isMark isAlnum isWhite widthOf isText isChar joined clusters wordList atList searchList columnAfter columnsAfter width sizes nextPos prevPos matches nthMatch afterCluster matchForward matchBackward isStartOfWord landsBehind marks graphemeIndices scan walk landsOn nextWord noWord landed nextWordPos prevWord prevWordPos startOfLine beforeNewline endOfLine nthCluster lineAbove lineBelow lineUp lineDown linesDown nLinesDown movements copied startsAfter refusal called isSmall isCapital upperOf lowerOf encode encodeAll caseAll cased firstAlnum skipWhitespace sizeOf textsAt changeAt wholeAt decodeAt note recordInsert recordInsertStr recordDelete undoRecords undoTexts allSmall fits overSizes damaged undos redos splice textAfter listAfter tooLong edited copies actionList beginOut endOut endAll endsAny misfit exchanging Retrace·undoing undos.walk undos.undoOut undos.opens undos.walkTo undos.beginsDown undos.cancelOut ring.putAt ring.killOut ring.yankOut ring.yankPopOut ringCalls.slotsFrom ringCalls.anyOver ringCalls.overSizes ringCalls.actionBreaks ringCalls.anyForeign ringCalls.damaged ringCalls.modeList
+unfolding within one two lead3 three lead4 four firstOf first charsFrom validFrom startBefore scalar size isMember isControl isMark isAlnum isWhite widthOf isText isChar joined clusters wordList atList searchList columnAfter columnsAfter width sizes nextPos prevPos matches nthMatch afterCluster matchForward matchBackward isStartOfWord landsBehind marks graphemeIndices scan walk landsOn nextWord noWord landed nextWordPos prevWord prevWordPos startOfLine beforeNewline endOfLine nthCluster lineAbove lineBelow lineUp lineDown linesDown nLinesDown movements copied startsAfter refusal called isSmall isCapital upperOf lowerOf encode encodeAll caseAll cased firstAlnum skipWhitespace sizeOf textsAt changeAt wholeAt decodeAt note recordInsert recordInsertStr recordDelete undoRecords undoTexts allSmall fits overSizes damaged undos redos splice textAfter listAfter tooLong edited copies actionList beginOut endOut endAll endsAny misfit exchanging Retrace·undoing undos.walk undos.undoOut cancels.opens cancels.walkTo cancels.beginsDown cancels.cancelOut ring.putAt ring.killOut ring.yankOut ring.yankPopOut ringCalls.slotsFrom ringCalls.anyOver ringCalls.overSizes ringCalls.actionBreaks ringCalls.anyForeign ringCalls.damaged ringCalls.modeList
 cases =
     record {
       p1 = (refl, refl);

@@ -21,7 +21,8 @@ use Rattle.changeset.specs.Outcomes.{beginOut, endOut}
 use Rattle.edit.specs.Plan.{State, splice, textAfter, listAfter, tooLong, edited}
 use Rattle.edit.specs.Calls.{stateOf, Stored}
 use Rattle.retrace.specs.Retrace.{misfit, exchanging, undoing}
-use Rattle.undo.specs.Undo.{walk, undoOut, opens, walkTo, beginsDown, cancelOut}
+use Rattle.undo.specs.Undo.{walk, undoOut}
+use Rattle.cancel.specs.Cancel.{opens, walkTo, beginsDown, cancelOut}
 use Rattle.session.specs.Calls as calls
 use Rattle.session.specs.Calls.{Asked}
 use Rattle.session.specs.Sessions.{Buffers, Handed, Call, step, leaves, run, lastOf, below, openAfter, Allowed, Listed}

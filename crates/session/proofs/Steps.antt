@@ -12,7 +12,8 @@ use Rattle.journal.specs.Layout.{Format}
 use Rattle.changeset.specs.Logs.{logTests}
 use Rattle.edit.specs.Plan.{Piece, made, State, Outcome, called}
 use Rattle.edit.specs.Calls.{Lent, textOf, sizesOf, checked, stateOf}
-use Rattle.undo.specs.Undo.{undoOut, redoOut, cancelOut}
+use Rattle.undo.specs.Undo.{undoOut, redoOut}
+use Rattle.cancel.specs.Cancel.{cancelOut}
 use Rattle.session.specs.Calls.{EditCall, editOutcome, Asked, edit, move, begin, end, lastInsert, undo, redo, cancel, outcomeOf}
 use Rattle.session.specs.Sessions.{Buffers, Handed, lentFor, Call, step, leaves, run, lastOf, openAfter, Allowed, Listed}
 use Rattle.session.proofs.Invariant.{Bound, Chain, Inv}

@@ -19,7 +19,8 @@ use Rattle.transpose_chars.specs.TransposeChars.{transposeCharsCall}
 use Rattle.edit_word.specs.EditWord.{editWordCall}
 use Rattle.transpose_words.specs.TransposeWords.{transposeWordsCall}
 use Rattle.indents.specs.Indents.{indentCall}
-use Rattle.undo.specs.Undo.{undoCall, redoCall, cancelCall}
+use Rattle.undo.specs.Undo.{undoCall, redoCall}
+use Rattle.cancel.specs.Cancel.{cancelCall}
 
 -- a movement by its numbers: mvt, n, at, word, search, ch
 pub record Codes : Type 0 where

@@ -8,10 +8,10 @@ use Rattle.utf8.specs.Chars.{validFrom}
 use Rattle.journal.specs.Change.{Change, begin, end, edit, insert, delete}
 use Rattle.edit.specs.Plan.{State, answered, splice}
 use Rattle.retrace.specs.Retrace.{misfit, exchanging, undoing}
-use Rattle.undo.specs.Undo.{walk, undoOut, redoOut, opens, walkTo, beginsDown, cancelOut}
+use Rattle.undo.specs.Undo.{walk, undoOut, redoOut}
 
 -- a text with the cursor at its end, its undo and redo lists, and a level
-abbrev state : List ℕ → ℕ → List Change → List Change → ℕ → State
+abbrev pub state : List ℕ → ℕ → List Change → List Change → ℕ → State
 state t c u r v = record { text = t; cursor = c; log = record { undo = u; redo = r; level = v } }
 
 -- "ab" and " c" as they were typed
@@ -22,10 +22,10 @@ abbrev spaceC : Change
 spaceC = edit (insert 2 (0x20 ∷ 0x63 ∷ []))
 
 -- "q", and "r" behind it
-abbrev q : Change
+abbrev pub q : Change
 q = edit (insert 0 (0x71 ∷ []))
 
-abbrev r : Change
+abbrev pub r : Change
 r = edit (insert 1 (0x72 ∷ []))
 
 pub record Examples : Type 0 where
@@ -49,19 +49,7 @@ pub record Examples : Type 0 where
   pub p12-truncate :
       undoOut 16 1 (state (0x71 ∷ 0x72 ∷ []) 2 (end ∷ end ∷ r ∷ begin ∷ q ∷ []) [] 0)
       ≡ answered 0 0 0 (state [] 0 [] (edit (delete 0 (0x71 ∷ [])) ∷ end ∷ edit (delete 1 (0x72 ∷ [])) ∷ begin ∷ begin ∷ []) 0)
-  -- P12 with cancel: the level is lowered, and the next group is undone by itself
-  pub p12-cancel : cancelOut 16 1 (state (0x71 ∷ []) 1 (begin ∷ q ∷ []) [] 1) ≡ answered 0 0 0 (state (0x71 ∷ []) 1 (q ∷ []) [] 0)
-  -- cancel empties the redo list
-  pub cancel-redo : cancelOut 16 0 (state [] 0 (begin ∷ []) (edit (delete 0 (0x71 ∷ [])) ∷ []) 1) ≡ answered 0 0 0 (state [] 0 [] [] 0)
-  -- a mark whose record is no Begin, a Begin with an End after it, a mark beyond the list
-  pub cancel-none :
-      (cancelOut 16 0 (state (0x71 ∷ []) 1 (q ∷ []) [] 1) ≡ answered 1 0 0 (state (0x71 ∷ []) 1 (q ∷ []) [] 1))
-      × (cancelOut 16 0 (state (0x71 ∷ []) 1 (end ∷ q ∷ begin ∷ []) [] 1) ≡ answered 1 0 0 (state (0x71 ∷ []) 1 (end ∷ q ∷ begin ∷ []) [] 1))
-      × (cancelOut 16 9 (state (0x71 ∷ []) 1 (q ∷ begin ∷ []) [] 1) ≡ answered 1 0 0 (state (0x71 ∷ []) 1 (q ∷ begin ∷ []) [] 1))
-  -- a cancel that is stopped: the record handled is in front of the redo list, which is kept, and so is the level
-  pub cancel-stopped :
-      cancelOut 16 0 (state (0x72 ∷ []) 1 (edit (insert 0 (0x72 ∷ [])) ∷ r ∷ begin ∷ []) (q ∷ []) 1)
-      ≡ answered 12 0 0 (state [] 0 (r ∷ begin ∷ []) (edit (delete 0 (0x72 ∷ [])) ∷ q ∷ []) 1)
+  -- P12 with cancel: the group after the one cancelled is undone by itself
   pub p12-cancelled :
       undoOut 16 1 (state (0x71 ∷ 0x72 ∷ []) 2 (end ∷ r ∷ begin ∷ q ∷ []) [] 0)
       ≡ answered 0 0 0 (state (0x71 ∷ []) 1 (q ∷ []) (end ∷ edit (delete 1 (0x72 ∷ [])) ∷ begin ∷ []) 0)
@@ -73,5 +61,5 @@ pub record Examples : Type 0 where
   pub full : undoOut 0 1 (state [] 0 (edit (delete 0 (0x71 ∷ [])) ∷ []) [] 0) ≡ answered 9 0 0 (state [] 0 (edit (delete 0 (0x71 ∷ [])) ∷ []) [] 0)
 
 pub examples : Examples
-unfolding within one two lead3 three lead4 four firstOf first validFrom splice misfit exchanging undoing walk undoOut redoOut opens walkTo beginsDown cancelOut
-examples = record { p11 = refl; zero = refl; again = refl; redo-none = refl; redo-group = refl; p12-truncate = refl; p12-cancel = refl; cancel-redo = refl; cancel-none = (refl, refl, refl); cancel-stopped = refl; p12-cancelled = refl; below = refl; misfits = refl; full = refl }
+unfolding within one two lead3 three lead4 four firstOf first validFrom splice misfit exchanging undoing walk undoOut redoOut
+examples = record { p11 = refl; zero = refl; again = refl; redo-none = refl; redo-group = refl; p12-truncate = refl; p12-cancelled = refl; below = refl; misfits = refl; full = refl }

@@ -17,7 +17,7 @@ use Rattle.changeset.specs.declared.Log.{Log}
 use Rattle.edit.specs.declared.EditAnswer.{EditAnswer}
 use Rattle.edit.specs.Plan.{State, Outcome, refused, answered}
 use Rattle.edit.specs.Calls.{Lent, lent, stateOf, Edited, Ready}
-use Rattle.undo.specs.Undo.{Walked, numberOf, trailOf, undoOut, redoneState, redoWalk, behindNumber, redoOut, opens, walkTo, cancelled, cancelOut}
+use Rattle.undo.specs.Undo.{Walked, numberOf, undoOut, redoneState, redoWalk, behindNumber, redoOut}
 use Rattle.undo.specs.Steps.{lentGap}
 use Rattle.undo.proofs.Walks.{answerBy, Ends}
 
@@ -41,12 +41,12 @@ module _ {n : ℕ} {a : Line} {g : Log} {r : EditAnswer} (q : r ≡ answerBy n a
     pub edited-there : {o : Outcome} → Edited F l o r (shut (a .len) (a .cursor) b) (l .records) (l .texts) → Edited F l o r (shut (r .line .len) (r .line .cursor) b) (l .records) (l .texts)
     edited-there {o} = subst (λ (x : EditAnswer). Edited F l o r (shut (x .line .len) (x .line .cursor) b) (l .records) (l .texts)) (sym q)
 
--- ---- undo, redo and cancel refuse nothing that the checks pass
+-- ---- undo and redo refuse nothing that the checks pass
 abbrev pub Answered : Outcome → Type 0
 Answered (refused k) = ⊥
 Answered (answered k i j s) = Unit {0}
 
-either-answered : (b : Bool) (x y : Outcome) → Answered x → Answered y → Answered (cond b x y)
+pub either-answered : (b : Bool) (x y : Outcome) → Answered x → Answered y → Answered (cond b x y)
 either-answered true x y h i = h
 either-answered false x y h i = i
 
@@ -65,12 +65,6 @@ redo-answered C (suc n) s =
     let w = redoWalk C s in
     let t = redoneState w (s .log .level) in
     either-answered (eqb (w .stopped) 0) (behindNumber (numberOf 0 (w .trail .undone)) (redoOut C n t)) (answered (w .stopped) 0 0 t) (behind-answered (numberOf 0 (w .trail .undone)) (redoOut C n t) (redo-answered C n t)) tt
-
-pub cancel-answered : (C m : ℕ) (s : State) → Answered (cancelOut C m s)
-unfolding cancelOut
-cancel-answered C m s =
-    let w = walkTo C m (s .log .undo) (s .log .redo) (trailOf s) in
-    either-answered (opens m (s .log .undo)) (cancelled w m s) (answered 1 0 0 s) (either-answered (eqb (w .stopped) 0) _ _ tt tt) tt
 
 -- ---- the text of an answer lies in its buffer, and nothing else of the buffer is said
 module _ (F : Format) where

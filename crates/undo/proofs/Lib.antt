@@ -8,6 +8,4 @@ pub mod Walks
 pub mod Units
 pub mod Redos
 pub mod Gaps
-pub mod Opens
-pub mod Cancels
 pub mod Examples

@@ -21,7 +21,7 @@ use Rattle.changeset.specs.declared.Log.{Log}
 use Rattle.changeset.specs.Calls as log
 use Rattle.changeset.proofs.Recorded.{good}
 use Rattle.edit.specs.Plan.{splice}
-use Rattle.edit.specs.Calls.{Lent, lent, logLent, stateOf, Stored, Ready}
+use Rattle.edit.specs.Calls.{Lent, lent, logLent, stateOf, Ready}
 use Rattle.edit.proofs.Answers.{cursor-in}
 use Rattle.edit.proofs.Held.{state-held, state-ready}
 use Rattle.edit.proofs.Pieces.{splice-text, splice-end}

@@ -1,14 +1,13 @@
--- One record undone or redone on lent bytes, and a group that is open: what undo, redo and cancel are made of.
+-- One record undone or redone on lent bytes: what undo, redo and cancel are made of.
 use Prim.Native.Nat.{ℕ}
 use mathlib.Core.Path.{_≡_}
-use mathlib.Core.Bool.{Bool, true, false, cond}
-use mathlib.Core.List.{List, _∷_, reverse}
+use mathlib.Core.Bool.{Bool, true, false}
+use mathlib.Core.List.{List, _∷_}
 use Rattle.unicode.specs.Repertoire.{catalogue}
 use Rattle.buffer.specs.Gap.{shut}
 use Rattle.checks.specs.declared.Line.{Line}
 use Rattle.journal.specs.Change.{Change, turn}
-use Rattle.journal.specs.Layout.{Format, Layout}
-use Rattle.journal.specs.Hold.{Listed}
+use Rattle.journal.specs.Layout.{Format}
 use Rattle.journal.specs.Groups as groups
 use Rattle.changeset.specs.declared.Log.{Log}
 use Rattle.changeset.specs.Calls.{logOf}
@@ -17,9 +16,9 @@ use Rattle.edit.specs.Plan.{State, answered}
 use Rattle.edit.specs.Calls.{Lent, lent, stateOf, Stored, Ready}
 use Rattle.retrace.specs.declared.Step.{Step}
 use Rattle.retrace.specs.Retrace.{Trail, Tried, done, stops, undoing, facing}
-use Rattle.retrace.specs.Records.{numbersOf, stepTo, Noted}
+use Rattle.retrace.specs.Records.{numbersOf, stepTo}
 use Rattle.undo.specs.declared.Passed.{Passed}
-use Rattle.undo.specs.Undo.{redoOut, opens, beginsDown}
+use Rattle.undo.specs.Undo.{redoOut}
 use lib.ListN.{length}
 
 -- a text and a cursor, and whether a record of a text was undone
@@ -74,18 +73,3 @@ PassesOne F l back b q t =
 pub record Redone (F : Format) (l : Lent) (r : EditAnswer) (t : List ℕ) : Type 0 where
   pub ready : Ready F (lent t (l .records) (l .texts) (r .line) (r .log))
   pub out : redoOut (length (l .text)) 1 (stateOf catalogue F l) ≡ answered (r .number) 0 0 (stateOf catalogue F (lent t (l .records) (l .texts) (r .line) (r .log)))
-
--- the Begins down to the mark m, where the group of that mark is open; else 0
-unfoldable pub openBegins : ℕ → List Change → ℕ
-openBegins m u = cond (opens m u) (beginsDown m u) 0
-
--- these bytes are the records of a list in some format, and their number and sizes are noted
-pub record NotedIn (rs : List ℕ) (count : ℕ) (sizes : List ℕ) : Type 0 where
-  pub format : Format
-  pub listed : Listed catalogue format rs
-  pub noted : Noted catalogue format rs count sizes
-
--- of every list that has these records, in every format that they are noted in
-abbrev pub OpenAt : List ℕ → ℕ → List ℕ → ℕ → ℕ → Type 0
-OpenAt rs count sizes m n =
-    (F : Format) → Noted catalogue F rs count sizes → (ts : List ℕ) (us : List Change) → Layout catalogue F rs ts us → n ≡ openBegins m (reverse us)

@@ -1,3 +1,4 @@
+use borrow.Author.Needs.{needs}
 use native.Mathlib.Omega.{arith}
 use mathlib.Core.Path.{_≡_, sym, _∙_}
 use mathlib.Core.Bool.{true}
@@ -10,7 +11,6 @@ use Rattle.unicode.proofs.Text.{text-valid}
 use Rattle.buffer.specs.Gap.{gapped}
 use Rattle.buffer.proofs.Gaps.{gapped-length}
 use Rattle.retrace.proofs.Exchanges.{ends-outside, cuts-first, cuts-last, too-long, stopped, exchanged}
-use borrow.Author.Needs.{needs}
 use Rattle.retrace.proofs.exchange.Statement.{statement}
 use Rattle.retrace.proofs.exchange.Tie as tie
 

@@ -1,10 +1,10 @@
+use borrow.Author.Needs.{needs}
 use native.Mathlib.Omega.{arith}
 use mathlib.Core.Path.{sym, _∙_}
 use lib.Seq.{length-take-le}
 use denote.Ref.{now}
 use Rattle.buffer.specs.Gap.{gapped}
 use Rattle.retrace.proofs.Edges.{edge, before-gap, behind-gap}
-use borrow.Author.Needs.{needs}
 use Rattle.retrace.proofs.is_edge.Statement.{statement}
 use Rattle.retrace.proofs.is_edge.Tie as tie
 

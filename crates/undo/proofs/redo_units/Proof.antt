@@ -1,3 +1,4 @@
+use borrow.Author.Needs.{needs}
 use native.Mathlib.Omega.{arith}
 use Prim.Native.Nat.{ℕ}
 use denote.Ref.{now}
@@ -5,7 +6,6 @@ use Rattle.records.specs.Formats.{asFormat}
 use Rattle.edit.specs.Plan.{State}
 use Rattle.undo.specs.Undo.{redoOut}
 use Rattle.undo.proofs.Gaps.{redo-answered, opened, used-there, closed}
-use borrow.Author.Needs.{needs}
 use Rattle.undo.proofs.redo_units.Statement.{statement}
 use Rattle.undo.proofs.redo_units.Tie as tie
 

@@ -1,3 +1,4 @@
+use borrow.Author.Needs.{needs}
 use native.Mathlib.Omega.{arith}
 use Prim.Native.Nat.{ℕ}
 use mathlib.Core.Path.{sym}
@@ -9,7 +10,6 @@ use Rattle.edit.specs.Plan.{State}
 use Rattle.edit.specs.Calls.{lent, logLent}
 use Rattle.undo.specs.Undo.{undoOut}
 use Rattle.undo.proofs.Gaps.{undo-answered, opened, used-there, closed}
-use borrow.Author.Needs.{needs}
 use Rattle.undo.proofs.undo_units.Statement.{statement}
 use Rattle.undo.proofs.undo_units.Tie as tie
 

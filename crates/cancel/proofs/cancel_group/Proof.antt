@@ -1,3 +1,4 @@
+use borrow.Author.Needs.{needs}
 use native.Mathlib.Omega.{arith}
 use Prim.Native.Nat.{ℕ}
 use mathlib.Core.Path.{sym, _∙_}
@@ -10,12 +11,11 @@ use Rattle.changeset.specs.Calls.{undos}
 use Rattle.changeset.proofs.Recorded.{lays, listed}
 use Rattle.edit.specs.Plan.{State}
 use Rattle.edit.specs.Calls.{lent, logLent, stateOf}
-use Rattle.undo.specs.Undo.{cancelOut}
-use Rattle.undo.proofs.Cancels.{not-open, is-open, its-begins, cancels-nothing}
-use Rattle.undo.proofs.Gaps.{cancel-answered, opened, used-there, closed}
-use borrow.Author.Needs.{needs}
-use Rattle.undo.proofs.cancel_group.Statement.{statement}
-use Rattle.undo.proofs.cancel_group.Tie as tie
+use Rattle.undo.proofs.Gaps.{opened, used-there, closed}
+use Rattle.cancel.specs.Cancel.{cancelOut}
+use Rattle.cancel.proofs.Cancels.{cancel-answered, not-open, is-open, its-begins, cancels-nothing}
+use Rattle.cancel.proofs.cancel_group.Statement.{statement}
+use Rattle.cancel.proofs.cancel_group.Tie as tie
 
 slice-aggregate-note-sizes : tie.Need-slice-aggregate-note-sizes
 slice-aggregate-note-sizes c = let s = c .before .before .before .before .before in let a = s .args in let h = s .pre .1 in

@@ -18,8 +18,8 @@ use Rattle.journal.proofs.Newest.{undo-reverse, undo-nil}
 use Rattle.journal.proofs.Undo.{records-size}
 use Rattle.journal.proofs.Walk.{reads-at, whole-at}
 use Rattle.retrace.specs.Records.{SizesOf, Noted}
-use Rattle.undo.specs.Undo.{opens, beginsDown}
-use Rattle.undo.specs.Steps.{openBegins}
+use Rattle.cancel.specs.Cancel.{opens, beginsDown}
+use Rattle.cancel.specs.Open.{openBegins}
 
 -- ---- with b Begins passed already
 abbrev pub openDown : ℕ → ℕ → List Change → ℕ

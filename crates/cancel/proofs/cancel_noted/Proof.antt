@@ -8,13 +8,13 @@ use Rattle.records.specs.Formats.{asFormat}
 use Rattle.edit.specs.Calls.{says, stateOf}
 use Rattle.retrace.specs.Records.{SizesOf}
 use Rattle.retrace.proofs.Faces.{shutBy}
 use Rattle.undo.specs.Steps.{lineOf, lentBy}
 use Rattle.undo.proofs.Seams.{newest-some}
 use Rattle.undo.proofs.Walks.{sizes-next}
-use Rattle.undo.proofs.Cancels.{Cancelling, mark-within, cancelling-first, cancel-more, cancel-stop, cancelling-next, cancel-ended}
 use Rattle.undo.proofs.Gaps.{shut-kept, plain-kept, within-there, edited-there}
-use Rattle.undo.proofs.cancel_noted.Statement.{statement}
-use Rattle.undo.proofs.cancel_noted.Tie as tie
+use Rattle.cancel.proofs.Cancels.{Cancelling, mark-within, cancelling-first, cancel-more, cancel-stop, cancelling-next, cancel-ended}
+use Rattle.cancel.proofs.cancel_noted.Statement.{statement}
+use Rattle.cancel.proofs.cancel_noted.Tie as tie
 
 abbrev Inv-loop : tie.InvT-loop
 Inv-loop f text₀ records texts sizes count mark begins s₀ g₀ left₀ text s g left =

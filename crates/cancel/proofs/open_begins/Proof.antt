@@ -7,9 +7,9 @@ use denote.Ref.{now}
 use Rattle.unicode.specs.Repertoire.{catalogue}
 use Rattle.journal.specs.Layout.{Format}
 use Rattle.retrace.specs.Records.{Noted}
-use Rattle.undo.proofs.Opens.{Downs, down-first, down-ended, last, down-end, down-found, down-on}
-use Rattle.undo.proofs.open_begins.Statement.{statement}
-use Rattle.undo.proofs.open_begins.Tie as tie
+use Rattle.cancel.proofs.Opens.{Downs, down-first, down-ended, last, down-end, down-found, down-on}
+use Rattle.cancel.proofs.open_begins.Statement.{statement}
+use Rattle.cancel.proofs.open_begins.Tie as tie
 
 abbrev Inv-loop : tie.InvT-loop
 Inv-loop records sizes count mark at₀ left₀ begins₀ at left begins =

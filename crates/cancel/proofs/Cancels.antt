@@ -21,11 +21,14 @@ use Rattle.edit.specs.declared.EditAnswer.{EditAnswer}
 use Rattle.edit.proofs.Answers.{length-kept, state-kept}
 use Rattle.retrace.specs.declared.Step.{Step}
 use Rattle.retrace.specs.Retrace.{Trail, done, stops, undoing}
 use Rattle.undo.specs.declared.Passed.{Passed}
-use Rattle.undo.specs.Undo.{Walked, opens, beginsDown, walkTo, numberOf, cancelOut, trailOf}
-use Rattle.undo.specs.Steps.{trailBy, lineOf, PassesOne, openBegins}
+use Rattle.undo.specs.Undo.{Walked, numberOf, trailOf}
+use Rattle.undo.specs.Steps.{trailBy, lineOf, PassesOne}
 use Rattle.undo.proofs.Seams.{held}
 use Rattle.undo.proofs.Walks.{walked, Come, come-first, outOf, answerBy, edited, ended, stopped-there, stop-ended, goes, come-next, from-there, to-there, trail-there, tried-there}
+use Rattle.undo.proofs.Gaps.{Answered, either-answered}
+use Rattle.cancel.specs.Cancel.{opens, walkTo, beginsDown, cancelled, cancelOut}
+use Rattle.cancel.specs.Open.{openBegins}
 
 -- ---- a group that is open
 -- its Begin is counted
@@ -84,6 +87,13 @@ module _ (C m : ℕ) (s : State) where
       → cancelOut C m s ≡ answered 0 0 0 (record { text = p .text; cursor = p .cursor; log = record { undo = u; redo = []; level = s .log .level - beginsDown m (s .log .undo) } })
   unfolding cancelOut
   cancel-done e u r p f = rw (e, f)
+
+-- it refuses nothing that the checks pass
+pub cancel-answered : (C m : ℕ) (s : State) → Answered (cancelOut C m s)
+unfolding cancelOut
+cancel-answered C m s =
+    let w = walkTo C m (s .log .undo) (s .log .redo) (trailOf s) in
+    either-answered (opens m (s .log .undo)) (cancelled w m s) (answered 1 0 0 s) (either-answered (eqb (w .stopped) 0) _ _ tt tt) tt
 
 -- nothing is done where the group is not open
 pub cancels-nothing : {F : Format} {l : Lent} (h : Ready F l) (m : ℕ) → opens m (stateOf catalogue F l .log .undo) ≡ false → {r : EditAnswer} → r ≡ says 1 (l .line) (l .log)

@@ -1,0 +1,3 @@
+pub mod Opens
+pub mod Cancels
+pub mod Examples

@@ -1,0 +1,2 @@
+pub mod Cancel
+pub mod Open
