@@ -106,9 +106,9 @@ pub fn print_scan(figures: &[Figure]) {
 /// The calls, each on logs of so many records.
 struct Whole {
     name: &'static str,
-    /// The bytes of the text, and the place of the records.
+    /// The bytes of the text, and the places of the records: two at one, the next two at the other.
     text: usize,
-    place: usize,
+    places: [usize; 2],
     /// Begin and End by turns, or an insertion and its deletion: when all are undone or redone, a text is as it was.
     groups: bool,
     count: usize,
@@ -116,14 +116,16 @@ struct Whole {
 
 fn wholes() -> Vec<Whole> {
     let rows = [
-        ("Begin and End by turns", 1_000, 0, true),
-        ("insert and delete, empty text", 0, 0, false),
-        ("insert and delete, end of 1,000", 1_000, 1_000, false),
-        ("insert and delete, start of 1,000", 1_000, 0, false),
+        ("Begin and End by turns", 1_000, [0, 0], true),
+        ("insert and delete, empty text", 0, [0, 0], false),
+        ("insert and delete, end of 1,000", 1_000, [1_000, 1_000], false),
+        ("insert and delete, start of 1,000", 1_000, [0, 0], false),
+        ("insert and delete, start of 4,080", 4_080, [0, 0], false),
+        ("insert and delete, both ends of 4,080", 4_080, [0, 4_080], false),
     ];
-    let sized = |(name, text, place, groups)| {
+    let sized = |(name, text, places, groups)| {
         let all = if groups { RECORDS } else { 6_500 };
-        [4, 2, 1].map(|part| Whole { name, text, place, groups, count: all / part / 2 * 2 })
+        [4, 2, 1].map(|part| Whole { name, text, places, groups, count: all / part / 2 * 2 })
     };
     rows.into_iter().flat_map(sized).collect()
 }
@@ -136,7 +138,7 @@ impl Whole {
             if self.groups {
                 list.push(1 + second, None, &[]);
             } else {
-                list.push(3 + second, Some(self.place), &["box 12, no"]);
+                list.push(3 + second, Some(self.places[i / 2 % 2]), &["box 12, no"]);
             }
         }
         list

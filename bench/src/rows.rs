@@ -125,6 +125,7 @@ fn more() -> Vec<Row> {
         Row::new("dedent 1, a log of 71 bytes of records a line", LoggedLines, Dedent, LINES, LINE_SIZES),
         Row::new("indent 1, lines of one newline", Newlines(Start), Indent, newlines, [512, 1_024, 2_047]),
         Row::new("undo of all units in one call, at the start", UnitsAtStart, UndoAll, UNITS, UNIT_SIZES),
+        Row::new("undo of all units in one call, at both ends", UnitsAtBothEnds, UndoAll, UNITS, UNIT_SIZES),
         Row::new("cancel of a group of words", Scene::Group, Cancel, "words", UNIT_SIZES).alone(),
     ]
 }

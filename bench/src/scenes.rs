@@ -42,6 +42,8 @@ pub enum Scene {
     Units,
     /// So many spaces typed at the start of a text three times as long, each a unit.
     UnitsAtStart,
+    /// The same by turns at the start and at the end.
+    UnitsAtBothEnds,
     /// A group of so many words typed, not ended.
     Group,
     /// A ring of 16 slots with so many bytes each.
@@ -121,6 +123,15 @@ pub fn scene<E: Editor>(scene: Scene, size: usize, session: &Session<E>) -> E {
             for _ in 0..size {
                 assert!(e.insert(' '));
                 e.set_cursor(0);
+            }
+            e
+        }
+        UnitsAtBothEnds => {
+            let text = text(ENGLISH, 3 * size);
+            let mut e: E = placed(&text, Start);
+            for typed in 0..size {
+                e.set_cursor(if typed % 2 == 0 { 0 } else { text.len() + typed });
+                assert!(e.insert(' '));
             }
             e
         }
