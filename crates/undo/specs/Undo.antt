@@ -1,6 +1,6 @@
 -- Undo and redo on values: undo.rs, undo and redo of Changeset, and document 01 for the stops 12 and 9. The redo list has every
 -- record turned round, so redo is undo with the two lists exchanged.
-use Prim.Native.Nat.{ℕ, zero, suc, _+_, _-_}
+use Prim.Native.Nat.{ℕ, zero, suc, _-_}
 use mathlib.Core.Bool.{Bool, true, false, cond, _&&_}
 use mathlib.Core.List.{List, [], _∷_}
 use lib.Dec.{eqb}
