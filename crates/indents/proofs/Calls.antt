@@ -21,9 +21,10 @@ use Rattle.edit.specs.Calls.{Lent, textOf, sizesOf, stateOf, says, own, checked
 use Rattle.edit.proofs.Made.{raw-part}
 use Rattle.edit.proofs.Answers.{refused-by, passed-by}
 use Rattle.edit.proofs.Tests.{split-within, own-passed}
-use Rattle.indents.specs.declared.Span.{Span}
-use Rattle.indents.specs.Indents.{split, splits, touched, linesIn, indentTests, indentPlan, indentOf}
-use Rattle.indents.proofs.Ranges.{Inside, touched-in}
+use Rattle.touched_lines.specs.declared.Span.{Span}
+use Rattle.touched_lines.specs.Touched.{split, splits, touched}
+use Rattle.indents.specs.Indents.{linesIn, indentTests, indentPlan, indentOf}
+use Rattle.touched_lines.proofs.Ranges.{Inside, touched-in}
 use Rattle.indents.proofs.Suits.{part-valid}
 
 -- ---- check 6, of a text and a cursor that pass 2, 4, 5 and 6

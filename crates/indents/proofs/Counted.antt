@@ -27,9 +27,10 @@ use Rattle.journal.specs.Undo.{undoRecords, undoTexts}
 use Rattle.journal.proofs.Undo.{records-size, texts-size}
 use Rattle.journal.proofs.Recording.{delete-none, delete-some, insert-some}
 use Rattle.edit.specs.Plan.{Piece, typed, pasted, cutting, swapping, part, splice, listAfter, tooLong}
-use Rattle.indents.specs.Indents.{spaces, indentPieces, indentLine, indentLines, leading, deleting, dedentLines, splits}
-use Rattle.indents.specs.Counts.{cutsIn, bytesIn, pieceOf}
-use Rattle.indents.proofs.White.{step-other, deleting-in, deleting-white}
+use Rattle.touched_lines.specs.Touched.{leading, deleting, splits}
+use Rattle.touched_lines.specs.Counts.{cutsIn, bytesIn}
+use Rattle.indents.specs.Indents.{spaces, indentPieces, indentLine, indentLines, dedentLines, pieceOf}
+use Rattle.touched_lines.proofs.White.{step-other, deleting-in, deleting-white}
 use Rattle.indents.proofs.Joined.{behind, Valid, part-is}
 use Rattle.indents.proofs.Suits.{piece-in, whole, dedent-next, dedent-place, dedent-before}
 

@@ -14,8 +14,8 @@ use Rattle.unicode.specs.Text.{isText}
 use Rattle.keymap.specs.declared.Movement.{Movement}
 use Rattle.edit.specs.Plan.{Piece, splice, AllSuit, textAfter}
 use Rattle.edit.proofs.Pieces.{splice-stays, splice-moves, splice-start}
-use Rattle.indents.specs.Indents.{spaces, indentPieces, indentLines, indentCursor, deleting, dedentLines, dedented, dedentCursor, splits, touched, linesIn, indentPlan}
-use Rattle.indents.specs.Counts.{pieceOf, indented}
+use Rattle.touched_lines.specs.Touched.{deleting, splits, touched}
+use Rattle.indents.specs.Indents.{spaces, indentPieces, indentLines, indentCursor, dedentLines, dedented, dedentCursor, linesIn, indentPlan, pieceOf, indented}
 use Rattle.indents.proofs.Suits.{spaces-valid, piece-in, indent-suits}
 
 -- a place of a text

@@ -12,10 +12,10 @@ use Rattle.utf8.specs.Chars.{valid, boundary}
 use Rattle.utf8.proofs.Append.{valid-append}
 use Rattle.lines.specs.Lines.{newline, endOfLine}
 use Rattle.edit.specs.Plan.{splice}
-use Rattle.indents.specs.Indents.{onFirst, split}
+use Rattle.touched_lines.specs.Touched.{onFirst, split}
 use borrow.Author.Tests.{eqb-true}
-use Rattle.indents.proofs.Newlines.{line-last, line-more, split-some, first-length}
-use Rattle.indents.proofs.Walks.{line-in, line-valid, rest-valid}
+use Rattle.touched_lines.proofs.Newlines.{line-last, line-more, split-some, first-length}
+use Rattle.touched_lines.proofs.Walks.{line-in, line-valid, rest-valid}
 
 -- ---- the lines behind the first one, each behind its \n
 abbrev pub behind : List (List ℕ) → List ℕ

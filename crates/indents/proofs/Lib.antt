@@ -1,7 +1,3 @@
-pub mod Newlines
-pub mod White
-pub mod Ranges
-pub mod Walks
 pub mod Joined
 pub mod Suits
 pub mod Cursors

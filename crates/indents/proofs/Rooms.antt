@@ -23,9 +23,10 @@ use Rattle.edit.specs.Calls.{Lent, logLent, textOf, sizesOf, stateOf, Ready}
 use Rattle.edit.proofs.Once.{part-between}
 use Rattle.edit.proofs.Made.{raw-part}
 use Rattle.edit.proofs.Steps.{room-is}
-use Rattle.indents.specs.Indents.{split, indentLines, deleting, dedentLines, splits}
-use Rattle.indents.specs.Counts.{cutsIn, bytesIn}
-use Rattle.indents.proofs.Newlines.{split-some}
+use Rattle.touched_lines.specs.Touched.{split, deleting, splits}
+use Rattle.touched_lines.specs.Counts.{cutsIn, bytesIn}
+use Rattle.indents.specs.Indents.{indentLines, dedentLines}
+use Rattle.touched_lines.proofs.Newlines.{split-some}
 use Rattle.indents.proofs.Joined.{joined, split-joined, split-count, Valid, split-valid}
 use Rattle.indents.proofs.Suits.{opened, part-valid, front-length, dedent-all, indent-all}
 use Rattle.indents.proofs.Counted.{long-is, puts-records, lines-pasting, lines-total, lines-count, dedent-short, dedent-records, white-other}

@@ -21,9 +21,9 @@ use Rattle.edit.specs.Plan.{part, splice, Piece, pasted, once, Plan, AllSuit, t
 use Rattle.edit.specs.Calls.{Lent, lent, textOf, sizesOf, stateOf, Edited, Ready}
 use Rattle.edit.proofs.Splice.{splice-length}
 use Rattle.edit.proofs.Left.{Left, begins, next-suits, goes-on, ends, text-now}
-use Rattle.indents.specs.Indents.{split, spaces, indentPieces, indentLines, indentCursor, indentPlan}
-use Rattle.indents.specs.Counts.{pieceOf, indented}
-use Rattle.indents.proofs.Newlines.{split-some}
+use Rattle.touched_lines.specs.Touched.{split}
+use Rattle.indents.specs.Indents.{spaces, indentPieces, indentLines, indentCursor, indentPlan, pieceOf, indented}
+use Rattle.touched_lines.proofs.Newlines.{split-some}
 use Rattle.indents.proofs.Suits.{piece-in, spaces-text}
 use Rattle.indents.proofs.Turns.{drop-splice, first-in, lines-last, lines-more, first-width}
 

@@ -20,9 +20,10 @@ use Rattle.edit.specs.Calls.{Lent, lent, textOf, sizesOf, stateOf, Edited, Read
 use Rattle.edit.proofs.Made.{raw-part}
 use Rattle.edit.proofs.Splice.{splice-length}
 use Rattle.edit.proofs.Left.{Left, begins, next-suits, goes-on, ends, text-now}
-use Rattle.indents.specs.Indents.{split, deleting, dedentLines, dedented, dedentCursor, indentPlan}
-use Rattle.indents.proofs.White.{deleting-in}
-use Rattle.indents.proofs.Newlines.{line-last, line-more}
+use Rattle.touched_lines.specs.Touched.{split, deleting}
+use Rattle.indents.specs.Indents.{dedentLines, dedented, dedentCursor, indentPlan}
+use Rattle.touched_lines.proofs.White.{deleting-in}
+use Rattle.touched_lines.proofs.Newlines.{line-last, line-more}
 
 -- ---- what stands behind a part that is replaced
 pub drop-splice : (t : List ℕ) (a b : ℕ) (s : List ℕ) (j : ℕ) → a ≤ length t → drop (a + length s + j) (splice t a b s) ≡ drop (b + j) t

@@ -1,2 +1,1 @@
 pub mod Indents
-pub mod Counts

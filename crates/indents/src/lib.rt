@@ -5,15 +5,15 @@ ghost use mathlib.Core.Bool.{true, false, cond, _&&_};
 ghost use Prim.Native.Nat.{_+_, _*_, _≤_, _<_};
 ghost use lib.Dec.{leb};
 ghost use lib.ListN.{length, take};
-ghost use Rattle.utf8.specs.Chars.{valid, boundary, In};
+ghost use Rattle.utf8.specs.Chars.{In};
 ghost use Rattle.unicode.specs.Repertoire.{catalogue};
 ghost use Rattle.checks.specs.Checks.{refusal as Checks·refusal, both, lineTests, ownTests};
 ghost use Rattle.journal.specs.Layout.{narrow};
 ghost use Rattle.journal.specs.Undo.{fits};
 ghost use Rattle.edit.specs.Plan.{part, AllSuit, tooLong, listAfter, edited};
 ghost use Rattle.edit.specs.Calls.{lent, sizesOf, stateOf, Edited, Ready};
-ghost use Rattle.indents.specs.Indents.{orCursor, rangeOf, lastNewline, touched as Indents·touched, split, deleting as Indents·deleting, splits as Indents·splits, dedented as Indents·dedented, indentLines, dedentLines, indentPlan, linesIn, indentOf, indentCall};
-ghost use Rattle.indents.specs.Counts.{cutsIn, bytesIn, pieceOf, indented as Counts·indented};
+ghost use Rattle.touched_lines.specs.Touched.{touched as Touched·touched, split, splits as Touched·splits};
+ghost use Rattle.indents.specs.Indents.{dedented as Indents·dedented, indentLines, dedentLines, indentPlan, linesIn, indentOf, indentCall, pieceOf, indented as Indents·indented};
 use changeset::Log;
 use checks::Line;
 use copies::is_foreign;
@@ -26,179 +26,13 @@ use edit::says;
 use keymap::Movement;
 use keymap::MovementCode;
 use keymap::RepeatCount;
-use lines::Range;
 use lines::end_of_line;
-use lines::n_lines_down;
-use lines::n_lines_up;
-use lines::start_of_line;
-use motion::or_stay;
 use records::NARROW;
-use unicode::is_white;
-use utf8::Decoded;
-use utf8::decode_at;
-use utf8::is_boundary;
-use words::next_word_pos;
-use words::prev_word_pos;
-
-// Two places of a text.
-pub struct Span {
-    pub from: usize,
-    pub to: usize,
-}
-
-// At the last \n at or after a place, the text's end where there is none.
-fn last_newline(s: &[u8], pos: usize) -> usize
-    requires { ⌜ pos ≤ length (now s) ⌝ }
-    ensures { λ r. ⌜ r ≡ lastNewline (now (s .entry)) pos ⌝ }
-{
-    let mut last = s.len();
-    let mut i = pos;
-    while i < s.len() {
-        if s[i] == 0x0A {
-            last = i;
-        }
-        i += 1;
-    }
-    last
-}
-
-// A range, the cursor twice where it is nowhere.
-fn or_cursor(pos: usize, r: Range) -> Span
-    ensures { λ r0. ⌜ r0 ≡ orCursor pos r ⌝ }
-{
-    match r {
-        Range::Places(a, b) => Span { from: a, to: b },
-        Range::Nowhere => Span { from: pos, to: pos },
-    }
-}
-
-// The range of a movement.
-fn range_of(s: &[u8], pos: usize, m: Movement) -> Span
-    requires { ⌜ (valid (now s) ≡ true) × (boundary (now s) pos ≡ true) × (pos ≤ length (now s)) ⌝ }
-    ensures { λ r. ⌜ r ≡ rangeOf catalogue (now (s .entry)) pos m ⌝ }
-{
-    match m {
-        Movement::WholeLine => Span { from: pos, to: pos },
-        Movement::BeginningOfLine => Span { from: pos, to: pos },
-        Movement::EndOfLine => Span { from: pos, to: pos },
-        Movement::BackwardWord(n, w) => Span {
-            from: or_stay(pos, prev_word_pos(s, pos, w, n)),
-            to: pos,
-        },
-        Movement::ForwardWord(n, at, w) => Span {
-            from: pos,
-            to: or_stay(pos, next_word_pos(s, pos, at, w, n)),
-        },
-        Movement::ViCharSearch(_, _) => Span { from: pos, to: pos },
-        Movement::ViFirstPrint => Span { from: pos, to: pos },
-        Movement::BackwardChar(_) => Span { from: pos, to: pos },
-        Movement::ForwardChar(_) => Span { from: pos, to: pos },
-        Movement::LineUp(n) => or_cursor(pos, n_lines_up(s, pos, n)),
-        Movement::LineDown(n) => or_cursor(pos, n_lines_down(s, pos, n)),
-        Movement::WholeBuffer => Span {
-            from: 0,
-            to: s.len(),
-        },
-        Movement::BeginningOfBuffer => Span { from: 0, to: pos },
-        Movement::EndOfBuffer => Span {
-            from: pos,
-            to: s.len(),
-        },
-    }
-}
-
-// The lines that a movement touches: where they begin and end.
-fn touched(s: &[u8], pos: usize, m: Movement) -> Span
-    requires { ⌜ (valid (now s) ≡ true) × (boundary (now s) pos ≡ true) × (pos ≤ length (now s)) ⌝ }
-    ensures { λ r. ⌜ r ≡ Indents·touched catalogue (now (s .entry)) pos m ⌝ }
-{
-    let r = range_of(s, pos, m);
-    let from = r.from;
-    let to = r.to;
-    Span {
-        from: start_of_line(s, from),
-        to: last_newline(s, to),
-    }
-}
-
-// The bytes that a dedent by m cuts from a line.
-fn deleting(x: &[u8], m: usize) -> usize
-    ensures { λ r. ⌜ (r ≡ Indents·deleting catalogue m (now (x .entry))) × (r ≤ length (now (x .entry))) ⌝ }
-{
-    let mut i = 0;
-    while i < m {
-        let d = decode_at(x, i);
-        let Decoded::Char { cp, len } = d else {
-            return i;
-        };
-        if !is_white(cp) {
-            return i;
-        }
-        i += len;
-    }
-    m
-}
-
-// Check 6: does a dedent's cut of one of a part's lines end inside a character?
-fn splits(p: &[u8], m: usize) -> bool
-    requires { ⌜ valid (now p) ≡ true ⌝ }
-    ensures { λ r. ⌜ r ≡ Indents·splits catalogue m (split (now (p .entry))) ⌝ }
-{
-    let mut i = 0;
-    loop {
-        let e = end_of_line(p, i);
-        let d = deleting(&p[i..e], m);
-        if !is_boundary(&p[i..e], d) {
-            return true;
-        }
-        if e == p.len() {
-            return false;
-        }
-        i = e + 1;
-    }
-}
-
-// How many lines a part has.
-fn count_lines(p: &[u8]) -> usize
-    ensures { λ r. ⌜ r ≡ length (split (now (p .entry))) ⌝ }
-{
-    let mut n = 1;
-    let mut i = 0;
-    while i < p.len() {
-        if p[i] == 0x0A {
-            n += 1;
-        }
-        i += 1;
-    }
-    n
-}
-
-// What is recorded: how many records, and the bytes of their texts.
-struct Counts {
-    records: usize,
-    bytes: usize,
-}
-
-// What a dedent of a part's lines by m records.
-fn count_cuts(p: &[u8], m: usize) -> Counts
-    ensures { λ r. ⌜ (r .records ≡ cutsIn catalogue m (split (now (p .entry)))) × (r .bytes ≡ bytesIn catalogue m (split (now (p .entry)))) ⌝ }
-{
-    let mut records = 0;
-    let mut bytes = 0;
-    let mut i = 0;
-    loop {
-        let e = end_of_line(p, i);
-        let d = deleting(&p[i..e], m);
-        if 0 < d {
-            records += 1;
-        }
-        bytes += d;
-        if e == p.len() {
-            return Counts { records, bytes };
-        }
-        i = e + 1;
-    }
-}
+use touched_lines::count_cuts;
+use touched_lines::count_lines;
+use touched_lines::deleting;
+use touched_lines::splits;
+use touched_lines::touched;
 
 // Is there room in the log for n more records of 5 bytes, with so many bytes of text?
 fn has_room(records: &[u8], texts: &[u8], log: Log, n: usize, bytes: usize) -> bool
@@ -271,7 +105,7 @@ fn dedent_lines(
 // Where a cursor goes as a line that begins at a place is indented by m.
 fn indented(at: usize, m: usize, pos: usize) -> usize
     requires { ⌜ pos + m < 65536 ⌝ }
-    ensures { λ r. ⌜ r ≡ Counts·indented at m pos ⌝ }
+    ensures { λ r. ⌜ r ≡ Indents·indented at m pos ⌝ }
 {
     if pos < at { pos } else { pos + m }
 }
@@ -363,7 +197,7 @@ fn dedent_range(
 ) -> EditAnswer
     requires { ⌜ Ready narrow (lent (now text) (now records) (now texts) line log) ⌝ }
     requires { ⌜ In (take (line .len) (now text)) from to ⌝ }
-    requires { ⌜ Indents·splits catalogue m (split (part (take (line .len) (now text)) from to)) ≡ false ⌝ }
+    requires { ⌜ Touched·splits catalogue m (split (part (take (line .len) (now text)) from to)) ≡ false ⌝ }
     ensures { λ r. ⌜ Edited narrow (lent (now (text .entry)) (now (records .entry)) (now (texts .entry)) line log)
         (edited catalogue narrow (sizesOf (lent (now (text .entry)) (now (records .entry)) (now (texts .entry)) line log)) (length (now (text .entry)))
         (indentPlan catalogue m true (line .cursor) from (split (part (take (line .len) (now (text .entry))) from to)))
@@ -410,7 +244,7 @@ fn indent_range(
 // Check 6: does a cut of the dedent end inside a character? It is asked of a text and a cursor that pass the checks before it.
 fn is_split(text: &[u8], line: Line, m: Movement, amount: usize, dedent: bool) -> bool
     ensures { λ r. ⌜ (Checks·refusal (both (lineTests catalogue (now (text .entry)) line) (ownTests false false false)) ≡ 0
-        → r ≡ cond dedent (Indents·splits catalogue amount (linesIn (take (line .len) (now (text .entry))) (Indents·touched catalogue (take (line .len) (now (text .entry))) (line .cursor) m))) false) ⌝ }
+        → r ≡ cond dedent (Touched·splits catalogue amount (linesIn (take (line .len) (now (text .entry))) (Touched·touched catalogue (take (line .len) (now (text .entry))) (line .cursor) m))) false) ⌝ }
 {
     if !dedent {
         return false;

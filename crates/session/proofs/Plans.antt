@@ -38,7 +38,8 @@ use Rattle.transpose_chars.proofs.Plans.{transpose-chars-suits}
 use Rattle.edit_word.proofs.Plans.{edit-word-suits}
 use Rattle.transpose_words.specs.TransposeWords.{transposeWordsPlan}
 use Rattle.transpose_words.proofs.Plans.{transpose-words-suits}
-use Rattle.indents.specs.Indents.{indentPlan, indentTests, touched, linesIn, splits, indentOf, indentBy}
+use Rattle.touched_lines.specs.Touched.{touched, splits}
+use Rattle.indents.specs.Indents.{indentPlan, indentTests, linesIn, indentOf, indentBy}
 use Rattle.indents.proofs.Suits.{indent-suits}
 use Rattle.indents.proofs.Cursors.{plan-cursor}
 use Rattle.session.specs.Calls.{EditCall, editOutcome}

@@ -6,11 +6,11 @@ use borrow.Author.Tests.{not-true, not-false}
 use Rattle.utf8.specs.Chars.{chars}
 use Rattle.utf8.specs.Answer.{asFirst}
 use Rattle.unicode.specs.Repertoire.{catalogue}
-use Rattle.indents.specs.Indents.{leading}
-use Rattle.indents.proofs.White.{white-on, stops-other, stops-bad, stops-enough}
+use Rattle.touched_lines.specs.Touched.{leading}
+use Rattle.touched_lines.proofs.White.{white-on, stops-other, stops-bad, stops-enough}
 use borrow.Author.Needs.{needs}
-use Rattle.indents.proofs.deleting.Statement.{statement}
-use Rattle.indents.proofs.deleting.Tie as tie
+use Rattle.touched_lines.proofs.deleting.Statement.{statement}
+use Rattle.touched_lines.proofs.deleting.Tie as tie
 
 abbrev Inv-loop : tie.InvT-loop
 Inv-loop x m i₀ i = (i ≤ length x) × (i + leading catalogue (chars (drop i x)) ≡ leading catalogue (chars x))

@@ -6,11 +6,11 @@ use lib.ListN.{length, drop}
 use borrow.Author.Tests.{not-true, not-false}
 use Rattle.utf8.specs.Chars.{valid}
 use Rattle.unicode.specs.Repertoire.{catalogue}
-use Rattle.indents.specs.Indents.{split, splits}
-use Rattle.indents.proofs.Walks.{line-in, line-valid, rest-valid, splits-here, splits-last, splits-more}
+use Rattle.touched_lines.specs.Touched.{split, splits}
+use Rattle.touched_lines.proofs.Walks.{line-in, line-valid, rest-valid, splits-here, splits-last, splits-more}
 use borrow.Author.Needs.{needs}
-use Rattle.indents.proofs.splits.Statement.{statement}
-use Rattle.indents.proofs.splits.Tie as tie
+use Rattle.touched_lines.proofs.splits.Statement.{statement}
+use Rattle.touched_lines.proofs.splits.Tie as tie
 
 abbrev Inv-loop : tie.InvT-loop
 Inv-loop p m i₀ i = (i ≤ length p) × (valid (drop i p) ≡ true) × (splits catalogue m (split p) ≡ splits catalogue m (split (drop i p)))

@@ -17,9 +17,9 @@ use Rattle.utf8.proofs.Boundary.{boundary-test}
 use Rattle.unicode.specs.Repertoire.{Repertoire}
 use Rattle.lines.specs.Lines.{endOfLine}
 use Rattle.lines.proofs.Lines.{end-le, end-newline}
-use Rattle.indents.specs.Indents.{split, deleting, splits}
-use Rattle.indents.specs.Counts.{cutsIn, bytesIn}
-use Rattle.indents.proofs.Newlines.{line-last, line-more}
+use Rattle.touched_lines.specs.Touched.{split, deleting, splits}
+use Rattle.touched_lines.specs.Counts.{cutsIn, bytesIn}
+use Rattle.touched_lines.proofs.Newlines.{line-last, line-more}
 
 pub newline-valid : valid (0x0A ∷ []) ≡ true
 unfolding validFrom first firstOf oneByte

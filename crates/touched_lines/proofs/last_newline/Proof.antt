@@ -4,11 +4,11 @@ use mathlib.Core.Logic.{⊎-elim}
 use native.Mathlib.Omega.{arith}
 use lib.ListN.{length}
 use Rattle.lists.proofs.Parts.{getD-any}
-use Rattle.indents.specs.Indents.{lastNewline}
-use Rattle.indents.proofs.Newlines.{lastFrom, last-all, last-here, last-on, last-end}
+use Rattle.touched_lines.specs.Touched.{lastNewline}
+use Rattle.touched_lines.proofs.Newlines.{lastFrom, last-all, last-here, last-on, last-end}
 use borrow.Author.Needs.{needs}
-use Rattle.indents.proofs.last_newline.Statement.{statement}
-use Rattle.indents.proofs.last_newline.Tie as tie
+use Rattle.touched_lines.proofs.last_newline.Statement.{statement}
+use Rattle.touched_lines.proofs.last_newline.Tie as tie
 
 abbrev Inv-loop : tie.InvT-loop
 Inv-loop s pos last₀ i₀ last i = (pos ≤ i) × (i ≤ length s) × (last ≤ length s) × (lastNewline s pos ≡ lastFrom s i last)

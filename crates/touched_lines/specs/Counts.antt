@@ -1,10 +1,10 @@
--- What indenting and dedenting record: how many records, and the bytes of their texts.
+-- What a dedent of some lines cuts, counted: that many records, and the bytes of their texts.
 use Prim.Native.Nat.{ℕ, _+_}
 use mathlib.Core.Bool.{cond}
 use mathlib.Core.List.{List, [], _∷_}
 use lib.Dec.{ltb}
 use Rattle.unicode.specs.Repertoire.{Repertoire}
-use Rattle.indents.specs.Indents.{deleting}
+use Rattle.touched_lines.specs.Touched.{deleting}
 
 -- the lines of which a dedent by m cuts something
 unfoldable pub cutsIn : Repertoire → ℕ → List (List ℕ) → ℕ
@@ -15,11 +15,3 @@ cutsIn R m (x ∷ xs) = cond (ltb 0 (deleting R m x)) 1 0 + cutsIn R m xs
 unfoldable pub bytesIn : Repertoire → ℕ → List (List ℕ) → ℕ
 bytesIn R m [] = 0
 bytesIn R m (x ∷ xs) = deleting R m x + bytesIn R m xs
-
--- the cursor as the line at a place is indented by m
-abbrev pub indented : ℕ → ℕ → ℕ → ℕ
-indented at m pos = cond (ltb pos at) pos (pos + m)
-
--- the spaces of the next piece, where m are left
-abbrev pub pieceOf : ℕ → ℕ
-pieceOf m = cond (ltb m 32) m 32

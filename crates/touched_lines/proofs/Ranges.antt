@@ -21,9 +21,9 @@ use Rattle.lines.specs.declared.Range.the-variants.{Places, Nowhere}
 use Rattle.lines.proofs.Places.{start-of-line-place, lines-up-place, lines-down-place}
 use Rattle.copies.specs.Copy.{upTo, backTo}
 use Rattle.copies.proofs.Places.{no-more, up-in, back-in}
-use Rattle.indents.specs.declared.Span.{Span}
-use Rattle.indents.specs.Indents.{span, orCursor, rangeOf, lastNewline, touched}
-use Rattle.indents.proofs.Newlines.{last-in, last-place}
+use Rattle.touched_lines.specs.declared.Span.{Span}
+use Rattle.touched_lines.specs.Touched.{span, orCursor, rangeOf, lastNewline, touched}
+use Rattle.touched_lines.proofs.Newlines.{last-in, last-place}
 
 -- ---- the range of a word, by the place that is found
 found-back : (pos : ℕ) (f : Found) → span (orStay pos f) pos ≡ orCursor pos (backTo pos 0 f)

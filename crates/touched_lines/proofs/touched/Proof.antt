@@ -1,10 +1,10 @@
 use native.Mathlib.Omega.{arith}
 use denote.Ref.{now}
 use Rattle.unicode.specs.Repertoire.{catalogue}
-use Rattle.indents.proofs.Ranges.{touched-as, range-as}
+use Rattle.touched_lines.proofs.Ranges.{touched-as, range-as}
 use borrow.Author.Needs.{needs}
-use Rattle.indents.proofs.touched.Statement.{statement}
-use Rattle.indents.proofs.touched.Tie as tie
+use Rattle.touched_lines.proofs.touched.Statement.{statement}
+use Rattle.touched_lines.proofs.touched.Tie as tie
 
 range-of-requires : tie.Need-range-of-requires
 range-of-requires c κs = search needs

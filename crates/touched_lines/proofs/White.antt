@@ -14,7 +14,7 @@ use Rattle.utf8.specs.Chars.{chars}
 use Rattle.utf8.proofs.Chars.{first-within, chars-step, chars-bad}
 use Rattle.utf8.proofs.Append.{by-chars}
 use Rattle.unicode.specs.Repertoire.{Repertoire}
-use Rattle.indents.specs.Indents.{leading, deleting}
+use Rattle.touched_lines.specs.Touched.{leading, deleting}
 
 module _ (R : Repertoire) where
   step-white : (t : List ℕ) (c n : ℕ) → first t ≡ char c n → R .white c ≡ true → leading R (chars t) ≡ n + leading R (chars (drop n t))

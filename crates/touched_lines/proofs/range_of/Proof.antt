@@ -1,11 +1,11 @@
 use mathlib.Core.Path.{sym, ap, _∙_}
 use denote.Ref.{now}
 use Rattle.unicode.specs.Repertoire.{catalogue}
-use Rattle.indents.specs.Indents.{orCursor, rangeOf}
-use Rattle.indents.proofs.Ranges.{word-back, word-on}
+use Rattle.touched_lines.specs.Touched.{orCursor, rangeOf}
+use Rattle.touched_lines.proofs.Ranges.{word-back, word-on}
 use borrow.Author.Needs.{needs}
-use Rattle.indents.proofs.range_of.Statement.{statement}
-use Rattle.indents.proofs.range_of.Tie as tie
+use Rattle.touched_lines.proofs.range_of.Statement.{statement}
+use Rattle.touched_lines.proofs.range_of.Tie as tie
 
 enum-told : tie.Need-enum-told
 enum-told c = search needs

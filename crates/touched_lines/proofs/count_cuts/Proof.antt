@@ -4,12 +4,12 @@ use mathlib.Core.Logic.{⊎-elim}
 use native.Mathlib.Omega.{arith}
 use lib.ListN.{length, drop}
 use Rattle.unicode.specs.Repertoire.{catalogue}
-use Rattle.indents.specs.Indents.{split}
-use Rattle.indents.specs.Counts.{cutsIn, bytesIn}
-use Rattle.indents.proofs.Walks.{line-in, line-width, one-some, one-none, cuts-last, cuts-more}
+use Rattle.touched_lines.specs.Touched.{split}
+use Rattle.touched_lines.specs.Counts.{cutsIn, bytesIn}
+use Rattle.touched_lines.proofs.Walks.{line-in, line-width, one-some, one-none, cuts-last, cuts-more}
 use borrow.Author.Needs.{needs}
-use Rattle.indents.proofs.count_cuts.Statement.{statement}
-use Rattle.indents.proofs.count_cuts.Tie as tie
+use Rattle.touched_lines.proofs.count_cuts.Statement.{statement}
+use Rattle.touched_lines.proofs.count_cuts.Tie as tie
 
 abbrev Inv-loop : tie.InvT-loop
 Inv-loop p m records₀ bytes₀ i₀ records bytes i = (i ≤ length p) × (records ≤ i) × (bytes ≤ i) × (records + cutsIn catalogue m (split (drop i p)) ≡ cutsIn catalogue m (split p)) × (bytes + bytesIn catalogue m (split (drop i p)) ≡ bytesIn catalogue m (split p))

@@ -1,8 +1,8 @@
 use mathlib.Core.Path.{sym, ap}
-use Rattle.indents.specs.Indents.{orCursor}
+use Rattle.touched_lines.specs.Touched.{orCursor}
 use borrow.Author.Needs.{needs}
-use Rattle.indents.proofs.or_cursor.Statement.{statement}
-use Rattle.indents.proofs.or_cursor.Tie as tie
+use Rattle.touched_lines.proofs.or_cursor.Statement.{statement}
+use Rattle.touched_lines.proofs.or_cursor.Tie as tie
 
 enum-known-r : tie.Need-enum-known-r
 enum-known-r c = search needs

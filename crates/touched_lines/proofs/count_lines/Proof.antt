@@ -4,11 +4,11 @@ use mathlib.Core.Logic.{⊎-elim}
 use native.Mathlib.Omega.{arith}
 use lib.ListN.{length, drop}
 use Rattle.lists.proofs.Parts.{getD-any}
-use Rattle.indents.specs.Indents.{split}
-use Rattle.indents.proofs.Newlines.{count-newline, count-other, count-end}
+use Rattle.touched_lines.specs.Touched.{split}
+use Rattle.touched_lines.proofs.Newlines.{count-newline, count-other, count-end}
 use borrow.Author.Needs.{needs}
-use Rattle.indents.proofs.count_lines.Statement.{statement}
-use Rattle.indents.proofs.count_lines.Tie as tie
+use Rattle.touched_lines.proofs.count_lines.Statement.{statement}
+use Rattle.touched_lines.proofs.count_lines.Tie as tie
 
 abbrev Inv-loop : tie.InvT-loop
 Inv-loop p n₀ i₀ n i = (i ≤ length p) × (n ≤ i + 1) × (n + length (split (drop i p)) ≡ 1 + length (split p))

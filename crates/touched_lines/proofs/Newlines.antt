@@ -14,7 +14,7 @@ use Rattle.utf8.specs.Chars.{valid, boundary}
 use Rattle.utf8.proofs.Forms.{within-below}
 use Rattle.utf8.proofs.Boundary.{boundary-test, boundary-end}
 use Rattle.lines.specs.Lines.{newline, beforeNewline, endOfLine}
-use Rattle.indents.specs.Indents.{hasAny, beforeLast, lastNewline, onFirst, split}
+use Rattle.touched_lines.specs.Touched.{hasAny, beforeLast, lastNewline, onFirst, split}
 
 -- ---- the last \n
 none-last : (x : List ℕ) → hasAny x ≡ false → beforeLast x ≡ length x

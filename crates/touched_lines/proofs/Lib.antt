@@ -1,0 +1,4 @@
+pub mod Newlines
+pub mod White
+pub mod Ranges
+pub mod Walks

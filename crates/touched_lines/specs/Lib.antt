@@ -1,0 +1,2 @@
+pub mod Touched
+pub mod Counts

@@ -1,0 +1,183 @@
+// The lines that a movement touches, and the white space that they begin with: what indent of line_buffer.rs finds in a text
+// before it changes a byte.
+ghost use mathlib.Core.Path.{_≡_};
+ghost use mathlib.Core.Bool.{true};
+ghost use Prim.Native.Nat.{_≤_};
+ghost use lib.ListN.{length};
+ghost use Rattle.utf8.specs.Chars.{valid, boundary};
+ghost use Rattle.unicode.specs.Repertoire.{catalogue};
+ghost use Rattle.touched_lines.specs.Touched.{orCursor, rangeOf, lastNewline, touched as Touched·touched, split, deleting as Touched·deleting, splits as Touched·splits};
+ghost use Rattle.touched_lines.specs.Counts.{cutsIn, bytesIn};
+use keymap::Movement;
+use lines::Range;
+use lines::end_of_line;
+use lines::n_lines_down;
+use lines::n_lines_up;
+use lines::start_of_line;
+use motion::or_stay;
+use unicode::is_white;
+use utf8::Decoded;
+use utf8::decode_at;
+use utf8::is_boundary;
+use words::next_word_pos;
+use words::prev_word_pos;
+
+// Two places of a text.
+pub struct Span {
+    pub from: usize,
+    pub to: usize,
+}
+
+// At the last \n at or after a place, the text's end where there is none.
+fn last_newline(s: &[u8], pos: usize) -> usize
+    requires { ⌜ pos ≤ length (now s) ⌝ }
+    ensures { λ r. ⌜ r ≡ lastNewline (now (s .entry)) pos ⌝ }
+{
+    let mut last = s.len();
+    let mut i = pos;
+    while i < s.len() {
+        if s[i] == 0x0A {
+            last = i;
+        }
+        i += 1;
+    }
+    last
+}
+
+// A range, the cursor twice where it is nowhere.
+fn or_cursor(pos: usize, r: Range) -> Span
+    ensures { λ r0. ⌜ r0 ≡ orCursor pos r ⌝ }
+{
+    match r {
+        Range::Places(a, b) => Span { from: a, to: b },
+        Range::Nowhere => Span { from: pos, to: pos },
+    }
+}
+
+// The range of a movement.
+fn range_of(s: &[u8], pos: usize, m: Movement) -> Span
+    requires { ⌜ (valid (now s) ≡ true) × (boundary (now s) pos ≡ true) × (pos ≤ length (now s)) ⌝ }
+    ensures { λ r. ⌜ r ≡ rangeOf catalogue (now (s .entry)) pos m ⌝ }
+{
+    match m {
+        Movement::WholeLine => Span { from: pos, to: pos },
+        Movement::BeginningOfLine => Span { from: pos, to: pos },
+        Movement::EndOfLine => Span { from: pos, to: pos },
+        Movement::BackwardWord(n, w) => Span {
+            from: or_stay(pos, prev_word_pos(s, pos, w, n)),
+            to: pos,
+        },
+        Movement::ForwardWord(n, at, w) => Span {
+            from: pos,
+            to: or_stay(pos, next_word_pos(s, pos, at, w, n)),
+        },
+        Movement::ViCharSearch(_, _) => Span { from: pos, to: pos },
+        Movement::ViFirstPrint => Span { from: pos, to: pos },
+        Movement::BackwardChar(_) => Span { from: pos, to: pos },
+        Movement::ForwardChar(_) => Span { from: pos, to: pos },
+        Movement::LineUp(n) => or_cursor(pos, n_lines_up(s, pos, n)),
+        Movement::LineDown(n) => or_cursor(pos, n_lines_down(s, pos, n)),
+        Movement::WholeBuffer => Span {
+            from: 0,
+            to: s.len(),
+        },
+        Movement::BeginningOfBuffer => Span { from: 0, to: pos },
+        Movement::EndOfBuffer => Span {
+            from: pos,
+            to: s.len(),
+        },
+    }
+}
+
+// The lines that a movement touches: where they begin and end.
+pub fn touched(s: &[u8], pos: usize, m: Movement) -> Span
+    requires { ⌜ (valid (now s) ≡ true) × (boundary (now s) pos ≡ true) × (pos ≤ length (now s)) ⌝ }
+    ensures { λ r. ⌜ r ≡ Touched·touched catalogue (now (s .entry)) pos m ⌝ }
+{
+    let r = range_of(s, pos, m);
+    let from = r.from;
+    let to = r.to;
+    Span {
+        from: start_of_line(s, from),
+        to: last_newline(s, to),
+    }
+}
+
+// The bytes that a dedent by m cuts from a line.
+pub fn deleting(x: &[u8], m: usize) -> usize
+    ensures { λ r. ⌜ (r ≡ Touched·deleting catalogue m (now (x .entry))) × (r ≤ length (now (x .entry))) ⌝ }
+{
+    let mut i = 0;
+    while i < m {
+        let d = decode_at(x, i);
+        let Decoded::Char { cp, len } = d else {
+            return i;
+        };
+        if !is_white(cp) {
+            return i;
+        }
+        i += len;
+    }
+    m
+}
+
+// Check 6: does a dedent's cut of one of a part's lines end inside a character?
+pub fn splits(p: &[u8], m: usize) -> bool
+    requires { ⌜ valid (now p) ≡ true ⌝ }
+    ensures { λ r. ⌜ r ≡ Touched·splits catalogue m (split (now (p .entry))) ⌝ }
+{
+    let mut i = 0;
+    loop {
+        let e = end_of_line(p, i);
+        let d = deleting(&p[i..e], m);
+        if !is_boundary(&p[i..e], d) {
+            return true;
+        }
+        if e == p.len() {
+            return false;
+        }
+        i = e + 1;
+    }
+}
+
+// How many lines a part has.
+pub fn count_lines(p: &[u8]) -> usize
+    ensures { λ r. ⌜ r ≡ length (split (now (p .entry))) ⌝ }
+{
+    let mut n = 1;
+    let mut i = 0;
+    while i < p.len() {
+        if p[i] == 0x0A {
+            n += 1;
+        }
+        i += 1;
+    }
+    n
+}
+
+// What is recorded: how many records, and the bytes of their texts.
+pub struct Counts {
+    pub records: usize,
+    pub bytes: usize,
+}
+
+// What a dedent of a part's lines by m records.
+pub fn count_cuts(p: &[u8], m: usize) -> Counts
+    ensures { λ r. ⌜ (r .records ≡ cutsIn catalogue m (split (now (p .entry)))) × (r .bytes ≡ bytesIn catalogue m (split (now (p .entry)))) ⌝ }
+{
+    let mut records = 0;
+    let mut bytes = 0;
+    let mut i = 0;
+    loop {
+        let e = end_of_line(p, i);
+        let d = deleting(&p[i..e], m);
+        if 0 < d {
+            records += 1;
+        }
+        bytes += d;
+        if e == p.len() {
+            return Counts { records, bytes };
+        }
+        i = e + 1;
+    }
+}
