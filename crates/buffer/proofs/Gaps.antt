@@ -1,10 +1,10 @@
 -- A text with a gap: the gap moved, text put in before and behind it, bytes cut behind it. Assumes nothing.
 use mathlib.Core.Path.{_≡_, refl, sym, ap, ap₂, _∙_}
 use mathlib.Core.List.{List, [], _++_, append-assoc, append-nil}
-use Prim.Native.Nat.{ℕ, zero, suc, _+_, _-_, _<_, _≤_}
+use Prim.Native.Nat.{ℕ, _+_, _-_, _<_, _≤_}
 use native.Mathlib.Omega.{arith}
 use lib.ListN.{length, take, drop, length-take, length-drop, length-append, take-append-drop}
-use lib.Seq.{length-take-le, length-front, take-all, take-at, drop-at, take-take, drop-drop, take-add, take-append-le, take-append-add, drop-append-add, drop-append-le, drop-length}
+use lib.Seq.{length-take-le, length-front, take-all, take-at, drop-at, take-take, drop-drop, take-add, take-append-le, take-append-add, drop-append-add, drop-length}
 use Rattle.buffer.specs.Edit.{shifted, cut}
 use Rattle.buffer.specs.Gap.{gapped, shut}
 use Rattle.buffer.proofs.Laws.{take-drop}
@@ -36,6 +36,27 @@ unfolding gapped
 gapped-full len from to s e =
     let at : (n : ℕ) → n + (length s - len) ≡ n = λ n. omega arith in
     ap (λ (n : ℕ). take to s ++ drop n s) (at to) ∙ take-append-drop to s ∙ sym (take-append-drop from s) ∙ ap (λ (n : ℕ). take from s ++ drop n s) (sym (at from))
+
+-- what stands behind the gap
+pub gapped-from : (len at from : ℕ) (s : List ℕ) → at ≤ from → at ≤ length s → drop from (gapped len at s) ≡ drop (from + (length s - len)) s
+unfolding gapped
+gapped-from len at from s h k =
+    let la : length (take at s) ≡ at = length-take-le at s k in
+    let G : ℕ = length s - len in
+    let e : from ≡ length (take at s) + (from - at) = omega arith in
+    let f : at + G + (from - at) ≡ from + G = omega arith in
+    ap (λ (i : ℕ). drop i (take at s ++ drop (at + G) s)) e ∙ drop-append-add (take at s) (drop (at + G) s) (from - at) ∙ drop-drop (from - at) (at + G) s ∙ ap (λ (i : ℕ). drop i s) f
+
+-- ---- the text as the gap is opened at a place, moved to another, and closed
+module _ (len : ℕ) (s t : List ℕ) (k : len ≤ length s) (n : length t ≡ length s) where
+  pub gap-opened : (at : ℕ) → at ≤ len → gapped len at t ≡ gapped len len s → take len (shut len at t) ≡ take len s
+  gap-opened at h e = shut-text len at t h (omega arith) ∙ e ∙ gapped-end len s k
+
+  pub gap-moved : (from to : ℕ) → from ≤ len → to ≤ len → gapped len to t ≡ gapped len from s → take len (shut len to t) ≡ take len (shut len from s)
+  gap-moved from to h i e = shut-text len to t i (omega arith) ∙ e ∙ sym (shut-text len from s h k)
+
+  pub gap-closed : (at : ℕ) → at ≤ len → gapped len len t ≡ gapped len at s → take len t ≡ take len (shut len at s)
+  gap-closed at h e = sym (gapped-end len t (omega arith)) ∙ e ∙ sym (shut-text len at s h k)
 
 whole : (s : List ℕ) (at : ℕ) → at ≤ length s → at + (length s - at) ≡ length s
 whole s at h = omega arith

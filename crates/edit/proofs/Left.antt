@@ -8,8 +8,9 @@ use lib.Dec.{leb, ltb}
 use lib.ListN.{length, take}
 use borrow.Author.Tests.{leb-true}
 use Rattle.lists.proofs.Bools.{and-both, or-none}
-use Rattle.utf8.specs.Chars.{In}
+use Rattle.utf8.specs.Chars.{boundary, In}
 use Rattle.unicode.specs.Repertoire.{Repertoire, catalogue}
+use Rattle.unicode.specs.Text.{isText}
 use Rattle.journal.specs.Change.{Change}
 use Rattle.journal.specs.Layout.{Format, top, AllGood}
 use Rattle.journal.specs.Undo.{undoRecords, undoTexts, allSmall, Sizes, fits}
@@ -68,10 +69,35 @@ unfolding listAfter
 after-first R F z x xs t u e = e
 
 module _ (F : Format) where
+  ready-moved : (l : Lent) (t : List ℕ) → Ready F l → length t ≡ length (l .text) → take (l .line .len) t ≡ textOf l → Ready F (lent t (l .records) (l .texts) (l .line) (l .log))
+  ready-moved l t h n e =
+      record {
+        small = omega (arith, h .small);
+        used = omega (arith, h .used);
+        text = ap (isText catalogue) e ∙ h .text;
+        within = h .within;
+        edge = ap (λ (s : List ℕ). boundary s (l .line .cursor)) e ∙ h .edge;
+        log = h .log;
+      }
+
   -- at first all is left
   pub begins : (l : Lent) (p : Plan) → Ready F l → AllSuit catalogue (p .pieces) (textOf l) → tooLong (length (l .text)) (p .pieces) (textOf l) ≡ false
       → fits F (sizesOf l) (listAfter catalogue (p .pieces) (textOf l) (stateOf catalogue F l .log .undo)) ≡ true → Left F l p (p .pieces) l
   begins l p h a b c = record { ready = h; text = refl; records = refl; texts = refl; suit = a; short = b; room = c; same = refl }
+
+  -- bytes moved in the buffer of the text, which stays as it is
+  pub moved : (l₀ : Lent) (p : Plan) (xs : List Piece) (l : Lent) (t : List ℕ) → Left F l₀ p xs l → length t ≡ length (l .text) → take (l .line .len) t ≡ textOf l → Left F l₀ p xs (lent t (l .records) (l .texts) (l .line) (l .log))
+  moved l₀ p xs l t k n e =
+      record {
+        ready = ready-moved l t (k .ready) n e;
+        text = n ∙ k .text;
+        records = k .records;
+        texts = k .texts;
+        suit = subst (AllSuit catalogue xs) (sym e) (k .suit);
+        short = ap (tooLong (length (l₀ .text)) xs) e ∙ k .short;
+        room = ap (λ (s : List ℕ). fits F (sizesOf l₀) (listAfter catalogue xs s (stateOf catalogue F l .log .undo))) e ∙ k .room;
+        same = k .same ∙ ap (λ (s : List ℕ). edited catalogue F (sizesOf l₀) (length (l₀ .text)) (rest p xs) (record { text = s; cursor = l .line .cursor; log = stateOf catalogue F l .log })) (sym e);
+      }
 
   -- the next change suits the text
   pub next-suits : (l₀ : Lent) (p : Plan) (x : Piece) (xs : List Piece) (l : Lent) → Left F l₀ p (x ∷ xs) l → Suits catalogue x (textOf l)

@@ -129,19 +129,23 @@ module _ (F : Format) (l : Lent) (h : Ready F l) (j : Bool) (x : Edit) (k a b : 
           let w = was-refused F (logLent l) (note j x u) (log.valueOf catalogue F (logLent l)) r rb tb q e in
           rw (no-nine, some, w .full) (record { answer = refl; bytes = record { text = refl; records = w .records; texts = w .texts } })
 
-      pub made : r .number ≡ 0 → (t₁ t₂ : List ℕ) → length t₁ ≡ length (l .text) → take (l .line .len - (b - a)) t₁ ≡ cut (textOf l) a b
-          → take (l .line .len - (b - a) + length n) t₂ ≡ inserted (take (l .line .len - (b - a)) t₁) a n
-          → Edited F l outcome (says 0 (record { len = l .line .len - (b - a) + length n; cursor = p }) (r .log)) t₂ rb tb
+      pub made-in : r .number ≡ 0 → (t : List ℕ) (m : ℕ) → m ≡ l .line .len - (b - a) + length n → take m t ≡ splice (textOf l) a b n → Edited F l outcome (says 0 (record { len = m; cursor = p }) (r .log)) t rb tb
       unfolding changeOut
-      made e t₁ t₂ g c i =
+      made-in e t m f i =
           let w = took F (logLent l) (note j x u) (log.valueOf catalogue F (logLent l)) r rb tb q e in
-          let z : take (length (changed x (textOf l))) t₂ ≡ changed x (textOf l) =
-          ap (λ (m : ℕ). take m t₂) size ∙ i ∙ ap (λ (s : List ℕ). inserted s a n) c ∙ cut-put (textOf l) a b n (omega (arith, long)) ∙ sym is-splice in
+          let y : length (changed x (textOf l)) ≡ m = size ∙ sym f in
+          let z : take (length (changed x (textOf l))) t ≡ changed x (textOf l) = ap (λ (k : ℕ). take k t) y ∙ i ∙ sym is-splice in
           rw (no-nine, some, w .room)
           (record {
-            answer = ap₂ (λ (m : ℕ) (g : Log). says 0 (record { len = m; cursor = p }) g) (sym size) (w .state);
+            answer = ap₂ (λ (k : ℕ) (g : Log). says 0 (record { len = k; cursor = p }) g) (sym y) (w .state);
             bytes = record { text = z; log = w .bytes };
           })
+
+      -- by a cut, and then an insertion
+      pub made : r .number ≡ 0 → (t₁ t₂ : List ℕ) → take (l .line .len - (b - a)) t₁ ≡ cut (textOf l) a b
+          → take (l .line .len - (b - a) + length n) t₂ ≡ inserted (take (l .line .len - (b - a)) t₁) a n
+          → Edited F l outcome (says 0 (record { len = l .line .len - (b - a) + length n; cursor = p }) (r .log)) t₂ rb tb
+      made e t₁ t₂ c i = made-in e t₂ (l .line .len - (b - a) + length n) refl (i ∙ ap (λ (s : List ℕ). inserted s a n) c ∙ cut-put (textOf l) a b n (omega (arith, long)))
 
 -- ---- the bytes that are cut, as they are lent from the buffer
 pub raw-part : (t : List ℕ) (len a b : ℕ) → b ≤ len → part (take len t) a b ≡ take (b - a) (drop a t)

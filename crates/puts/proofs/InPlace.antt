@@ -126,7 +126,7 @@ module _ (l : Lent) (h : Ready narrow l) (s : List ℕ) (is : isText catalogue s
               let w : l .line .len - (pos - pos) + length x ≡ l .line .len + length s * n = omega (arith, size) in
               let p = pos + length x in
               let m =
-              made-laws.made narrow l h false (insert pos x) 3 pos pos x p (an-insert t pos x) (omega arith) (h .within) (omega (arith, size)) there a rb tb q taken (l .text) t′ refl
+              made-laws.made narrow l h false (insert pos x) 3 pos pos x p (an-insert t pos x) (omega arith) (h .within) (omega (arith, size)) there a rb tb q taken (l .text) t′
               (ap (λ (k : ℕ). take k (l .text)) z ∙ sym (take-append-drop pos t))
               (ap (λ (k : ℕ). take k t′) w ∙ et ∙ ap (λ (k : ℕ). inserted (take k (l .text)) pos x) (sym z)) in
               made-laws.edited-as narrow l _ r _ t′ rb tb (e ∙ ap₂ (λ (j k : ℕ). says 0 (record { len = j; cursor = k }) (a .log)) (sym w) (ap (λ (k : ℕ). pos + k) (sym size)))
