@@ -99,6 +99,20 @@ module _ (F : Format) where
         same = k .same ∙ ap (λ (s : List ℕ). edited catalogue F (sizesOf l₀) (length (l₀ .text)) (rest p xs) (record { text = s; cursor = l .line .cursor; log = stateOf catalogue F l .log })) (sym e);
       }
 
+  -- the same, of the buffer as it was lent
+  pub moved-first : (l₀ : Lent) (p : Plan) (xs : List Piece) (l : Lent) (t : List ℕ) → Left F l₀ p xs l → length t ≡ length (l₀ .text) → take (l₀ .line .len) t ≡ textOf l₀ → Left F (lent t (l₀ .records) (l₀ .texts) (l₀ .line) (l₀ .log)) p xs l
+  moved-first l₀ p xs l t k n e =
+      record {
+        ready = k .ready;
+        text = k .text ∙ sym n;
+        records = k .records;
+        texts = k .texts;
+        suit = k .suit;
+        short = ap (λ (c : ℕ). tooLong c xs (textOf l)) n ∙ k .short;
+        room = k .room;
+        same = ap₂ (λ (c : ℕ) (s : List ℕ). edited catalogue F (sizesOf l₀) c p (record { text = s; cursor = l₀ .line .cursor; log = stateOf catalogue F l₀ .log })) n e ∙ k .same ∙ ap (λ (c : ℕ). edited catalogue F (sizesOf l₀) c (rest p xs) (stateOf catalogue F l)) (sym n);
+      }
+
   -- the next change suits the text
   pub next-suits : (l₀ : Lent) (p : Plan) (x : Piece) (xs : List Piece) (l : Lent) → Left F l₀ p (x ∷ xs) l → Suits catalogue x (textOf l)
   unfolding AllSuit

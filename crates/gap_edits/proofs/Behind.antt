@@ -24,8 +24,13 @@ use Rattle.changeset.specs.Calls as log
 use Rattle.edit.specs.declared.EditAnswer.{EditAnswer}
 use Rattle.edit.specs.Plan.{part, splice, Outcome, once, cutting, pasted, edited, blank, changeOut}
 use Rattle.edit.specs.Calls.{Lent, lent, logLent, textOf, sizesOf, stateOf, says, Edited, Ready}
-use Rattle.edit.proofs.Made.{too-long, unrecorded, no-room, made-in, logged-as, outcome-as}
+use Rattle.edit.proofs.Made.{too-long, unrecorded, no-room, made-in, raw-part, logged-as, outcome-as}
 use Rattle.edit.proofs.Once.{part-none, part-length, part-text, once-cut, once-paste}
+
+-- what stands behind the gap, as it is lent from the buffer
+pub part-behind : (len at : ℕ) (s : List ℕ) (a b : ℕ) → at ≤ a → at ≤ len → b ≤ len → len ≤ length s → take (b - a) (drop (a + (length s - len)) s) ≡ part (shut len at s) a b
+part-behind len at s a b h i j k =
+    ap (take (b - a)) (sym (gapped-from len at a s h (omega arith))) ∙ ap (λ (x : List ℕ). part x a b) (sym (shut-text len at s i k)) ∙ raw-part (shut len at s) len a b j
 
 -- ---- of no bytes nothing is recorded
 cut-blank : (p : ℕ) (o : List ℕ) → length o ≡ 0 → blank (delete p o) ≡ true
@@ -85,9 +90,8 @@ module _ (F : Format) (s rb tb : List ℕ) (line : Line) (g : Log) (at : ℕ) (h
     pub raw-old : raw ≡ old
     raw-old =
         let w = cut-within in
-        let u = used in
         let z : at + (length s - line .len) + n - (at + (length s - line .len)) ≡ at + n - at = omega arith in
-        ap (λ (k : ℕ). take k (drop (at + (length s - line .len)) s)) z ∙ ap (take (at + n - at)) (sym (ap (drop at) cut-text ∙ gapped-from (line .len) at at s (omega arith) (omega arith)))
+        ap (λ (k : ℕ). take k (drop (at + (length s - line .len)) s)) z ∙ part-behind (line .len) at s at (at + n) (omega arith) (omega arith) w used ∙ sym (raw-part (shut (line .len) at s) (line .len) at (at + n) w)
 
     pub raw-text : isText catalogue raw ≡ true
     raw-text = ap (isText catalogue) raw-old ∙ part-text catalogue (textOf l) at (at + n) i (h .text)

@@ -4,5 +4,6 @@ pub mod Cursors
 pub mod Counted
 pub mod Turns
 pub mod Spaces
+pub mod Gap
 pub mod Rooms
 pub mod Calls

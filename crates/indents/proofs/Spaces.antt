@@ -14,18 +14,24 @@ use Rattle.utf8.specs.Chars.{In}
 use Rattle.unicode.specs.Repertoire.{catalogue, isMember}
 use Rattle.unicode.specs.Text.{isText}
 use Rattle.lines.specs.Lines.{endOfLine}
+use Rattle.buffer.specs.Gap.{gapped, shut}
+use Rattle.buffer.proofs.Gaps.{shut-length, gap-moved, gap-closed}
+use Rattle.checks.specs.declared.Line.{Line}
+use Rattle.changeset.specs.declared.Log.{Log}
+use Rattle.gap_edits.proofs.Behind.{used}
 use Rattle.journal.specs.Layout.{narrow}
 use Rattle.journal.specs.Undo.{fits}
 use Rattle.edit.specs.declared.EditAnswer.{EditAnswer}
 use Rattle.edit.specs.Plan.{part, splice, Piece, pasted, once, Plan, AllSuit, tooLong, listAfter, edited}
-use Rattle.edit.specs.Calls.{Lent, lent, textOf, sizesOf, stateOf, Edited, Ready}
+use Rattle.edit.specs.Calls.{Lent, lent, textOf, sizesOf, stateOf, says, Edited, Ready}
+use Rattle.edit.proofs.Made.{edited-as}
 use Rattle.edit.proofs.Splice.{splice-length}
-use Rattle.edit.proofs.Left.{Left, begins, next-suits, goes-on, ends, text-now}
+use Rattle.edit.proofs.Left.{Left, begins, moved, moved-first, next-suits, goes-on, ends, text-now}
 use Rattle.touched_lines.specs.Touched.{split}
 use Rattle.indents.specs.Indents.{spaces, indentPieces, indentLines, indentCursor, indentPlan, pieceOf, indented}
 use Rattle.touched_lines.proofs.Newlines.{split-some}
 use Rattle.indents.proofs.Suits.{piece-in, spaces-text}
-use Rattle.indents.proofs.Turns.{drop-splice, first-in, lines-last, lines-more, first-width}
+use Rattle.indents.proofs.Turns.{drop-splice, first-in, lines-last, lines-more, first-width, opened-length, opened-text}
 
 -- ---- spaces
 pub space-member : isMember 0x20 ≡ true
@@ -125,6 +131,35 @@ module _ (l₀ : Lent) (m from to : ℕ) where
         low = omega (arith, moved-low from m (l₀ .line .cursor), e);
       }
 
+  -- bytes moved in the buffer of the text, which stays as it is
+  pub indent-moved : (l : Lent) (cursor at end left : ℕ) → Indenting l₀ m from to l cursor at end left → (t : List ℕ) → length t ≡ length (l .text) → take (l .line .len) t ≡ textOf l → Indenting l₀ m from to (lent t (l .records) (l .texts) (l .line) (l .log)) cursor at end left
+  indent-moved l cursor at end left k t n e =
+      record {
+        small = k .small;
+        bound = k .bound;
+        order = k .order;
+        within = k .within;
+        rest = subst (λ (x : List ℕ). Left narrow l₀ (linesPlan l₀ m from to) (pending m left at (split (part x (at + (m - left)) end))) (lent t (l .records) (l .texts) (l .line) (l .log))) (sym e)
+            (moved narrow l₀ (linesPlan l₀ m from to) (pending m left at (split (part (textOf l) (at + (m - left)) end))) l t (k .rest) n e);
+        moves = ap (λ (x : List ℕ). pendingCursor m at (split (part x (at + (m - left)) end)) cursor) e ∙ k .moves;
+        low = k .low;
+      }
+
+  -- the same, of the buffer as it was lent
+  pub indent-moved-first : (l : Lent) (cursor at end left : ℕ) → Indenting l₀ m from to l cursor at end left → (t : List ℕ) → length t ≡ length (l₀ .text) → take (l₀ .line .len) t ≡ textOf l₀ → Indenting (lent t (l₀ .records) (l₀ .texts) (l₀ .line) (l₀ .log)) m from to l cursor at end left
+  indent-moved-first l cursor at end left k t n e =
+      let p : linesPlan l₀ m from to ≡ linesPlan (lent t (l₀ .records) (l₀ .texts) (l₀ .line) (l₀ .log)) m from to = ap (λ (x : List ℕ). indentPlan catalogue m false (l₀ .line .cursor) from (split (part x from to))) (sym e) in
+      record {
+        small = k .small;
+        bound = k .bound;
+        order = k .order;
+        within = k .within;
+        rest = subst (λ (y : Plan). Left narrow (lent t (l₀ .records) (l₀ .texts) (l₀ .line) (l₀ .log)) y (pending m left at (split (part (textOf l) (at + (m - left)) end))) l) p
+            (moved-first narrow l₀ (linesPlan l₀ m from to) (pending m left at (split (part (textOf l) (at + (m - left)) end))) l t (k .rest) n e);
+        moves = k .moves ∙ ap (λ (y : Plan). y .cursor) p;
+        low = k .low;
+      }
+
   module _ (l : Lent) (cursor at end left : ℕ) (k : Indenting l₀ m from to l cursor at end left) where
     abbrev t : List ℕ
     t = textOf l
@@ -152,14 +187,16 @@ module _ (l₀ : Lent) (m from to : ℕ) where
       wide-line : length (part t (at + m) e) ≡ e - (at + m)
       wide-line = first-width t (at + m) end e begun fit q′
 
-      pub indent-ends : e ≡ end → Edited narrow l₀ (edited catalogue narrow (sizesOf l₀) (length (l₀ .text)) (linesPlan l₀ m from to) (stateOf catalogue narrow l₀)) (record { number = 0; from = 0; to = 0; line = record { len = l .line .len; cursor = cursor }; log = l .log }) (l .text) (l .records) (l .texts)
+      -- the last line; u is the buffer with the gap closed
+      pub indent-ends : e ≡ end → (u : List ℕ) → length u ≡ length (l .text) → take (l .line .len) u ≡ textOf l → (a : EditAnswer) → a ≡ says 0 (record { len = l .line .len; cursor = cursor }) (l .log)
+          → Edited narrow l₀ (edited catalogue narrow (sizesOf l₀) (length (l₀ .text)) (linesPlan l₀ m from to) (stateOf catalogue narrow l₀)) a u (l .records) (l .texts)
       unfolding indentLines indentCursor
-      indent-ends z =
+      indent-ends z u lu eu a aq =
           let y = ap (λ (i : ℕ). split (part t i end)) here ∙ lines-last t (at + m) end e begun fit q′ z in
           let x : pending m left at (split (part t (at + (m - left)) end)) ≡ [] = ap (pending m left at) y ∙ pending-none m left at (part t (at + m) e) [] none in
           let c : cursor ≡ linesPlan l₀ m from to .cursor = sym (ap (λ (xs : List (List ℕ)). pendingCursor m at xs cursor) y) ∙ k .moves in
-          subst (λ (i : ℕ). Edited narrow l₀ (edited catalogue narrow (sizesOf l₀) (length (l₀ .text)) (linesPlan l₀ m from to) (stateOf catalogue narrow l₀)) (record { number = 0; from = 0; to = 0; line = record { len = l .line .len; cursor = i }; log = l .log }) (l .text) (l .records) (l .texts)) (sym c)
-          (ends narrow l₀ (linesPlan l₀ m from to) l (subst (λ (xs : List Piece). Left narrow l₀ (linesPlan l₀ m from to) xs l) x (k .rest)))
+          edited-as narrow l₀ _ a _ u (l .records) (l .texts) (aq ∙ ap (λ (i : ℕ). says 0 (record { len = l .line .len; cursor = i }) (l .log)) c)
+          (ends narrow l₀ (linesPlan l₀ m from to) (lent u (l .records) (l .texts) (l .line) (l .log)) (moved narrow l₀ (linesPlan l₀ m from to) [] l u (subst (λ (xs : List Piece). Left narrow l₀ (linesPlan l₀ m from to) xs l) x (k .rest)) lu eu))
 
       pub indent-next-line : e < end → (c : ℕ) → c ≡ indented (e + 1) m cursor → Indenting l₀ m from to l c (e + 1) end m
       indent-next-line h c cq =
@@ -244,6 +281,47 @@ module _ (l₀ : Lent) (m from to : ℕ) where
                 moves = ap (λ (v : List ℕ). pendingCursor m at (split v) cursor) p ∙ k .moves;
                 low = k .low;
               }
+
+-- ---- with a gap at the line's place: it is opened at the first line
+module _ (s₀ rb tb : List ℕ) (line : Line) (g : Log) (m from to : ℕ) (h : Ready narrow (lent s₀ rb tb line g)) (a : from ≤ to) (b : to ≤ line .len) (s : List ℕ) (n : length s ≡ length s₀) (e : gapped (line .len) from s ≡ gapped (line .len) (line .len) s₀) where
+  abbrev l₀ : Lent
+  l₀ = lent s₀ rb tb line g
+
+  abbrev l₁ : Lent
+  l₁ = lent (shut (line .len) from s) rb tb line g
+
+  pub indent-opens : m ≤ 256 → AllSuit catalogue (linesPlan l₀ m from to .pieces) (textOf l₀) → tooLong (length s₀) (linesPlan l₀ m from to .pieces) (textOf l₀) ≡ false
+      → fits narrow (sizesOf l₀) (listAfter catalogue (linesPlan l₀ m from to .pieces) (textOf l₀) (stateOf catalogue narrow l₀ .log .undo)) ≡ true → (c : ℕ) → c ≡ indented from m (line .cursor) → Indenting l₁ m from to l₁ c from to m
+  indent-opens k u i r c q =
+      let x = opened-length s₀ rb tb line g m from to h a b s n e in
+      let y = opened-text s₀ rb tb line g m from to h a b s n e in
+      indent-moved-first l₀ m from to l₁ c from to m (indent-moved l₀ m from to l₀ c from to m (indent-begins l₀ m from to k h a b u i r c q) (l₁ .text) x y) (l₁ .text) x y
+
+-- it is moved from line to line, and closed behind the last
+module _ (l₁ : Lent) (m from to : ℕ) (s rb tb : List ℕ) (line : Line) (g : Log) (cursor at end left : ℕ) (k : Indenting l₁ m from to (lent (shut (line .len) at s) rb tb line g) cursor at end left) where
+  abbrev l : Lent
+  l = lent (shut (line .len) at s) rb tb line g
+
+  pub gap-at : (at ≤ line .len) × (line .len ≤ length s)
+  gap-at = let o = k .order in let w = k .within in (omega arith, used narrow s rb tb line g at (k .rest .ready))
+
+  module _ (u : List ℕ) (lu : length u ≡ length s) where
+    pub gap-length : (len p : ℕ) → length (shut len p u) ≡ length (shut (line .len) at s)
+    gap-length len p = shut-length len p u ∙ lu ∙ sym (shut-length (line .len) at s)
+
+    module _ (none : left ≡ 0) (e : ℕ) (q : e ≡ endOfLine (take end (shut (line .len) at s)) (at + m)) where
+      pub indent-on : e < end → gapped (line .len) (e + 1) u ≡ gapped (line .len) at s → (c : ℕ) → c ≡ indented (e + 1) m cursor → Indenting l₁ m from to (lent (shut (line .len) (e + 1) u) rb tb line g) c (e + 1) end m
+      indent-on h i c cq =
+          let w = k .within in
+          indent-moved l₁ m from to l c (e + 1) end m (indent-next-line l₁ m from to l cursor at end left k none e q h c cq) (shut (line .len) (e + 1) u) (gap-length (line .len) (e + 1))
+          (gap-moved (line .len) s u (gap-at .1) lu at (e + 1) (gap-at .0) (omega arith) i)
+
+      pub indent-done : e ≡ end → gapped (line .len) (line .len) u ≡ gapped (line .len) at s → (t : List ℕ) → length t ≡ length (l₁ .text) → take (l₁ .line .len) t ≡ textOf l₁ → (a : EditAnswer)
+          → a ≡ says 0 (record { len = line .len; cursor = cursor }) g
+          → Edited narrow (lent t (l₁ .records) (l₁ .texts) (l₁ .line) (l₁ .log)) (edited catalogue narrow (sizesOf l₁) (length t) (linesPlan (lent t (l₁ .records) (l₁ .texts) (l₁ .line) (l₁ .log)) m from to) (stateOf catalogue narrow (lent t (l₁ .records) (l₁ .texts) (l₁ .line) (l₁ .log)))) a u rb tb
+      indent-done z i t n v a aq =
+          indent-ends (lent t (l₁ .records) (l₁ .texts) (l₁ .line) (l₁ .log)) m from to l cursor at end left (indent-moved-first l₁ m from to l cursor at end left k t n v) none e q z u
+          (lu ∙ sym (shut-length (line .len) at s)) (gap-closed (line .len) s u (gap-at .1) lu at (gap-at .0) i) a aq
 
 -- ---- the turns left: each line's bytes, and the spaces of the first
 abbrev pub turns : ℕ → ℕ → ℕ → ℕ → ℕ

@@ -12,14 +12,18 @@ use Rattle.utf8.specs.Chars.{In}
 use Rattle.unicode.specs.Repertoire.{catalogue}
 use Rattle.lines.specs.Lines.{endOfLine}
 use Rattle.lines.proofs.Lines.{end-le}
+use Rattle.buffer.specs.Gap.{gapped, shut}
+use Rattle.buffer.proofs.Gaps.{shut-length, gap-opened, gap-moved, gap-closed}
+use Rattle.checks.specs.declared.Line.{Line}
+use Rattle.changeset.specs.declared.Log.{Log}
 use Rattle.journal.specs.Layout.{narrow}
 use Rattle.journal.specs.Undo.{fits}
 use Rattle.edit.specs.declared.EditAnswer.{EditAnswer}
 use Rattle.edit.specs.Plan.{part, splice, Piece, cutting, once, Plan, AllSuit, tooLong, listAfter, edited}
-use Rattle.edit.specs.Calls.{Lent, lent, textOf, sizesOf, stateOf, Edited, Ready}
-use Rattle.edit.proofs.Made.{raw-part}
+use Rattle.edit.specs.Calls.{Lent, lent, textOf, sizesOf, stateOf, says, Edited, Ready}
+use Rattle.edit.proofs.Made.{raw-part, edited-as}
 use Rattle.edit.proofs.Splice.{splice-length}
-use Rattle.edit.proofs.Left.{Left, begins, next-suits, goes-on, ends, text-now}
+use Rattle.edit.proofs.Left.{Left, begins, moved, moved-first, next-suits, goes-on, ends, text-now}
 use Rattle.touched_lines.specs.Touched.{split, deleting}
 use Rattle.indents.specs.Indents.{dedentLines, dedented, dedentCursor, indentPlan}
 use Rattle.touched_lines.proofs.White.{deleting-in}
@@ -114,6 +118,29 @@ module _ (l₀ : Lent) (m from to : ℕ) where
       → fits narrow (sizesOf l₀) (listAfter catalogue (dedentPlan l₀ m from to .pieces) (textOf l₀) (stateOf catalogue narrow l₀ .log .undo)) ≡ true → Dedenting l₀ m from to l₀ (l₀ .line .cursor) from to
   dedent-begins h a b s n r = record { order = a; within = b; left = begins narrow l₀ (dedentPlan l₀ m from to) h s n r; moves = refl }
 
+  -- bytes moved in the buffer of the text, which stays as it is
+  pub dedent-moved : (l : Lent) (cursor at end : ℕ) → Dedenting l₀ m from to l cursor at end → (t : List ℕ) → length t ≡ length (l .text) → take (l .line .len) t ≡ textOf l → Dedenting l₀ m from to (lent t (l .records) (l .texts) (l .line) (l .log)) cursor at end
+  dedent-moved l cursor at end k t n e =
+      record {
+        order = k .order;
+        within = k .within;
+        left = subst (λ (x : List ℕ). Left narrow l₀ (dedentPlan l₀ m from to) (dedentLines catalogue m at (split (part x at end))) (lent t (l .records) (l .texts) (l .line) (l .log))) (sym e)
+            (moved narrow l₀ (dedentPlan l₀ m from to) (dedentLines catalogue m at (split (part (textOf l) at end))) l t (k .left) n e);
+        moves = ap (λ (x : List ℕ). dedentCursor catalogue m at (split (part x at end)) cursor) e ∙ k .moves;
+      }
+
+  -- the same, of the buffer as it was lent
+  pub dedent-moved-first : (l : Lent) (cursor at end : ℕ) → Dedenting l₀ m from to l cursor at end → (t : List ℕ) → length t ≡ length (l₀ .text) → take (l₀ .line .len) t ≡ textOf l₀ → Dedenting (lent t (l₀ .records) (l₀ .texts) (l₀ .line) (l₀ .log)) m from to l cursor at end
+  dedent-moved-first l cursor at end k t n e =
+      let p : dedentPlan l₀ m from to ≡ dedentPlan (lent t (l₀ .records) (l₀ .texts) (l₀ .line) (l₀ .log)) m from to = ap (λ (x : List ℕ). indentPlan catalogue m true (l₀ .line .cursor) from (split (part x from to))) (sym e) in
+      record {
+        order = k .order;
+        within = k .within;
+        left = subst (λ (y : Plan). Left narrow (lent t (l₀ .records) (l₀ .texts) (l₀ .line) (l₀ .log)) y (dedentLines catalogue m at (split (part (textOf l) at end))) l) p
+            (moved-first narrow l₀ (dedentPlan l₀ m from to) (dedentLines catalogue m at (split (part (textOf l) at end))) l t (k .left) n e);
+        moves = k .moves ∙ ap (λ (y : Plan). y .cursor) p;
+      }
+
   module _ (l : Lent) (cursor at end : ℕ) (k : Dedenting l₀ m from to l cursor at end) (e : ℕ) (q : e ≡ endOfLine (take end (l .text)) at) where
     abbrev t : List ℕ
     t = textOf l
@@ -151,13 +178,30 @@ module _ (l₀ : Lent) (m from to : ℕ) where
 
       module _ (r : EditAnswer) (tn rb tb : List ℕ) (o : Edited narrow l (edited catalogue narrow (sizesOf l) (length (l .text)) (once (cutting at (at + d)) at) (stateOf catalogue narrow l)) r tn rb tb)
           (lt : length tn ≡ length (l .text)) (lr : length rb ≡ length (l .records)) (ls : length tb ≡ length (l .texts)) (c : ℕ) (cq : c ≡ dedented at d cursor) where
-        pub dedent-ends : e ≡ end → Edited narrow l₀ (edited catalogue narrow (sizesOf l₀) (length (l₀ .text)) (dedentPlan l₀ m from to) (stateOf catalogue narrow l₀)) (record { number = 0; from = 0; to = 0; line = record { len = r .line .len; cursor = c }; log = r .log }) tn rb tb
-        dedent-ends z =
+        after : (ys : List Piece) → dedentLines catalogue m at (split (part t at end)) ≡ cutting at (at + d) ∷ ys → (r .line .len ≡ l .line .len - d) × (r .line .len ≤ length tn)
+        after ys y =
+            let w = cut-within in
+            let x = goes-on narrow l₀ (dedentPlan l₀ m from to) (cutting at (at + d)) ys l (as-left ys y) r tn rb tb o lt lr ls in
+            let u = ap length (text-now narrow l₀ (dedentPlan l₀ m from to) (cutting at (at + d)) ys l (as-left ys y) r tn rb tb o lt lr ls) in
+            let i = splice-length t at (at + d) [] (omega arith) (let z = fit in let v = line-within in omega arith) in
+            let n = length-take-le (r .line .len) tn (x .ready .used) in
+            (omega (arith, long), x .ready .used)
+
+        pub cut-leaves : (r .line .len ≡ l .line .len - d) × (r .line .len ≤ length tn)
+        cut-leaves =
+            by-less _ e end
+            (λ h. after _ (dedent-more t at end e (k .order) fit q′ m d f′ (splice t at (at + d) []) refl h))
+            (λ h. after [] (dedent-last t at end e (k .order) fit q′ m d f′ (let z = line-within in omega arith)))
+
+        -- the last line; u is the buffer with the gap closed
+        pub dedent-ends : e ≡ end → (u : List ℕ) → length u ≡ length tn → take (r .line .len) u ≡ take (r .line .len) tn → (a : EditAnswer) → a ≡ says 0 (record { len = r .line .len; cursor = c }) (r .log)
+            → Edited narrow l₀ (edited catalogue narrow (sizesOf l₀) (length (l₀ .text)) (dedentPlan l₀ m from to) (stateOf catalogue narrow l₀)) a u rb tb
+        dedent-ends z u lu eu a aq =
             let y = dedent-last t at end e (k .order) fit q′ m d f′ z in
             let x = goes-on narrow l₀ (dedentPlan l₀ m from to) (cutting at (at + d)) [] l (as-left [] y) r tn rb tb o lt lr ls in
             let w : c ≡ dedentPlan l₀ m from to .cursor = cq ∙ sym (cursor-last t at end e (k .order) fit q′ m d f′ cursor z) ∙ k .moves in
-            subst (λ (i : ℕ). Edited narrow l₀ (edited catalogue narrow (sizesOf l₀) (length (l₀ .text)) (dedentPlan l₀ m from to) (stateOf catalogue narrow l₀)) (record { number = 0; from = 0; to = 0; line = record { len = r .line .len; cursor = i }; log = r .log }) tn rb tb) (sym w)
-            (ends narrow l₀ (dedentPlan l₀ m from to) (lent tn rb tb (r .line) (r .log)) x)
+            edited-as narrow l₀ _ a _ u rb tb (aq ∙ ap (λ (i : ℕ). says 0 (record { len = r .line .len; cursor = i }) (r .log)) w)
+            (ends narrow l₀ (dedentPlan l₀ m from to) (lent u rb tb (r .line) (r .log)) (moved narrow l₀ (dedentPlan l₀ m from to) [] (lent tn rb tb (r .line) (r .log)) u x lu eu))
 
         pub dedent-goes-on : e < end → Dedenting l₀ m from to (lent tn rb tb (r .line) (r .log)) c (e - d + 1) (end - d)
         dedent-goes-on h =
@@ -175,3 +219,64 @@ module _ (l₀ : Lent) (m from to : ℕ) where
               left = x;
               moves = ap (dedentCursor catalogue m (e - d + 1) (split (part (take (r .line .len) tn) (e - d + 1) (end - d)))) cq ∙ sym (cursor-more t at end e (k .order) fit q′ m d f′ (take (r .line .len) tn) u h cursor) ∙ k .moves;
             }
+
+-- ---- with a gap at the line's place: it is opened at the first line
+module _ (s₀ rb tb : List ℕ) (line : Line) (g : Log) (m from to : ℕ) (h : Ready narrow (lent s₀ rb tb line g)) (a : from ≤ to) (b : to ≤ line .len) (s : List ℕ) (n : length s ≡ length s₀) (e : gapped (line .len) from s ≡ gapped (line .len) (line .len) s₀) where
+  pub opened-length : length (shut (line .len) from s) ≡ length s₀
+  opened-length = shut-length (line .len) from s ∙ n
+
+  pub opened-text : take (line .len) (shut (line .len) from s) ≡ take (line .len) s₀
+  opened-text = gap-opened (line .len) s₀ s (h .used) n from (omega arith) e
+
+  abbrev l₀ : Lent
+  l₀ = lent s₀ rb tb line g
+
+  abbrev l₁ : Lent
+  l₁ = lent (shut (line .len) from s) rb tb line g
+
+  pub dedent-opens : AllSuit catalogue (dedentPlan l₀ m from to .pieces) (textOf l₀) → tooLong (length s₀) (dedentPlan l₀ m from to .pieces) (textOf l₀) ≡ false
+      → fits narrow (sizesOf l₀) (listAfter catalogue (dedentPlan l₀ m from to .pieces) (textOf l₀) (stateOf catalogue narrow l₀ .log .undo)) ≡ true → Dedenting l₁ m from to l₁ (line .cursor) from to
+  dedent-opens u i r =
+      dedent-moved-first l₀ m from to l₁ (line .cursor) from to (dedent-moved l₀ m from to l₀ (line .cursor) from to (dedent-begins l₀ m from to h a b u i r) (l₁ .text) opened-length opened-text) (l₁ .text) opened-length opened-text
+
+-- it is moved from line to line, and closed behind the last
+module _ (l₁ : Lent) (m from to : ℕ) (s rb tb : List ℕ) (line : Line) (g : Log) (cursor at end : ℕ) (k : Dedenting l₁ m from to (lent (shut (line .len) at s) rb tb line g) cursor at end) where
+  abbrev l : Lent
+  l = lent (shut (line .len) at s) rb tb line g
+
+  module _ (e : ℕ) (q : e ≡ endOfLine (take end (shut (line .len) at s)) at) (d : ℕ) (f : d ≡ deleting catalogue m (part (shut (line .len) at s) at e)) (r : EditAnswer) (rn tn : List ℕ)
+      (o : Edited narrow l (edited catalogue narrow (sizesOf l) (length (l .text)) (once (cutting at (at + d)) at) (stateOf catalogue narrow l)) r (shut (r .line .len) at s) rn tn) (lr : length rn ≡ length rb) (ls : length tn ≡ length tb) where
+    kept : length (shut (r .line .len) at s) ≡ length (shut (line .len) at s)
+    kept = shut-length (r .line .len) at s ∙ sym (shut-length (line .len) at s)
+
+    -- the places that the gap goes to
+    pub gap-leaves : (at ≤ r .line .len) × (r .line .len ≤ length s)
+    gap-leaves =
+        let x = cut-leaves l₁ m from to l cursor at end k e q d f r (shut (r .line .len) at s) rn tn o kept lr ls (dedented at d cursor) refl in
+        let y = cut-within l₁ m from to l cursor at end k e q d f in
+        let z = line-within l₁ m from to l cursor at end k e q in
+        let w = k .within in
+        (omega (arith, x .0), omega (arith, x .1, shut-length (r .line .len) at s))
+
+    pub gap-next : e < end → e - d + 1 ≤ r .line .len
+    gap-next h =
+        let x = cut-leaves l₁ m from to l cursor at end k e q d f r (shut (r .line .len) at s) rn tn o kept lr ls (dedented at d cursor) refl in
+        let y = cut-within l₁ m from to l cursor at end k e q d f in
+        let w = k .within in
+        omega (arith, x .0)
+
+    module _ (u : List ℕ) (lu : length u ≡ length s) (c : ℕ) (cq : c ≡ dedented at d cursor) where
+      pub dedent-on : e < end → gapped (r .line .len) (e - d + 1) u ≡ gapped (r .line .len) at s → Dedenting l₁ m from to (lent (shut (r .line .len) (e - d + 1) u) rn tn (r .line) (r .log)) c (e - d + 1) (end - d)
+      dedent-on h i =
+          let w = gap-leaves in
+          dedent-moved l₁ m from to (lent (shut (r .line .len) at s) rn tn (r .line) (r .log)) c (e - d + 1) (end - d)
+          (dedent-goes-on l₁ m from to l cursor at end k e q d f r (shut (r .line .len) at s) rn tn o kept lr ls c cq h) (shut (r .line .len) (e - d + 1) u)
+          (shut-length (r .line .len) (e - d + 1) u ∙ lu ∙ sym (shut-length (r .line .len) at s)) (gap-moved (r .line .len) s u (w .1) lu at (e - d + 1) (w .0) (gap-next h) i)
+
+      pub dedent-done : e ≡ end → gapped (r .line .len) (r .line .len) u ≡ gapped (r .line .len) at s → (t : List ℕ) → length t ≡ length (l₁ .text) → take (l₁ .line .len) t ≡ textOf l₁ → (a : EditAnswer)
+          → a ≡ says 0 (record { len = r .line .len; cursor = c }) (r .log)
+          → Edited narrow (lent t (l₁ .records) (l₁ .texts) (l₁ .line) (l₁ .log)) (edited catalogue narrow (sizesOf l₁) (length t) (dedentPlan (lent t (l₁ .records) (l₁ .texts) (l₁ .line) (l₁ .log)) m from to) (stateOf catalogue narrow (lent t (l₁ .records) (l₁ .texts) (l₁ .line) (l₁ .log)))) a u rn tn
+      dedent-done z i t n v a aq =
+          let w = gap-leaves in
+          dedent-ends (lent t (l₁ .records) (l₁ .texts) (l₁ .line) (l₁ .log)) m from to l cursor at end (dedent-moved-first l₁ m from to l cursor at end k t n v) e q d f r (shut (r .line .len) at s) rn tn o kept lr ls c cq z u
+          (lu ∙ sym (shut-length (r .line .len) at s)) (gap-closed (r .line .len) s u (w .1) lu at (w .0) i) a aq

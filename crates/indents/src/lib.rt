@@ -2,27 +2,30 @@
 // handed over: what is unfit is turned away by a number of document 01.
 ghost use mathlib.Core.Path.{_≡_};
 ghost use mathlib.Core.Bool.{true, false, cond, _&&_};
-ghost use Prim.Native.Nat.{_+_, _*_, _≤_, _<_};
+ghost use Prim.Native.Nat.{_+_, _-_, _*_, _≤_, _<_};
 ghost use lib.Dec.{leb};
-ghost use lib.ListN.{length, take};
+ghost use lib.ListN.{length, take, drop};
 ghost use Rattle.utf8.specs.Chars.{In};
 ghost use Rattle.unicode.specs.Repertoire.{catalogue};
 ghost use Rattle.checks.specs.Checks.{refusal as Checks·refusal, both, lineTests, ownTests};
+ghost use Rattle.lines.specs.Lines.{endOfLine};
+ghost use Rattle.buffer.specs.Gap.{shut};
 ghost use Rattle.journal.specs.Layout.{narrow};
 ghost use Rattle.journal.specs.Undo.{fits};
 ghost use Rattle.edit.specs.Plan.{part, AllSuit, tooLong, listAfter, edited};
 ghost use Rattle.edit.specs.Calls.{lent, sizesOf, stateOf, Edited, Ready};
-ghost use Rattle.touched_lines.specs.Touched.{touched as Touched·touched, split, splits as Touched·splits};
+ghost use Rattle.touched_lines.specs.Touched.{touched as Touched·touched, split, deleting as Touched·deleting, splits as Touched·splits};
 ghost use Rattle.indents.specs.Indents.{dedented as Indents·dedented, indentLines, dedentLines, indentPlan, linesIn, indentOf, indentCall, pieceOf, indented as Indents·indented};
+use buffer::move_gap;
 use changeset::Log;
 use checks::Line;
 use copies::is_foreign;
 use edit::EditAnswer;
 use edit::Own;
-use edit::cut_out;
-use edit::put_in;
 use edit::refusal;
 use edit::says;
+use gap_edits::cut_behind;
+use gap_edits::put_behind;
 use keymap::Movement;
 use keymap::MovementCode;
 use keymap::RepeatCount;
@@ -53,7 +56,25 @@ fn dedented(at: usize, d: usize, pos: usize) -> usize
     if pos - at < d { at } else { pos - d }
 }
 
-// The lines of a part dedented by m, one after the other.
+// The end of the line that a place behind the gap stands in: at the next \n from there on, at `end` where there is none.
+fn end_behind(text: &[u8], len: usize, at: usize, from: usize, end: usize) -> usize
+    requires { ⌜ (at ≤ from) × (from ≤ end) × (end ≤ len) × (len ≤ length (now text)) ⌝ }
+    ensures { λ r. ⌜ r ≡ endOfLine (take end (shut len at (now (text .entry)))) from ⌝ }
+{
+    let gap = text.len() - len;
+    from + end_of_line(&text[from + gap..end + gap], 0)
+}
+
+// The bytes that a dedent by m cuts from the line behind the gap, which ends at a place.
+fn deleting_behind(text: &[u8], len: usize, at: usize, e: usize, m: usize) -> usize
+    requires { ⌜ (at ≤ e) × (e ≤ len) × (len ≤ length (now text)) ⌝ }
+    ensures { λ r. ⌜ r ≡ Touched·deleting catalogue m (take (e - at) (drop at (shut len at (now (text .entry))))) ⌝ }
+{
+    let gap = text.len() - len;
+    deleting(&text[at + gap..e + gap], m)
+}
+
+// The lines of a part dedented by m, one after the other. A gap stands at the line's place, and moves on from line to line.
 fn dedent_lines(
     text: &mut [u8],
     records: &mut [u8],
@@ -75,29 +96,27 @@ fn dedent_lines(
         (stateOf catalogue narrow (lent (now (text .entry)) (now (records .entry)) (now (texts .entry)) line log)))
         r (now (text .exit)) (now (records .exit)) (now (texts .exit)) ⌝ }
 {
+    move_gap(text, line.len, line.len, from);
     let mut line_now = line;
     let mut log_now = log;
     let mut cursor = line.cursor;
     let mut at = from;
     let mut end = to;
     loop {
-        let e = end_of_line(&text[..end], at);
-        let d = deleting(&text[at..e], m);
-        let a = cut_out(NARROW, text, records, texts, line_now, log_now, at, at + d);
+        let e = end_behind(text, line_now.len, at, at, end);
+        let d = deleting_behind(text, line_now.len, at, e, m);
+        let a = cut_behind(NARROW, text, records, texts, line_now, log_now, at, d);
         line_now = a.line;
         log_now = a.log;
         cursor = dedented(at, d, cursor);
+        let len = line_now.len;
         if e == end {
-            let len = line_now.len;
-            return EditAnswer {
-                number: 0,
-                from: 0,
-                to: 0,
-                line: Line { len, cursor },
-                log: log_now,
-            };
+            move_gap(text, len, at, len);
+            return says(0, Line { len, cursor }, log_now);
         }
-        at = e - d + 1;
+        let next = e - d + 1;
+        move_gap(text, len, at, next);
+        at = next;
         end -= d;
     }
 }
@@ -117,7 +136,8 @@ fn piece(m: usize) -> usize
     if m < 32 { m } else { 32 }
 }
 
-// The lines of a part indented by m, one after the other. A turn puts a piece in, or goes to the next line.
+// The lines of a part indented by m, one after the other. A gap stands at the line's place; a turn puts a piece in behind it, or
+// moves it to the next line.
 fn indent_lines(
     text: &mut [u8],
     records: &mut [u8],
@@ -141,6 +161,7 @@ fn indent_lines(
         r (now (text .exit)) (now (records .exit)) (now (texts .exit)) ⌝ }
 {
     let spaces = [0x20u8; 32];
+    move_gap(text, line.len, line.len, from);
     let mut line_now = line;
     let mut log_now = log;
     let mut cursor = indented(from, m, line.cursor);
@@ -149,24 +170,21 @@ fn indent_lines(
     let mut left = m;
     loop {
         if left == 0 {
-            let e = end_of_line(&text[..end], at + m);
+            let len = line_now.len;
+            let e = end_behind(text, len, at, at + m, end);
             if e == end {
-                let len = line_now.len;
-                return EditAnswer {
-                    number: 0,
-                    from: 0,
-                    to: 0,
-                    line: Line { len, cursor },
-                    log: log_now,
-                };
+                move_gap(text, len, at, len);
+                return says(0, Line { len, cursor }, log_now);
             }
-            at = e + 1;
+            let next = e + 1;
+            move_gap(text, len, at, next);
+            at = next;
             left = m;
             cursor = indented(at, m, cursor);
             continue;
         }
         let n = piece(left);
-        let a = put_in(
+        let a = put_behind(
             NARROW,
             text,
             records,
@@ -175,7 +193,6 @@ fn indent_lines(
             log_now,
             at,
             &spaces[..n],
-            at,
         );
         line_now = a.line;
         log_now = a.log;
