@@ -23,9 +23,10 @@ use Rattle.edit.proofs.Answers.{refused-by, passed-by}
 use Rattle.edit.proofs.Tests.{split-within, own-passed}
 use Rattle.touched_lines.specs.declared.Span.{Span}
 use Rattle.touched_lines.specs.Touched.{split, splits, touched}
-use Rattle.indents.specs.Indents.{linesIn, indentTests, indentPlan, indentOf}
+use Rattle.indent_plans.specs.IndentPlans.{linesIn, indentPlan}
+use Rattle.indents.specs.Indents.{indentTests, indentOf}
 use Rattle.touched_lines.proofs.Ranges.{Inside, touched-in}
-use Rattle.indents.proofs.Suits.{part-valid}
+use Rattle.indent_plans.proofs.Suits.{part-valid}
 
 -- ---- check 6, of a text and a cursor that pass 2, 4, 5 and 6
 module _ (text : List ℕ) (line : Line) (mvt : Movement) (amount : ℕ) where

@@ -1,9 +1,2 @@
-pub mod Joined
-pub mod Suits
-pub mod Cursors
-pub mod Counted
-pub mod Turns
 pub mod Spaces
-pub mod Gap
-pub mod Rooms
 pub mod Calls

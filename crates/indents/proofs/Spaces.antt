@@ -1,9 +1,9 @@
 -- The lines indented one after the other in the text as it changes, each by pieces of at most 32 spaces. Assumes nothing.
+use native.Mathlib.Omega.{arith}
 use mathlib.Core.Path.{_≡_, refl, sym, ap, ap₂, subst, _∙_}
 use mathlib.Core.Bool.{true, false}
 use mathlib.Core.List.{List, [], _∷_, _++_}
 use Prim.Native.Nat.{ℕ, zero, suc, _+_, _-_, _*_, _<_, _≤_}
-use native.Mathlib.Omega.{arith}
 use lib.Dec.{eqb, ltb}
 use lib.ListN.{length, take, drop, length-replicate}
 use lib.Seq.{length-take-le, take-take}
@@ -11,33 +11,31 @@ use borrow.Author.Tests.{eq-eqb, ne-eqb}
 use Rattle.lists.proofs.Bools.{by-test}
 use Rattle.utf8.specs.Utf8.{within}
 use Rattle.utf8.specs.Chars.{In}
-use Rattle.unicode.specs.Repertoire.{catalogue, isMember}
+use Rattle.unicode.specs.Repertoire.{catalogue}
 use Rattle.unicode.specs.Text.{isText}
 use Rattle.lines.specs.Lines.{endOfLine}
-use Rattle.buffer.specs.Gap.{gapped, shut}
-use Rattle.buffer.proofs.Gaps.{shut-length, gap-moved, gap-closed}
 use Rattle.checks.specs.declared.Line.{Line}
-use Rattle.changeset.specs.declared.Log.{Log}
-use Rattle.gap_edits.proofs.Behind.{used}
 use Rattle.journal.specs.Layout.{narrow}
 use Rattle.journal.specs.Undo.{fits}
+use Rattle.buffer.specs.Gap.{gapped, shut}
+use Rattle.buffer.proofs.Gaps.{shut-length, gap-moved, gap-closed}
+use Rattle.changeset.specs.declared.Log.{Log}
 use Rattle.edit.specs.declared.EditAnswer.{EditAnswer}
 use Rattle.edit.specs.Plan.{part, splice, Piece, pasted, once, Plan, AllSuit, tooLong, listAfter, edited}
 use Rattle.edit.specs.Calls.{Lent, lent, textOf, sizesOf, stateOf, says, Edited, Ready}
 use Rattle.edit.proofs.Made.{edited-as}
 use Rattle.edit.proofs.Splice.{splice-length}
 use Rattle.edit.proofs.Left.{Left, begins, moved, moved-first, next-suits, goes-on, ends, text-now}
+use Rattle.gap_edits.proofs.Behind.{used}
 use Rattle.touched_lines.specs.Touched.{split}
-use Rattle.indents.specs.Indents.{spaces, indentPieces, indentLines, indentCursor, indentPlan, pieceOf, indented}
 use Rattle.touched_lines.proofs.Newlines.{split-some}
-use Rattle.indents.proofs.Suits.{piece-in, spaces-text}
-use Rattle.indents.proofs.Turns.{drop-splice, first-in, lines-last, lines-more, first-width, opened-length, opened-text}
+use Rattle.indent_plans.specs.IndentPlans.{spaces, indentPieces, indentLines, indentCursor, indentPlan, pieceOf, indented}
+use Rattle.indent_plans.proofs.Suits.{piece-in, spaces-text}
+use Rattle.indent_plans.proofs.Counted.{space-member}
+use Rattle.indent_plans.proofs.FirstLine.{drop-splice, first-in, lines-last, lines-more, first-width}
+use Rattle.indent_plans.proofs.Gap.{opened-length, opened-text}
 
 -- ---- spaces
-pub space-member : isMember 0x20 ≡ true
-unfolding isMember within
-space-member = refl
-
 pub take-spaces : (n k : ℕ) → n ≤ k → take n (spaces k) ≡ spaces n
 take-spaces zero k h = refl
 take-spaces (suc n) zero h = absurd (omega arith)
@@ -283,7 +281,7 @@ module _ (l₀ : Lent) (m from to : ℕ) where
               }
 
 -- ---- with a gap at the line's place: it is opened at the first line
-module _ (s₀ rb tb : List ℕ) (line : Line) (g : Log) (m from to : ℕ) (h : Ready narrow (lent s₀ rb tb line g)) (a : from ≤ to) (b : to ≤ line .len) (s : List ℕ) (n : length s ≡ length s₀) (e : gapped (line .len) from s ≡ gapped (line .len) (line .len) s₀) where
+module _ (s₀ rb tb : List ℕ) (line : Line) (g : Log) (from to : ℕ) (h : Ready narrow (lent s₀ rb tb line g)) (a : from ≤ to) (b : to ≤ line .len) (s : List ℕ) (n : length s ≡ length s₀) (e : gapped (line .len) from s ≡ gapped (line .len) (line .len) s₀) (m : ℕ) where
   abbrev l₀ : Lent
   l₀ = lent s₀ rb tb line g
 
@@ -293,8 +291,8 @@ module _ (s₀ rb tb : List ℕ) (line : Line) (g : Log) (m from to : ℕ) (h : 
   pub indent-opens : m ≤ 256 → AllSuit catalogue (linesPlan l₀ m from to .pieces) (textOf l₀) → tooLong (length s₀) (linesPlan l₀ m from to .pieces) (textOf l₀) ≡ false
       → fits narrow (sizesOf l₀) (listAfter catalogue (linesPlan l₀ m from to .pieces) (textOf l₀) (stateOf catalogue narrow l₀ .log .undo)) ≡ true → (c : ℕ) → c ≡ indented from m (line .cursor) → Indenting l₁ m from to l₁ c from to m
   indent-opens k u i r c q =
-      let x = opened-length s₀ rb tb line g m from to h a b s n e in
-      let y = opened-text s₀ rb tb line g m from to h a b s n e in
+      let x = opened-length s₀ rb tb line g from to h a b s n e in
+      let y = opened-text s₀ rb tb line g from to h a b s n e in
       indent-moved-first l₀ m from to l₁ c from to m (indent-moved l₀ m from to l₀ c from to m (indent-begins l₀ m from to k h a b u i r c q) (l₁ .text) x y) (l₁ .text) x y
 
 -- it is moved from line to line, and closed behind the last

@@ -1,130 +1,43 @@
 // The lines that a movement touches, indented and dedented: indent of line_buffer.rs. Any text, cursor, log, code and number may be
 // handed over: what is unfit is turned away by a number of document 01.
 ghost use mathlib.Core.Path.{_≡_};
-ghost use mathlib.Core.Bool.{true, false, cond, _&&_};
-ghost use Prim.Native.Nat.{_+_, _-_, _*_, _≤_, _<_};
-ghost use lib.Dec.{leb};
-ghost use lib.ListN.{length, take, drop};
+ghost use mathlib.Core.Bool.{true, false, cond};
+ghost use Prim.Native.Nat.{_+_, _≤_, _<_};
+ghost use lib.ListN.{length, take};
 ghost use Rattle.utf8.specs.Chars.{In};
 ghost use Rattle.unicode.specs.Repertoire.{catalogue};
 ghost use Rattle.checks.specs.Checks.{refusal as Checks·refusal, both, lineTests, ownTests};
-ghost use Rattle.lines.specs.Lines.{endOfLine};
-ghost use Rattle.buffer.specs.Gap.{shut};
 ghost use Rattle.journal.specs.Layout.{narrow};
 ghost use Rattle.journal.specs.Undo.{fits};
 ghost use Rattle.edit.specs.Plan.{part, AllSuit, tooLong, listAfter, edited};
 ghost use Rattle.edit.specs.Calls.{lent, sizesOf, stateOf, Edited, Ready};
-ghost use Rattle.touched_lines.specs.Touched.{touched as Touched·touched, split, deleting as Touched·deleting, splits as Touched·splits};
-ghost use Rattle.indents.specs.Indents.{dedented as Indents·dedented, indentLines, dedentLines, indentPlan, linesIn, indentOf, indentCall, pieceOf, indented as Indents·indented};
+ghost use Rattle.touched_lines.specs.Touched.{touched as Touched·touched, split, splits as Touched·splits};
+ghost use Rattle.indent_plans.specs.IndentPlans.{pieceOf, indentLines, indented as Plans·indented, indentPlan, linesIn};
+ghost use Rattle.indents.specs.Indents.{indentOf, indentCall};
 use buffer::move_gap;
 use changeset::Log;
 use checks::Line;
 use copies::is_foreign;
+use dedents::dedent_range;
 use edit::EditAnswer;
 use edit::Own;
 use edit::refusal;
 use edit::says;
-use gap_edits::cut_behind;
 use gap_edits::put_behind;
+use indent_plans::end_behind;
+use indent_plans::has_room;
 use keymap::Movement;
 use keymap::MovementCode;
 use keymap::RepeatCount;
-use lines::end_of_line;
 use records::NARROW;
-use touched_lines::count_cuts;
 use touched_lines::count_lines;
-use touched_lines::deleting;
 use touched_lines::splits;
 use touched_lines::touched;
-
-// Is there room in the log for n more records of 5 bytes, with so many bytes of text?
-fn has_room(records: &[u8], texts: &[u8], log: Log, n: usize, bytes: usize) -> bool
-    requires { ⌜ (log .undo .records ≤ length (now records)) × (log .undo .texts ≤ length (now texts)) × (n ≤ 65536) ⌝ }
-    ensures { λ r. ⌜ r ≡ (leb (log .undo .records + 5 * n) (length (now (records .entry))) && leb (log .undo .texts + bytes) (length (now (texts .entry)))) ⌝ }
-{
-    let u = log.undo;
-    (5 * n <= records.len() - u.records) & (bytes <= texts.len() - u.texts)
-}
-
-// Where a cursor goes as d bytes are cut from the line that begins at a place.
-fn dedented(at: usize, d: usize, pos: usize) -> usize
-    ensures { λ r. ⌜ r ≡ Indents·dedented at d pos ⌝ }
-{
-    if pos < at {
-        return pos;
-    }
-    if pos - at < d { at } else { pos - d }
-}
-
-// The end of the line that a place behind the gap stands in: at the next \n from there on, at `end` where there is none.
-fn end_behind(text: &[u8], len: usize, at: usize, from: usize, end: usize) -> usize
-    requires { ⌜ (at ≤ from) × (from ≤ end) × (end ≤ len) × (len ≤ length (now text)) ⌝ }
-    ensures { λ r. ⌜ r ≡ endOfLine (take end (shut len at (now (text .entry)))) from ⌝ }
-{
-    let gap = text.len() - len;
-    from + end_of_line(&text[from + gap..end + gap], 0)
-}
-
-// The bytes that a dedent by m cuts from the line behind the gap, which ends at a place.
-fn deleting_behind(text: &[u8], len: usize, at: usize, e: usize, m: usize) -> usize
-    requires { ⌜ (at ≤ e) × (e ≤ len) × (len ≤ length (now text)) ⌝ }
-    ensures { λ r. ⌜ r ≡ Touched·deleting catalogue m (take (e - at) (drop at (shut len at (now (text .entry))))) ⌝ }
-{
-    let gap = text.len() - len;
-    deleting(&text[at + gap..e + gap], m)
-}
-
-// The lines of a part dedented by m, one after the other. A gap stands at the line's place, and moves on from line to line.
-fn dedent_lines(
-    text: &mut [u8],
-    records: &mut [u8],
-    texts: &mut [u8],
-    line: Line,
-    log: Log,
-    m: usize,
-    from: usize,
-    to: usize,
-) -> EditAnswer
-    requires { ⌜ Ready narrow (lent (now text) (now records) (now texts) line log) ⌝ }
-    requires { ⌜ (from ≤ to) × (to ≤ line .len) ⌝ }
-    requires { ⌜ AllSuit catalogue (dedentLines catalogue m from (split (part (take (line .len) (now text)) from to))) (take (line .len) (now text)) ⌝ }
-    requires { ⌜ tooLong (length (now text)) (dedentLines catalogue m from (split (part (take (line .len) (now text)) from to))) (take (line .len) (now text)) ≡ false ⌝ }
-    requires { ⌜ fits narrow (sizesOf (lent (now text) (now records) (now texts) line log)) (listAfter catalogue (dedentLines catalogue m from (split (part (take (line .len) (now text)) from to))) (take (line .len) (now text)) (stateOf catalogue narrow (lent (now text) (now records) (now texts) line log) .log .undo)) ≡ true ⌝ }
-    ensures { λ r. ⌜ Edited narrow (lent (now (text .entry)) (now (records .entry)) (now (texts .entry)) line log)
-        (edited catalogue narrow (sizesOf (lent (now (text .entry)) (now (records .entry)) (now (texts .entry)) line log)) (length (now (text .entry)))
-        (indentPlan catalogue m true (line .cursor) from (split (part (take (line .len) (now (text .entry))) from to)))
-        (stateOf catalogue narrow (lent (now (text .entry)) (now (records .entry)) (now (texts .entry)) line log)))
-        r (now (text .exit)) (now (records .exit)) (now (texts .exit)) ⌝ }
-{
-    move_gap(text, line.len, line.len, from);
-    let mut line_now = line;
-    let mut log_now = log;
-    let mut cursor = line.cursor;
-    let mut at = from;
-    let mut end = to;
-    loop {
-        let e = end_behind(text, line_now.len, at, at, end);
-        let d = deleting_behind(text, line_now.len, at, e, m);
-        let a = cut_behind(NARROW, text, records, texts, line_now, log_now, at, d);
-        line_now = a.line;
-        log_now = a.log;
-        cursor = dedented(at, d, cursor);
-        let len = line_now.len;
-        if e == end {
-            move_gap(text, len, at, len);
-            return says(0, Line { len, cursor }, log_now);
-        }
-        let next = e - d + 1;
-        move_gap(text, len, at, next);
-        at = next;
-        end -= d;
-    }
-}
 
 // Where a cursor goes as a line that begins at a place is indented by m.
 fn indented(at: usize, m: usize, pos: usize) -> usize
     requires { ⌜ pos + m < 65536 ⌝ }
-    ensures { λ r. ⌜ r ≡ Indents·indented at m pos ⌝ }
+    ensures { λ r. ⌜ r ≡ Plans·indented at m pos ⌝ }
 {
     if pos < at { pos } else { pos + m }
 }
@@ -199,33 +112,6 @@ fn indent_lines(
         end += n;
         left -= n;
     }
-}
-
-// Checks 9 and 10 of dedenting the lines of a part, and then the lines themselves.
-fn dedent_range(
-    text: &mut [u8],
-    records: &mut [u8],
-    texts: &mut [u8],
-    line: Line,
-    log: Log,
-    m: usize,
-    from: usize,
-    to: usize,
-) -> EditAnswer
-    requires { ⌜ Ready narrow (lent (now text) (now records) (now texts) line log) ⌝ }
-    requires { ⌜ In (take (line .len) (now text)) from to ⌝ }
-    requires { ⌜ Touched·splits catalogue m (split (part (take (line .len) (now text)) from to)) ≡ false ⌝ }
-    ensures { λ r. ⌜ Edited narrow (lent (now (text .entry)) (now (records .entry)) (now (texts .entry)) line log)
-        (edited catalogue narrow (sizesOf (lent (now (text .entry)) (now (records .entry)) (now (texts .entry)) line log)) (length (now (text .entry)))
-        (indentPlan catalogue m true (line .cursor) from (split (part (take (line .len) (now (text .entry))) from to)))
-        (stateOf catalogue narrow (lent (now (text .entry)) (now (records .entry)) (now (texts .entry)) line log)))
-        r (now (text .exit)) (now (records .exit)) (now (texts .exit)) ⌝ }
-{
-    let n = count_cuts(&text[from..to], m);
-    if !has_room(records, texts, log, n.records, n.bytes) {
-        return says(10, line, log);
-    }
-    dedent_lines(text, records, texts, line, log, m, from, to)
 }
 
 // Checks 9 and 10 of indenting the lines of a part, and then the lines themselves.

@@ -39,9 +39,10 @@ use Rattle.edit_word.proofs.Plans.{edit-word-suits}
 use Rattle.transpose_words.specs.TransposeWords.{transposeWordsPlan}
 use Rattle.transpose_words.proofs.Plans.{transpose-words-suits}
 use Rattle.touched_lines.specs.Touched.{touched, splits}
-use Rattle.indents.specs.Indents.{indentPlan, indentTests, linesIn, indentOf, indentBy}
-use Rattle.indents.proofs.Suits.{indent-suits}
-use Rattle.indents.proofs.Cursors.{plan-cursor}
+use Rattle.indent_plans.specs.IndentPlans.{indentPlan, linesIn}
+use Rattle.indents.specs.Indents.{indentTests, indentOf, indentBy}
+use Rattle.indent_plans.proofs.Suits.{indent-suits}
+use Rattle.indent_plans.proofs.Cursors.{plan-cursor}
 use Rattle.session.specs.Calls.{EditCall, editOutcome}
 use Rattle.session.specs.Calls as asked
 

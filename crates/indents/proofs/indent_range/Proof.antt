@@ -1,6 +1,6 @@
 use Rattle.journal.specs.Layout.{narrow}
 use Rattle.edit.proofs.Answers.{nine, ten}
-use Rattle.indents.proofs.Rooms.{log-within, to-within, lines-few, indent-suit, indent-long, indent-fits-text, indent-room}
+use Rattle.indent_plans.proofs.Rooms.{log-within, to-within, lines-few, indent-suit, indent-long, indent-fits-text, indent-room}
 use native.Mathlib.Omega.{arith}
 use mathlib.Core.Path.{sym, _∙_}
 use denote.Ref.{now}

@@ -25,12 +25,11 @@ use Rattle.edit.proofs.Made.{raw-part}
 use Rattle.edit.proofs.Steps.{room-is}
 use Rattle.touched_lines.specs.Touched.{split, deleting, splits}
 use Rattle.touched_lines.specs.Counts.{cutsIn, bytesIn}
-use Rattle.indents.specs.Indents.{indentLines, dedentLines}
+use Rattle.indent_plans.specs.IndentPlans.{indentLines, dedentLines}
 use Rattle.touched_lines.proofs.Newlines.{split-some}
-use Rattle.indents.proofs.Joined.{joined, split-joined, split-count, Valid, split-valid}
-use Rattle.indents.proofs.Suits.{opened, part-valid, front-length, dedent-all, indent-all}
-use Rattle.indents.proofs.Counted.{long-is, puts-records, lines-pasting, lines-total, lines-count, dedent-short, dedent-records, white-other}
-use Rattle.indents.proofs.Spaces.{space-member}
+use Rattle.indent_plans.proofs.Joined.{joined, split-joined, split-count, Valid, split-valid}
+use Rattle.indent_plans.proofs.Suits.{opened, part-valid, front-length, dedent-all, indent-all}
+use Rattle.indent_plans.proofs.Counted.{space-member, long-is, puts-records, lines-pasting, lines-total, lines-count, dedent-short, dedent-records, white-other}
 
 -- ---- room behind a bytes
 fits-behind : (a n z : ℕ) → a ≤ z → leb n (z - a) ≡ leb (a + n) z

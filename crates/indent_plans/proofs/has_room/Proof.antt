@@ -1,7 +1,7 @@
-use Rattle.indents.proofs.Rooms.{both-fit}
+use Rattle.indent_plans.proofs.Rooms.{both-fit}
 use borrow.Author.Needs.{needs}
-use Rattle.indents.proofs.has_room.Statement.{statement}
-use Rattle.indents.proofs.has_room.Tie as tie
+use Rattle.indent_plans.proofs.has_room.Statement.{statement}
+use Rattle.indent_plans.proofs.has_room.Tie as tie
 
 mul-result : tie.Need-mul-result
 mul-result c = search needs

@@ -1,13 +1,18 @@
--- The lines indented and dedented with a gap at the line's place: the gap opened, moved on and closed. Assumes nothing.
+-- A gap at a line's place: what stands behind it, and the gap opened at the first line. Assumes nothing.
+use native.Mathlib.Omega.{arith}
 use mathlib.Core.Path.{_≡_, sym, ap, _∙_}
 use mathlib.Core.List.{List}
 use Prim.Native.Nat.{ℕ, _+_, _-_, _≤_}
-use native.Mathlib.Omega.{arith}
 use lib.ListN.{length, take, drop}
 use Rattle.lists.proofs.Parts.{drop-take}
-use Rattle.lines.specs.Lines.{endOfLine}
 use Rattle.unicode.specs.Repertoire.{catalogue}
-use Rattle.buffer.specs.Gap.{shut}
+use Rattle.lines.specs.Lines.{endOfLine}
+use Rattle.checks.specs.declared.Line.{Line}
+use Rattle.journal.specs.Layout.{narrow}
+use Rattle.buffer.specs.Gap.{gapped, shut}
+use Rattle.buffer.proofs.Gaps.{shut-length, gap-opened}
+use Rattle.changeset.specs.declared.Log.{Log}
+use Rattle.edit.specs.Calls.{lent, Ready}
 use Rattle.edit.specs.Plan.{part}
 use Rattle.gap_edits.proofs.Behind.{part-behind}
 use Rattle.touched_lines.specs.Touched.{deleting}
@@ -30,3 +35,11 @@ module _ (s : List ℕ) (len at : ℕ) where
       let G : ℕ = length s - len in
       let z : e + G - (at + G) ≡ e - at = omega arith in
       q ∙ ap (deleting catalogue m) (ap (λ (n : ℕ). take n (drop (at + G) s)) z ∙ part-behind len at s at e (omega arith) (omega arith) b c)
+
+-- ---- the gap opened: the buffer with the gap behind the text holds the text as it was lent
+module _ (s₀ rb tb : List ℕ) (line : Line) (g : Log) (from to : ℕ) (h : Ready narrow (lent s₀ rb tb line g)) (a : from ≤ to) (b : to ≤ line .len) (s : List ℕ) (n : length s ≡ length s₀) (e : gapped (line .len) from s ≡ gapped (line .len) (line .len) s₀) where
+  pub opened-length : length (shut (line .len) from s) ≡ length s₀
+  opened-length = shut-length (line .len) from s ∙ n
+
+  pub opened-text : take (line .len) (shut (line .len) from s) ≡ take (line .len) s₀
+  opened-text = gap-opened (line .len) s₀ s (h .used) n from (omega arith) e

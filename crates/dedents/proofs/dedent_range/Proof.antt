@@ -1,15 +1,15 @@
 use Rattle.journal.specs.Layout.{narrow}
 use Rattle.edit.proofs.Answers.{ten}
-use Rattle.indents.proofs.Rooms.{log-within, to-within, cuts-few, dedent-suit, dedent-fits-text, dedent-room}
+use Rattle.indent_plans.proofs.Rooms.{log-within, to-within, cuts-few, dedent-suit, dedent-fits-text, dedent-room}
 use native.Mathlib.Omega.{arith}
 use mathlib.Core.Path.{sym, _∙_}
 use denote.Ref.{now}
 use borrow.Author.Tests.{not-true, not-false}
 use Rattle.edit.specs.Calls.{lent}
-use Rattle.indents.proofs.Turns.{dedentPlan}
+use Rattle.dedents.proofs.Turns.{dedentPlan}
 use borrow.Author.Needs.{needs}
-use Rattle.indents.proofs.dedent_range.Statement.{statement}
-use Rattle.indents.proofs.dedent_range.Tie as tie
+use Rattle.dedents.proofs.dedent_range.Statement.{statement}
+use Rattle.dedents.proofs.dedent_range.Tie as tie
 
 sub-count-cuts : tie.Need-sub-count-cuts
 sub-count-cuts c = search needs

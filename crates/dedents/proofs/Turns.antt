@@ -1,23 +1,21 @@
 -- The lines dedented one after the other in the text as it changes. Assumes nothing.
+use native.Mathlib.Omega.{arith}
 use mathlib.Core.Path.{_≡_, refl, sym, ap, ap₂, subst, _∙_}
 use mathlib.Core.Bool.{true, false}
-use mathlib.Core.List.{List, [], _∷_, _++_}
+use mathlib.Core.List.{List, [], _∷_}
 use Prim.Native.Nat.{ℕ, _+_, _-_, _<_, _≤_}
-use native.Mathlib.Omega.{arith}
-use lib.ListN.{length, take, drop, length-drop}
-use lib.Seq.{drop-drop, drop-append-add, length-take-le, take-take}
+use lib.ListN.{length, take, drop}
+use lib.Seq.{length-take-le, take-take}
 use Rattle.lists.proofs.Bools.{by-less}
-use Rattle.lists.proofs.Parts.{drop-take}
 use Rattle.utf8.specs.Chars.{In}
 use Rattle.unicode.specs.Repertoire.{catalogue}
 use Rattle.lines.specs.Lines.{endOfLine}
-use Rattle.lines.proofs.Lines.{end-le}
-use Rattle.buffer.specs.Gap.{gapped, shut}
-use Rattle.buffer.proofs.Gaps.{shut-length, gap-opened, gap-moved, gap-closed}
 use Rattle.checks.specs.declared.Line.{Line}
-use Rattle.changeset.specs.declared.Log.{Log}
 use Rattle.journal.specs.Layout.{narrow}
 use Rattle.journal.specs.Undo.{fits}
+use Rattle.buffer.specs.Gap.{gapped, shut}
+use Rattle.buffer.proofs.Gaps.{shut-length, gap-moved, gap-closed}
+use Rattle.changeset.specs.declared.Log.{Log}
 use Rattle.edit.specs.declared.EditAnswer.{EditAnswer}
 use Rattle.edit.specs.Plan.{part, splice, Piece, cutting, once, Plan, AllSuit, tooLong, listAfter, edited}
 use Rattle.edit.specs.Calls.{Lent, lent, textOf, sizesOf, stateOf, says, Edited, Ready}
@@ -25,82 +23,51 @@ use Rattle.edit.proofs.Made.{raw-part, edited-as}
 use Rattle.edit.proofs.Splice.{splice-length}
 use Rattle.edit.proofs.Left.{Left, begins, moved, moved-first, next-suits, goes-on, ends, text-now}
 use Rattle.touched_lines.specs.Touched.{split, deleting}
-use Rattle.indents.specs.Indents.{dedentLines, dedented, dedentCursor, indentPlan}
 use Rattle.touched_lines.proofs.White.{deleting-in}
-use Rattle.touched_lines.proofs.Newlines.{line-last, line-more}
+use Rattle.indent_plans.specs.IndentPlans.{dedentLines, dedented, dedentCursor, indentPlan}
+use Rattle.indent_plans.proofs.FirstLine.{drop-splice, first-in, lines-last, lines-more, first-width}
+use Rattle.indent_plans.proofs.Gap.{opened-length, opened-text}
 
--- ---- what stands behind a part that is replaced
-pub drop-splice : (t : List ℕ) (a b : ℕ) (s : List ℕ) (j : ℕ) → a ≤ length t → drop (a + length s + j) (splice t a b s) ≡ drop (b + j) t
-unfolding splice
-drop-splice t a b s j h =
-    let l = length-take-le a t h in
-    let e : a + length s + j ≡ length (take a t) + (length s + j) = omega arith in
-    ap (λ (n : ℕ). drop n (take a t ++ (s ++ drop b t))) e ∙ drop-append-add (take a t) (s ++ drop b t) (length s + j) ∙ drop-append-add s (drop b t) j ∙ drop-drop j b t
+-- ---- the lines from at up to end; the first ends at e, and is dedented by d
+module _ (t : List ℕ) (at end e : ℕ) (h : at ≤ end) (k : end ≤ length t) (q : e ≡ endOfLine (take end t) at) (m d : ℕ) (f : d ≡ deleting catalogue m (part t at e)) where
+  pub cut-in : at + d ≤ e
+  cut-in = let z = (first-in t at end e h k q) in omega (arith, deleting-in catalogue m (part t at e), (first-width t at end e h k q))
 
--- ---- the lines from at up to end; the first ends at e
-module _ (t : List ℕ) (at end e : ℕ) (h : at ≤ end) (k : end ≤ length t) (q : e ≡ endOfLine (take end t) at) where
-  size : length (take end t) ≡ end
-  size = length-take-le end t k
+  next-at : at + (length (part t at e) - deleting catalogue m (part t at e)) + 1 ≡ e - d + 1
+  next-at = let z = cut-in in omega (arith, (first-width t at end e h k q))
 
-  pub first-in : (at ≤ e) × (e ≤ end)
-  first-in = let z = end-le (take end t) at (omega (arith, size)) in omega (arith, size)
+  pub dedent-last : e ≡ end → dedentLines catalogue m at (split (part t at end)) ≡ cutting at (at + d) ∷ []
+  unfolding dedentLines
+  dedent-last z = ap (dedentLines catalogue m at) (lines-last t at end e h k q z) ∙ ap (λ (n : ℕ). cutting at (at + n) ∷ []) (sym f)
 
-  whole : drop at (take end t) ≡ part t at end
-  whole = drop-take at end t
+  pub cursor-last : (pos : ℕ) → e ≡ end → dedentCursor catalogue m at (split (part t at end)) pos ≡ dedented at d pos
+  unfolding dedentCursor
+  cursor-last pos z = ap (λ (xs : List (List ℕ)). dedentCursor catalogue m at xs pos) (lines-last t at end e h k q z) ∙ ap (λ (n : ℕ). dedented at n pos) (sym f)
 
-  line : take (e - at) (drop at (take end t)) ≡ part t at e
-  line = let z = first-in in ap (take (e - at)) whole ∙ take-take (e - at) (end - at) (drop at t) (omega arith)
+  module _ (u : List ℕ) (g : u ≡ splice t at (at + d) []) (l : e < end) where
+    same-part : part u (e - d + 1) (end - d) ≡ part t (e + 1) end
+    same-part =
+        let z = cut-in in
+        let w : end - d - (e - d + 1) ≡ end - (e + 1) = omega arith in
+        let a : e - d + 1 ≡ at + 0 + (e - d + 1 - at) = omega arith in
+        let b : at + d + (e - d + 1 - at) ≡ e + 1 = omega arith in
+        ap (λ (x : List ℕ). part x (e - d + 1) (end - d)) g
+        ∙ ap (λ (n : ℕ). take n (drop (e - d + 1) (splice t at (at + d) []))) w
+        ∙ ap (take (end - (e + 1))) (ap (λ (n : ℕ). drop n (splice t at (at + d) [])) a ∙ drop-splice t at (at + d) [] (e - d + 1 - at) (omega arith) ∙ ap (λ (n : ℕ). drop n t) b)
 
-  pub lines-last : e ≡ end → split (part t at end) ≡ part t at e ∷ []
-  lines-last z = ap split (sym whole) ∙ line-last (take end t) at e (omega (arith, size)) q (omega (arith, size)) ∙ ap (λ (x : List ℕ). x ∷ []) line
-
-  pub lines-more : e < end → split (part t at end) ≡ part t at e ∷ split (part t (e + 1) end)
-  lines-more z =
-      ap split (sym whole) ∙ line-more (take end t) at e (omega (arith, size)) q (omega (arith, size)) ∙ ap₂ (λ (x : List ℕ) (y : List ℕ). x ∷ split y) line (drop-take (e + 1) end t)
-
-  pub first-width : length (part t at e) ≡ e - at
-  first-width = let z = first-in in length-take-le (e - at) (drop at t) (omega (arith, length-drop at t))
-
-  -- ---- dedented by d
-  module _ (m d : ℕ) (f : d ≡ deleting catalogue m (part t at e)) where
-    pub cut-in : at + d ≤ e
-    cut-in = let z = first-in in omega (arith, deleting-in catalogue m (part t at e), first-width)
-
-    next-at : at + (length (part t at e) - deleting catalogue m (part t at e)) + 1 ≡ e - d + 1
-    next-at = let z = cut-in in omega (arith, first-width)
-
-    pub dedent-last : e ≡ end → dedentLines catalogue m at (split (part t at end)) ≡ cutting at (at + d) ∷ []
+    pub dedent-more : dedentLines catalogue m at (split (part t at end)) ≡ cutting at (at + d) ∷ dedentLines catalogue m (e - d + 1) (split (part u (e - d + 1) (end - d)))
     unfolding dedentLines
-    dedent-last z = ap (dedentLines catalogue m at) (lines-last z) ∙ ap (λ (n : ℕ). cutting at (at + n) ∷ []) (sym f)
+    dedent-more =
+        ap (dedentLines catalogue m at) (lines-more t at end e h k q l)
+        ∙ ap₂ (λ (n i : ℕ). cutting at (at + n) ∷ dedentLines catalogue m i (split (part t (e + 1) end))) (sym f) next-at
+        ∙ ap (λ (x : List ℕ). cutting at (at + d) ∷ dedentLines catalogue m (e - d + 1) (split x)) (sym same-part)
 
-    pub cursor-last : (pos : ℕ) → e ≡ end → dedentCursor catalogue m at (split (part t at end)) pos ≡ dedented at d pos
+    pub cursor-more : (pos : ℕ) → dedentCursor catalogue m at (split (part t at end)) pos ≡ dedentCursor catalogue m (e - d + 1) (split (part u (e - d + 1) (end - d))) (dedented at d pos)
     unfolding dedentCursor
-    cursor-last pos z = ap (λ (xs : List (List ℕ)). dedentCursor catalogue m at xs pos) (lines-last z) ∙ ap (λ (n : ℕ). dedented at n pos) (sym f)
-
-    module _ (u : List ℕ) (g : u ≡ splice t at (at + d) []) (l : e < end) where
-      same-part : part u (e - d + 1) (end - d) ≡ part t (e + 1) end
-      same-part =
-          let z = cut-in in
-          let w : end - d - (e - d + 1) ≡ end - (e + 1) = omega arith in
-          let a : e - d + 1 ≡ at + 0 + (e - d + 1 - at) = omega arith in
-          let b : at + d + (e - d + 1 - at) ≡ e + 1 = omega arith in
-          ap (λ (x : List ℕ). part x (e - d + 1) (end - d)) g
-          ∙ ap (λ (n : ℕ). take n (drop (e - d + 1) (splice t at (at + d) []))) w
-          ∙ ap (take (end - (e + 1))) (ap (λ (n : ℕ). drop n (splice t at (at + d) [])) a ∙ drop-splice t at (at + d) [] (e - d + 1 - at) (omega arith) ∙ ap (λ (n : ℕ). drop n t) b)
-
-      pub dedent-more : dedentLines catalogue m at (split (part t at end)) ≡ cutting at (at + d) ∷ dedentLines catalogue m (e - d + 1) (split (part u (e - d + 1) (end - d)))
-      unfolding dedentLines
-      dedent-more =
-          ap (dedentLines catalogue m at) (lines-more l)
-          ∙ ap₂ (λ (n i : ℕ). cutting at (at + n) ∷ dedentLines catalogue m i (split (part t (e + 1) end))) (sym f) next-at
-          ∙ ap (λ (x : List ℕ). cutting at (at + d) ∷ dedentLines catalogue m (e - d + 1) (split x)) (sym same-part)
-
-      pub cursor-more : (pos : ℕ) → dedentCursor catalogue m at (split (part t at end)) pos ≡ dedentCursor catalogue m (e - d + 1) (split (part u (e - d + 1) (end - d))) (dedented at d pos)
-      unfolding dedentCursor
-      cursor-more pos =
-          ap (λ (xs : List (List ℕ)). dedentCursor catalogue m at xs pos) (lines-more l)
-          ∙ ap₂ (λ (n i : ℕ). dedentCursor catalogue m i (split (part t (e + 1) end)) (dedented at n pos)) (sym f) next-at
-          ∙ ap (λ (x : List ℕ). dedentCursor catalogue m (e - d + 1) (split x) (dedented at d pos)) (sym same-part)
+    cursor-more pos =
+        ap (λ (xs : List (List ℕ)). dedentCursor catalogue m at xs pos) (lines-more t at end e h k q l)
+        ∙ ap₂ (λ (n i : ℕ). dedentCursor catalogue m i (split (part t (e + 1) end)) (dedented at n pos)) (sym f) next-at
+        ∙ ap (λ (x : List ℕ). dedentCursor catalogue m (e - d + 1) (split x) (dedented at d pos)) (sym same-part)
 
 -- ---- the loop
 abbrev pub dedentPlan : Lent → ℕ → ℕ → ℕ → Plan
@@ -221,13 +188,7 @@ module _ (l₀ : Lent) (m from to : ℕ) where
             }
 
 -- ---- with a gap at the line's place: it is opened at the first line
-module _ (s₀ rb tb : List ℕ) (line : Line) (g : Log) (m from to : ℕ) (h : Ready narrow (lent s₀ rb tb line g)) (a : from ≤ to) (b : to ≤ line .len) (s : List ℕ) (n : length s ≡ length s₀) (e : gapped (line .len) from s ≡ gapped (line .len) (line .len) s₀) where
-  pub opened-length : length (shut (line .len) from s) ≡ length s₀
-  opened-length = shut-length (line .len) from s ∙ n
-
-  pub opened-text : take (line .len) (shut (line .len) from s) ≡ take (line .len) s₀
-  opened-text = gap-opened (line .len) s₀ s (h .used) n from (omega arith) e
-
+module _ (s₀ rb tb : List ℕ) (line : Line) (g : Log) (from to : ℕ) (h : Ready narrow (lent s₀ rb tb line g)) (a : from ≤ to) (b : to ≤ line .len) (s : List ℕ) (n : length s ≡ length s₀) (e : gapped (line .len) from s ≡ gapped (line .len) (line .len) s₀) (m : ℕ) where
   abbrev l₀ : Lent
   l₀ = lent s₀ rb tb line g
 
@@ -237,7 +198,9 @@ module _ (s₀ rb tb : List ℕ) (line : Line) (g : Log) (m from to : ℕ) (h : 
   pub dedent-opens : AllSuit catalogue (dedentPlan l₀ m from to .pieces) (textOf l₀) → tooLong (length s₀) (dedentPlan l₀ m from to .pieces) (textOf l₀) ≡ false
       → fits narrow (sizesOf l₀) (listAfter catalogue (dedentPlan l₀ m from to .pieces) (textOf l₀) (stateOf catalogue narrow l₀ .log .undo)) ≡ true → Dedenting l₁ m from to l₁ (line .cursor) from to
   dedent-opens u i r =
-      dedent-moved-first l₀ m from to l₁ (line .cursor) from to (dedent-moved l₀ m from to l₀ (line .cursor) from to (dedent-begins l₀ m from to h a b u i r) (l₁ .text) opened-length opened-text) (l₁ .text) opened-length opened-text
+      let x = opened-length s₀ rb tb line g from to h a b s n e in
+      let y = opened-text s₀ rb tb line g from to h a b s n e in
+      dedent-moved-first l₀ m from to l₁ (line .cursor) from to (dedent-moved l₀ m from to l₀ (line .cursor) from to (dedent-begins l₀ m from to h a b u i r) (l₁ .text) x y) (l₁ .text) x y
 
 -- it is moved from line to line, and closed behind the last
 module _ (l₁ : Lent) (m from to : ℕ) (s rb tb : List ℕ) (line : Line) (g : Log) (cursor at end : ℕ) (k : Dedenting l₁ m from to (lent (shut (line .len) at s) rb tb line g) cursor at end) where

@@ -1,8 +1,8 @@
 use denote.Ref.{now}
-use Rattle.indents.proofs.Gap.{end-is}
+use Rattle.indent_plans.proofs.Gap.{end-is}
 use borrow.Author.Needs.{needs}
-use Rattle.indents.proofs.end_behind.Statement.{statement}
-use Rattle.indents.proofs.end_behind.Tie as tie
+use Rattle.indent_plans.proofs.end_behind.Statement.{statement}
+use Rattle.indent_plans.proofs.end_behind.Tie as tie
 
 sub-gap : tie.Need-sub-gap
 sub-gap c = search needs

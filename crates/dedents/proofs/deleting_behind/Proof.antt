@@ -1,8 +1,8 @@
 use denote.Ref.{now}
-use Rattle.indents.proofs.Gap.{deleting-is}
+use Rattle.indent_plans.proofs.Gap.{deleting-is}
 use borrow.Author.Needs.{needs}
-use Rattle.indents.proofs.deleting_behind.Statement.{statement}
-use Rattle.indents.proofs.deleting_behind.Tie as tie
+use Rattle.dedents.proofs.deleting_behind.Statement.{statement}
+use Rattle.dedents.proofs.deleting_behind.Tie as tie
 
 sub-gap : tie.Need-sub-gap
 sub-gap c = search needs

@@ -1,7 +1,7 @@
 use borrow.Author.Tests.{lt-ltb, le-ltb}
 use borrow.Author.Needs.{needs}
-use Rattle.indents.proofs.dedented.Statement.{statement}
-use Rattle.indents.proofs.dedented.Tie as tie
+use Rattle.dedents.proofs.dedented.Statement.{statement}
+use Rattle.dedents.proofs.dedented.Tie as tie
 
 returns : tie.Need-returns
 returns c = simp (lt-ltb _ _ (c .if1 .taken))

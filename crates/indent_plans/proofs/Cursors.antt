@@ -15,8 +15,8 @@ use Rattle.keymap.specs.declared.Movement.{Movement}
 use Rattle.edit.specs.Plan.{Piece, splice, AllSuit, textAfter}
 use Rattle.edit.proofs.Pieces.{splice-stays, splice-moves, splice-start}
 use Rattle.touched_lines.specs.Touched.{deleting, splits, touched}
-use Rattle.indents.specs.Indents.{spaces, indentPieces, indentLines, indentCursor, dedentLines, dedented, dedentCursor, linesIn, indentPlan, pieceOf, indented}
-use Rattle.indents.proofs.Suits.{spaces-valid, piece-in, indent-suits}
+use Rattle.indent_plans.specs.IndentPlans.{spaces, indentPieces, indentLines, indentCursor, dedentLines, dedented, dedentCursor, linesIn, indentPlan, pieceOf, indented}
+use Rattle.indent_plans.proofs.Suits.{spaces-valid, piece-in, indent-suits}
 
 -- a place of a text
 abbrev pub At : List ℕ → ℕ → Type 0

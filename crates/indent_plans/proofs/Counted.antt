@@ -17,7 +17,7 @@ use Rattle.utf8.specs.Chars.{chars, valid, boundary}
 use Rattle.utf8.proofs.Chars.{valid-bad, chars-step}
 use Rattle.utf8.proofs.Forms.{within-above}
 use Rattle.utf8.proofs.Append.{by-first, first-append}
-use Rattle.unicode.specs.Repertoire.{Repertoire, isWhite, isAlnum}
+use Rattle.unicode.specs.Repertoire.{Repertoire, isMember, isWhite, isAlnum}
 use Rattle.cluster.specs.Clusters.{clusters, clustersOf}
 use Rattle.cluster.proofs.Clusters.{runOf, clusters-head}
 use Rattle.journal.specs.Change.{Edit, insert, delete, Change, edit}
@@ -29,10 +29,10 @@ use Rattle.journal.proofs.Recording.{delete-none, delete-some, insert-some}
 use Rattle.edit.specs.Plan.{Piece, typed, pasted, cutting, swapping, part, splice, listAfter, tooLong}
 use Rattle.touched_lines.specs.Touched.{leading, deleting, splits}
 use Rattle.touched_lines.specs.Counts.{cutsIn, bytesIn}
-use Rattle.indents.specs.Indents.{indentPieces, indentLine, indentLines, dedentLines, pieceOf}
+use Rattle.indent_plans.specs.IndentPlans.{indentPieces, indentLine, indentLines, dedentLines, pieceOf}
 use Rattle.touched_lines.proofs.White.{step-other, deleting-in, deleting-white}
-use Rattle.indents.proofs.Joined.{behind, Valid, part-is}
-use Rattle.indents.proofs.Suits.{piece-in, whole, dedent-next, dedent-place, dedent-before}
+use Rattle.indent_plans.proofs.Joined.{behind, Valid, part-is}
+use Rattle.indent_plans.proofs.Suits.{piece-in, whole, dedent-next, dedent-place, dedent-before}
 
 -- ---- texts put in, none of them empty
 abbrev pub Pasting : List Piece → Type 0
@@ -226,6 +226,10 @@ module _ (R : Repertoire) (m : ℕ) where
         (omega (arith, g .0, r .0), omega (arith, g .1, r .1))
 
 -- ---- the catalogue
+pub space-member : isMember 0x20 ≡ true
+unfolding isMember within
+space-member = refl
+
 low : (c : ℕ) → isWhite c ≡ true → c ≤ 160
 unfolding isWhite
 low c e =

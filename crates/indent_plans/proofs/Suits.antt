@@ -21,12 +21,12 @@ use Rattle.keymap.specs.declared.Movement.{Movement}
 use Rattle.edit.specs.Plan.{part, Piece, cutting, made, splice, AllSuit}
 use Rattle.edit.proofs.Once.{part-between}
 use Rattle.touched_lines.specs.Touched.{split, deleting, splits, touched}
-use Rattle.indents.specs.Indents.{spaces, indentPieces, indentLines, dedentLines, linesIn, indentPlan, pieceOf}
+use Rattle.indent_plans.specs.IndentPlans.{spaces, indentPieces, indentLines, dedentLines, linesIn, indentPlan, pieceOf}
 use Rattle.touched_lines.proofs.Newlines.{split-some}
 use Rattle.touched_lines.proofs.Ranges.{touched-in}
 use Rattle.touched_lines.proofs.White.{deleting-in}
 use Rattle.touched_lines.proofs.Walks.{newline-valid}
-use Rattle.indents.proofs.Joined.{behind, joined, split-joined, Valid, split-valid, at-boundary, within, end-boundary, cut-is, put-is, next-line}
+use Rattle.indent_plans.proofs.Joined.{behind, joined, split-joined, Valid, split-valid, at-boundary, within, end-boundary, cut-is, put-is, next-line}
 
 -- ---- what is before the next line is characters
 module _ (a x : List ℕ) (v : valid a ≡ true) (w : valid x ≡ true) where

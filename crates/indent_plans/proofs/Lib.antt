@@ -1,0 +1,7 @@
+pub mod Joined
+pub mod Suits
+pub mod Cursors
+pub mod Counted
+pub mod Rooms
+pub mod FirstLine
+pub mod Gap
