@@ -69,7 +69,8 @@ unfolding listAfter
 after-first R F z x xs t u e = e
 
 module _ (F : Format) where
-  ready-moved : (l : Lent) (t : List ℕ) → Ready F l → length t ≡ length (l .text) → take (l .line .len) t ≡ textOf l → Ready F (lent t (l .records) (l .texts) (l .line) (l .log))
+  -- bytes moved in the buffer of a text that stays as it is: the checks pass it still
+  pub ready-moved : (l : Lent) (t : List ℕ) → Ready F l → length t ≡ length (l .text) → take (l .line .len) t ≡ textOf l → Ready F (lent t (l .records) (l .texts) (l .line) (l .log))
   ready-moved l t h n e =
       record {
         small = omega (arith, h .small);
@@ -85,7 +86,7 @@ module _ (F : Format) where
       → fits F (sizesOf l) (listAfter catalogue (p .pieces) (textOf l) (stateOf catalogue F l .log .undo)) ≡ true → Left F l p (p .pieces) l
   begins l p h a b c = record { ready = h; text = refl; records = refl; texts = refl; suit = a; short = b; room = c; same = refl }
 
-  -- bytes moved in the buffer of the text, which stays as it is
+  -- and as much is left
   pub moved : (l₀ : Lent) (p : Plan) (xs : List Piece) (l : Lent) (t : List ℕ) → Left F l₀ p xs l → length t ≡ length (l .text) → take (l .line .len) t ≡ textOf l → Left F l₀ p xs (lent t (l .records) (l .texts) (l .line) (l .log))
   moved l₀ p xs l t k n e =
       record {

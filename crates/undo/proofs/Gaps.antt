@@ -7,16 +7,15 @@ use mathlib.Core.List.{List}
 use lib.Dec.{eqb}
 use lib.ListN.{length, take, length-take}
 use Rattle.unicode.specs.Repertoire.{catalogue}
-use Rattle.unicode.specs.Text.{isText}
-use Rattle.utf8.specs.Chars.{boundary}
 use Rattle.buffer.specs.Gap.{gapped, shut}
-use Rattle.buffer.proofs.Gaps.{shut-length, shut-text, gapped-end}
+use Rattle.buffer.proofs.Gaps.{shut-length, gap-opened, gap-closed}
 use Rattle.checks.specs.declared.Line.{Line}
 use Rattle.journal.specs.Layout.{Format}
 use Rattle.changeset.specs.declared.Log.{Log}
 use Rattle.edit.specs.declared.EditAnswer.{EditAnswer}
 use Rattle.edit.specs.Plan.{State, Outcome, refused, answered}
 use Rattle.edit.specs.Calls.{Lent, lent, stateOf, Edited, Ready}
+use Rattle.edit.proofs.Left.{ready-moved}
 use Rattle.undo.specs.Undo.{Walked, numberOf, undoOut, redoneState, redoWalk, behindNumber, redoOut}
 use Rattle.undo.specs.Steps.{lentGap}
 use Rattle.undo.proofs.Walks.{answerBy, Ends}
@@ -87,21 +86,13 @@ module _ (F : Format) where
 -- ---- the gap opened: b is the plain buffer, o the one with the gap at the cursor
 module _ (F : Format) (b rb tb : List ℕ) (a : Line) (g : Log) (h : Ready F (lent b rb tb a g)) (o : List ℕ) (i : length o ≡ length b) (m : gapped (a .len) (a .cursor) o ≡ gapped (a .len) (a .len) b) where
   opened-text : take (a .len) (shut (a .len) (a .cursor) o) ≡ take (a .len) b
-  opened-text = shut-text (a .len) (a .cursor) o (h .within) (omega (arith, h .used, i)) ∙ m ∙ gapped-end (a .len) b (h .used)
+  opened-text = gap-opened (a .len) b o (h .used) i (a .cursor) (h .within) m
 
   opened-length : length (shut (a .len) (a .cursor) o) ≡ length b
   opened-length = shut-length (a .len) (a .cursor) o ∙ i
 
   pub opened : Ready F (lentGap o rb tb a g)
-  opened =
-      record {
-        small = omega (arith, h .small, opened-length);
-        used = omega (arith, h .used, opened-length);
-        text = subst (λ (t : List ℕ). isText catalogue t ≡ true) (sym opened-text) (h .text);
-        within = h .within;
-        edge = subst (λ (t : List ℕ). boundary t (a .cursor) ≡ true) (sym opened-text) (h .edge);
-        log = h .log;
-      }
+  opened = ready-moved F (lent b rb tb a g) (shut (a .len) (a .cursor) o) h opened-length opened-text
 
   -- and closed behind an answer: t is the buffer with the gap at its cursor, t′ the plain one
   module _ (out : ℕ → State → Outcome) (n : (C : ℕ) (s : State) → Answered (out C s)) {r : EditAnswer} (t : List ℕ)
@@ -114,6 +105,5 @@ module _ (F : Format) (b rb tb : List ℕ) (a : Line) (g : Log) (h : Ready F (le
     closed c {t′} j f =
         let same : out (length (shut (a .len) (a .cursor) o)) (stateOf catalogue F (lentGap o rb tb a g)) ≡ out (length b) (stateOf catalogue F (lent b rb tb a g)) =
         ap₂ (λ (x : ℕ) (y : List ℕ). out x (record { text = y; cursor = a .cursor; log = stateOf catalogue F (lent b rb tb a g) .log })) opened-length opened-text in
-        let u : take (r .line .len) t′ ≡ take (r .line .len) (shut (r .line .len) (r .line .cursor) t) =
-        sym (gapped-end (r .line .len) t′ (omega (arith, used-there, j))) ∙ f ∙ sym (shut-text (r .line .len) (r .line .cursor) t c used-there) in
+        let u : take (r .line .len) t′ ≡ take (r .line .len) (shut (r .line .len) (r .line .cursor) t) = gap-closed (r .line .len) t t′ used-there j (r .line .cursor) c f in
         subst (λ (x : Outcome). Edited F (lent b rb tb a g) x r t′ rb tb) same (left-same F (lentGap o rb tb a g) (lent b rb tb a g) (out (length (shut (a .len) (a .cursor) o)) (stateOf catalogue F (lentGap o rb tb a g))) (n _ _) u e)
