@@ -31,10 +31,10 @@ use Rattle.indent_plans.proofs.Gap.{opened-length, opened-text}
 -- ---- the lines from at up to end; the first ends at e, and is dedented by d
 module _ (t : List ℕ) (at end e : ℕ) (h : at ≤ end) (k : end ≤ length t) (q : e ≡ endOfLine (take end t) at) (m d : ℕ) (f : d ≡ deleting catalogue m (part t at e)) where
   pub cut-in : at + d ≤ e
-  cut-in = let z = (first-in t at end e h k q) in omega (arith, deleting-in catalogue m (part t at e), (first-width t at end e h k q))
+  cut-in = let z = first-in t at end e h k q in omega (arith, deleting-in catalogue m (part t at e), first-width t at end e h k q)
 
   next-at : at + (length (part t at e) - deleting catalogue m (part t at e)) + 1 ≡ e - d + 1
-  next-at = let z = cut-in in omega (arith, (first-width t at end e h k q))
+  next-at = let z = cut-in in omega (arith, first-width t at end e h k q)
 
   pub dedent-last : e ≡ end → dedentLines catalogue m at (split (part t at end)) ≡ cutting at (at + d) ∷ []
   unfolding dedentLines

@@ -1,4 +1,4 @@
-// The lines of a part of a text dedented, in one pass over the text.
+// The lines of a part of a text dedented, with a gap at the line's place: a byte of the text moves twice at most.
 ghost use mathlib.Core.Path.{_≡_};
 ghost use mathlib.Core.Bool.{true, false};
 ghost use Prim.Native.Nat.{_-_, _≤_};
