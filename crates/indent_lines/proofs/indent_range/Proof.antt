@@ -6,10 +6,10 @@ use mathlib.Core.Path.{sym, _∙_}
 use denote.Ref.{now}
 use borrow.Author.Tests.{not-true, not-false}
 use Rattle.edit.specs.Calls.{lent}
-use Rattle.indents.proofs.Spaces.{linesPlan}
+use Rattle.indent_lines.proofs.Spaces.{linesPlan}
 use borrow.Author.Needs.{needs}
-use Rattle.indents.proofs.indent_range.Statement.{statement}
-use Rattle.indents.proofs.indent_range.Tie as tie
+use Rattle.indent_lines.proofs.indent_range.Statement.{statement}
+use Rattle.indent_lines.proofs.indent_range.Tie as tie
 
 sub-count-lines : tie.Need-sub-count-lines
 sub-count-lines c = search needs

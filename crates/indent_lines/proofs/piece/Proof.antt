@@ -1,6 +1,6 @@
 use borrow.Author.Tests.{lt-ltb, le-ltb}
-use Rattle.indents.proofs.piece.Statement.{statement}
-use Rattle.indents.proofs.piece.Tie as tie
+use Rattle.indent_lines.proofs.piece.Statement.{statement}
+use Rattle.indent_lines.proofs.piece.Tie as tie
 
 returns : tie.Need-returns
 returns c = simp (lt-ltb _ _ (c .if1 .taken))

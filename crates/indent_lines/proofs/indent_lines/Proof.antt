@@ -9,10 +9,10 @@ use Rattle.records.proofs.Formats.{narrow-fit}
 use Rattle.edit.specs.Calls.{lent}
 use Rattle.gap_edits.proofs.Behind.{small}
 use Rattle.indent_plans.proofs.Gap.{opened-length, opened-text}
-use Rattle.indents.proofs.Spaces.{Indenting, indent-opens, gap-at, gap-length, done-within, indent-on, indent-done, put-suits, put-within, put-text, indent-put, turns, turns-line, turns-put}
+use Rattle.indent_lines.proofs.Spaces.{Indenting, indent-opens, gap-at, gap-length, done-within, indent-on, indent-done, put-suits, put-within, put-text, indent-put, turns, turns-line, turns-put}
 use borrow.Author.Needs.{needs}
-use Rattle.indents.proofs.indent_lines.Statement.{statement}
-use Rattle.indents.proofs.indent_lines.Tie as tie
+use Rattle.indent_lines.proofs.indent_lines.Statement.{statement}
+use Rattle.indent_lines.proofs.indent_lines.Tie as tie
 
 abbrev Inv-loop : tie.InvT-loop
 Inv-loop text₀ records₀ texts₀ m from to spaces line-now₀ log-now₀ cursor₀ at₀ end₀ left₀ text records texts line-now log-now cursor at end left =

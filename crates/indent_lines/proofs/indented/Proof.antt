@@ -1,7 +1,7 @@
 use borrow.Author.Tests.{lt-ltb, le-ltb}
 use borrow.Author.Needs.{needs}
-use Rattle.indents.proofs.indented.Statement.{statement}
-use Rattle.indents.proofs.indented.Tie as tie
+use Rattle.indent_lines.proofs.indented.Statement.{statement}
+use Rattle.indent_lines.proofs.indented.Tie as tie
 
 add-result : tie.Need-add-result
 add-result c = search needs
