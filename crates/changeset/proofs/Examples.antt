@@ -13,6 +13,7 @@ use Rattle.journal.specs.Recording.{note, recordInsert, recordInsertStr, record
 use Rattle.journal.specs.Groups.{Log, empty, endAll, endsAny}
 use Rattle.journal.specs.Undo.{Sizes, undoRecords, undoTexts, allSmall, fits, lastInsertAt}
 use Rattle.changeset.specs.Outcomes.{answered, refused, beginOut, endOut, recordOut, truncateOut, lastInsertOut}
+use Rattle.changeset.specs.Calls.{logOf}
 
 abbrev a : List ℕ
 a = 0x61 ∷ []
@@ -31,6 +32,10 @@ room r t = record { records = r; texts = t }
 abbrev redoable : List Change → Log
 redoable u = record { undo = u; redo = end ∷ []; level = 1 }
 
+-- new: the value of its contract is the state of the empty log, with level 0 and used lengths 0
+new-empty : logOf narrow empty ≡ record { undo = record { records = 0; texts = 0 }; redo = record { records = 0; texts = 0 }; level = 0 }
+new-empty = refl
+
 -- begin: not 10 while there is space, and its mark is the number of records before it
 begin-fits : (beginOut narrow (room 1 0) empty ≡ answered 0 0 0 (record { undo = begin ∷ []; redo = []; level = 1 })) × (beginOut narrow (room 0 0) empty ≡ refused 10)
 unfolding beginOut fits allSmall undoRecords undoTexts
@@ -41,7 +46,7 @@ end-closes : endOut narrow (room 6 1) (redoable (edit (insert 0 a) ∷ [])) ≡ 
 unfolding endOut endAll endsAny fits allSmall undoRecords undoTexts
 end-closes = refl
 
-end-empty : endOut narrow (room 1 0) (redoable (begin ∷ [])) ≡ answered 1 0 0 empty
+end-empty : endOut narrow (room 2 0) (redoable (begin ∷ [])) ≡ answered 1 0 0 empty
 unfolding endOut endAll endsAny fits allSmall undoRecords undoTexts
 end-empty = refl
 
@@ -59,7 +64,7 @@ unfolding recordInsert note encode isAlnum within
 insert-begin = refl
 
 -- insert_str: of an empty text nothing but the redo list dropped, and no merging
-str-empty : recordOut narrow (room 0 0) (recordInsertStr 0 [] []) (redoable []) ≡ answered 0 0 0 (record { undo = []; redo = []; level = 1 })
+str-empty : recordOut narrow (room 1 0) (recordInsertStr 0 [] []) (redoable []) ≡ answered 0 0 0 (record { undo = []; redo = []; level = 1 })
 unfolding recordOut recordInsertStr fits allSmall undoRecords undoTexts
 str-empty = refl
 
