@@ -30,6 +30,10 @@ gapped-end len s k =
     let e : len + (length s - len) ≡ length s = omega arith in
     ap (λ (n : ℕ). take len s ++ drop n s) e ∙ ap (λ (l : List ℕ). take len s ++ l) (drop-length s) ∙ append-nil (take len s)
 
+pub shut-end : (len : ℕ) (s : List ℕ) → len ≤ length s → shut len len s ≡ s
+unfolding shut
+shut-end len s h = ap₂ (λ (x y : List ℕ). x ++ y) (gapped-end len s h) (take-all (length s - len) (drop len s) (simp length-drop (omega arith))) ∙ take-append-drop len s
+
 -- and where there is none, it stands anywhere
 pub gapped-full : (len from to : ℕ) (s : List ℕ) → length s - len ≡ 0 → gapped len to s ≡ gapped len from s
 unfolding gapped

@@ -137,8 +137,10 @@ module _ {F : Format} {l₀ : Lent} (h : Ready F l₀) (m : ℕ) (o : opens m (s
   mark-within e = omega (arith, opens-within m (st .log .undo) o)
 
   -- at its beginning
-  pub cancelling-first : {n : ℕ} → n ≡ length (st .log .undo) → Cancelling F l₀ m (l₀ .text) (record { number = 0; len = l₀ .line .len; cursor = l₀ .line .cursor; undone = false }) (l₀ .log) (n - m)
-  cancelling-first {n} e = record { come = come-first h; count = omega (arith, opens-within m (st .log .undo) o); same = go (n - m) (omega (arith, opens-within m (st .log .undo) o)) }
+  pub cancelling-first : {n : ℕ} → n ≡ length (st .log .undo) → {t : List ℕ} → t ≡ l₀ .text → Cancelling F l₀ m t (record { number = 0; len = l₀ .line .len; cursor = l₀ .line .cursor; undone = false }) (l₀ .log) (n - m)
+  cancelling-first {n} e i =
+      subst (λ (b : List ℕ). Cancelling F l₀ m b (record { number = 0; len = l₀ .line .len; cursor = l₀ .line .cursor; undone = false }) (l₀ .log) (n - m)) (sym i)
+      (record { come = come-first h; count = omega (arith, opens-within m (st .log .undo) o); same = go (n - m) (omega (arith, opens-within m (st .log .undo) o)) })
     where
       go : (k : ℕ) → 0 < k → downTo (length (l₀ .text)) m k (st .log .undo) (st .log .redo) (trailOf st) ≡ walkTo (length (l₀ .text)) m (st .log .undo) (st .log .redo) (trailOf st)
       go zero z = absurd (omega arith)
@@ -165,13 +167,11 @@ module _ {F : Format} {l₀ : Lent} {m : ℕ} {t : List ℕ} {s : Step} {g : Log
 
     -- a record stops it
     pub cancel-stop : (p .step .number ≡ 0 → ⊥) → {r : EditAnswer} → r ≡ answerBy (numberOf (p .step .number) (p .step .undone)) (lineOf (p .step)) (p .log)
-        → Edited F l₀ (cancelOut (length (l₀ .text)) m start) r t′ (l₀ .records) (l₀ .texts) × (r .line .cursor ≤ r .line .len)
+        → Edited F l₀ (cancelOut (length (l₀ .text)) m start) r t′ (l₀ .records) (l₀ .texts)
     cancel-stop z {r} y =
         let a = at-record ∙ to-stop (length (l₀ .text)) m n x f (now .log .redo) (trailBy now (s .undone)) (p .step .number) h (stopped-there true (k .come) e p t′ q z) in
-        let i = stop-ended true (k .come) e p t′ q z a y in (
-          subst (λ (c : Outcome). Edited F l₀ c r t′ (l₀ .records) (l₀ .texts)) (sym (cancel-stopped (length (l₀ .text)) m start o (λ b. z (sym (ap (λ (w : Walked). w .stopped) a) ∙ b)))) (edited i),
-          i .ready .within,
-        )
+        subst (λ (c : Outcome). Edited F l₀ c r t′ (l₀ .records) (l₀ .texts)) (sym (cancel-stopped (length (l₀ .text)) m start o (λ b. z (sym (ap (λ (w : Walked). w .stopped) a) ∙ b))))
+        (edited (stop-ended true (k .come) e p t′ q z a y))
 
     -- one less is left
     pub cancelling-next : (i : length t′ ≡ length t) (z : p .step .number ≡ 0) → Cancelling F l₀ m t′ (p .step) (p .log) (n - 1)

@@ -1,17 +1,15 @@
 // Cancel: document 01, with undo's walk over the records. Any text, cursor and log may be handed over: what is unfit is turned
-// away by a number of document 01. Records and their texts are only read. While records are walked the text has a gap at the
-// cursor.
+// away by a number of document 01. Records and their texts are only read. While records are walked the text has a gap,
+// as in undo.
 ghost use mathlib.Core.Path.{_≡_};
 ghost use mathlib.Core.Bool.{true};
 ghost use Prim.Native.Nat.{_≤_};
 ghost use lib.ListN.{length};
 ghost use Rattle.unicode.specs.Repertoire.{catalogue};
 ghost use Rattle.journal.specs.Layout.{narrow};
-ghost use Rattle.buffer.specs.Gap.{shut};
 ghost use Rattle.records.specs.Formats.{asFormat, Fit};
 ghost use Rattle.edit.specs.Calls.{lent, stateOf, Edited, Ready};
 ghost use Rattle.retrace.specs.Records.{SizesOf};
-ghost use Rattle.undo.specs.Steps.{lentGap};
 ghost use Rattle.cancel.specs.Cancel.{opens, beginsDown, cancelOut, cancelCall};
 ghost use Rattle.cancel.specs.Open.{NotedIn, OpenAt};
 use buffer::move_gap;
@@ -25,7 +23,7 @@ use records::Format;
 use records::NARROW;
 use retrace::Step;
 use retrace::note_sizes;
-use undo::answer;
+use undo::close;
 use undo::one_if;
 use undo::undo_record;
 
@@ -54,7 +52,7 @@ fn open_begins(records: &[u8], sizes: &[u8], count: usize, mark: usize) -> usize
     0
 }
 
-// cancel_group with the text's gap at the cursor: count is the number of records, begins that of the Begins dropped.
+// The group of a mark undone and dropped: count is the number of records, begins that of the Begins dropped.
 fn cancel_noted(
     f: Format,
     text: &mut [u8],
@@ -68,16 +66,15 @@ fn cancel_noted(
     begins: usize,
 ) -> EditAnswer
     requires { ⌜ Fit f ⌝ }
-    requires { ⌜ Ready (asFormat f) (lentGap (now text) (now records) (now texts) line log) ⌝ }
+    requires { ⌜ Ready (asFormat f) (lent (now text) (now records) (now texts) line log) ⌝ }
     requires { ⌜ length (now records) ≤ length (now sizes) ⌝ }
-    requires { ⌜ SizesOf (asFormat f) (now sizes) (stateOf catalogue (asFormat f) (lentGap (now text) (now records) (now texts) line log) .log .undo) ⌝ }
-    requires { ⌜ count ≡ length (stateOf catalogue (asFormat f) (lentGap (now text) (now records) (now texts) line log) .log .undo) ⌝ }
-    requires { ⌜ opens mark (stateOf catalogue (asFormat f) (lentGap (now text) (now records) (now texts) line log) .log .undo) ≡ true ⌝ }
-    requires { ⌜ begins ≡ beginsDown mark (stateOf catalogue (asFormat f) (lentGap (now text) (now records) (now texts) line log) .log .undo) ⌝ }
-    ensures edit { λ r. ⌜ Edited (asFormat f) (lentGap (now (text .entry)) (now (records .entry)) (now (texts .entry)) line log)
-        (cancelOut (length (shut (line .len) (line .cursor) (now (text .entry)))) mark (stateOf catalogue (asFormat f) (lentGap (now (text .entry)) (now (records .entry)) (now (texts .entry)) line log)))
-        r (shut (r .line .len) (r .line .cursor) (now (text .exit))) (now (records .entry)) (now (texts .entry)) ⌝ }
-    ensures cursor { λ r. ⌜ r .line .cursor ≤ r .line .len ⌝ }
+    requires { ⌜ SizesOf (asFormat f) (now sizes) (stateOf catalogue (asFormat f) (lent (now text) (now records) (now texts) line log) .log .undo) ⌝ }
+    requires { ⌜ count ≡ length (stateOf catalogue (asFormat f) (lent (now text) (now records) (now texts) line log) .log .undo) ⌝ }
+    requires { ⌜ opens mark (stateOf catalogue (asFormat f) (lent (now text) (now records) (now texts) line log) .log .undo) ≡ true ⌝ }
+    requires { ⌜ begins ≡ beginsDown mark (stateOf catalogue (asFormat f) (lent (now text) (now records) (now texts) line log) .log .undo) ⌝ }
+    ensures { λ r. ⌜ Edited (asFormat f) (lent (now (text .entry)) (now (records .entry)) (now (texts .entry)) line log)
+        (cancelOut (length (now (text .entry))) mark (stateOf catalogue (asFormat f) (lent (now (text .entry)) (now (records .entry)) (now (texts .entry)) line log)))
+        r (now (text .exit)) (now (records .entry)) (now (texts .entry)) ⌝ }
 {
     let mut s = Step {
         number: 0,
@@ -85,17 +82,20 @@ fn cancel_noted(
         cursor: line.cursor,
         undone: false,
     };
+    let mut gap = line.len;
     let mut g = log;
     let mut left = count - mark;
     while 0 < left {
-        let p = undo_record(f, text, records, texts, sizes, s, g);
+        let p = undo_record(f, text, records, texts, sizes, s, gap, g);
         s = p.step;
+        gap = p.gap;
         g = p.log;
         if s.number != 0 {
-            return answer(s, g);
+            return close(text, s, gap, g);
         }
         left -= 1;
     }
+    move_gap(text, s.len, gap, s.len);
     let u = g.undo;
     let last = Line {
         len: s.len,
@@ -104,8 +104,7 @@ fn cancel_noted(
     says(0, last, g.cancel(u.records, u.texts, begins))
 }
 
-// Cancel on a text and a log that the checks pass: the group of the mark undone and dropped. The gap is opened at the cursor,
-// and closed behind its records.
+// Cancel on a text and a log that the checks pass: the group of the mark undone and dropped.
 fn cancel_group(
     f: Format,
     text: &mut [u8],
@@ -129,8 +128,7 @@ fn cancel_group(
     if begins == 0 {
         return says(1, line, log);
     }
-    move_gap(text, line.len, line.len, line.cursor);
-    let a = cancel_noted(
+    cancel_noted(
         f,
         text,
         records,
@@ -141,10 +139,7 @@ fn cancel_group(
         count,
         mark,
         begins,
-    );
-    let last = a.line;
-    move_gap(text, last.len, last.cursor, last.len);
-    a
+    )
 }
 
 // Wrong answers ruled out: the level of the group left as it was; the redo list kept.

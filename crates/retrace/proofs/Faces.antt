@@ -93,38 +93,34 @@ module _ (C : ℕ) (r : Record) (ts : List ℕ) (t : ℕ) (s : Trail) where
       turned C x s ∙ rw (new-part x h from to (f .1) (f .2), f .0, h .numbers)
 
 -- ---- what is left, by the number
--- the buffer of a step, with its gap at the cursor put behind the text
-abbrev pub shutBy : Step → List ℕ → List ℕ
-shutBy q b = shut (q .len) (q .cursor) b
-
 -- a stop
 abbrev stoppedBy : Step → ℕ → Step
 stoppedBy q k = record { number = k; len = q .len; cursor = q .cursor; undone = q .undone }
 
-stopped-step : (x : Tried) (q : Step) (k : ℕ) (b b' : List ℕ) → Exchanged x k b b' → (k ≡ 0 → ⊥) → Retraced x q (stoppedBy q k) (shutBy q b) (shutBy q b')
-stopped-step (done s) q k b b' e f = absurd (f (e .0))
-stopped-step (stops n) q k b b' e f = (ap (stoppedBy q) (e .0), ap (shutBy q) (e .1))
+stopped-step : (x : Tried) (q : Step) (gap k : ℕ) (b b' : List ℕ) → Exchanged x k b b' → (k ≡ 0 → ⊥) → Retraced x q (stoppedBy q k) (shut (q .len) gap b) (shut (q .len) gap b')
+stopped-step (done s) q gap k b b' e f = absurd (f (e .0))
+stopped-step (stops n) q gap k b b' e f = (ap (stoppedBy q) (e .0), ap (shut (q .len) gap) (e .1))
 
 -- the text, the cursor and whether a record was undone, as a step has them with the text's buffer
 abbrev trailOf : Step → List ℕ → Trail
 trailOf q b = record { text = take (q .len) b; cursor = q .cursor; undone = q .undone }
 
-module _ (r : Record) (ts : List ℕ) (t : ℕ) (q : Step) (b : List ℕ) (z : q .number ≡ 0) (v : q .cursor ≤ q .len) (m : q .len ≤ length (shutBy q b)) where
+module _ (r : Record) (ts : List ℕ) (t : ℕ) (q : Step) (gap : ℕ) (b : List ℕ) (z : q .number ≡ 0) (v : gap ≤ q .len) (m : q .len ≤ length (shut (q .len) gap b)) where
   abbrev B : List ℕ
-  B = shutBy q b
+  B = shut (q .len) gap b
 
   -- the buffer is as long, and its text is the one around the gap
   size : length B ≡ length b
-  size = shut-length (q .len) (q .cursor) b
+  size = shut-length (q .len) gap b
 
-  used : q .len ≤ length b
+  pub used : q .len ≤ length b
   used = omega (arith, m, size)
 
-  around : take (q .len) B ≡ gapped (q .len) (q .cursor) b
-  around = shut-text (q .len) (q .cursor) b v used
+  around : take (q .len) B ≡ gapped (q .len) gap b
+  around = shut-text (q .len) gap b v used
 
   -- so it is a text of the repertoire as well
-  pub text-around : isText catalogue (take (q .len) B) ≡ true → isText catalogue (gapped (q .len) (q .cursor) b) ≡ true
+  pub text-around : isText catalogue (take (q .len) B) ≡ true → isText catalogue (gapped (q .len) gap b) ≡ true
   text-around = subst (λ (l : List ℕ). isText catalogue l ≡ true) around
 
   -- a record of no text leaves everything
@@ -135,7 +131,7 @@ module _ (r : Record) (ts : List ℕ) (t : ℕ) (q : Step) (b : List ℕ) (z : q
       (ap₂ (λ (n l : ℕ). record { number = n; len = l; cursor = q .cursor; undone = q .undone }) z (sym e), ap (λ (x : ℕ). take x B) e)
 
   module _ (out from to k : ℕ) (b' : List ℕ) (w : Within out from to (length ts)) (y : length b' ≡ length b)
-      (x : Exchanged (exchanging (length b) (r .place) out (take (to - from) (drop from ts)) (gapped (q .len) (q .cursor) b)) k b b') where
+      (x : Exchanged (exchanging (length b) (r .place) out (take (to - from) (drop from ts)) (gapped (q .len) gap b)) k b b') where
     abbrev part : List ℕ
     part = take (to - from) (drop from ts)
 
@@ -148,9 +144,9 @@ module _ (r : Record) (ts : List ℕ) (t : ℕ) (q : Step) (b : List ℕ) (z : q
 
     -- a stop leaves everything
     pub stops-at : (back : Bool) (c : Change) → Carries c r ts t → 2 < r .kind → Faces back r t out from to → (k ≡ 0 → ⊥)
-        → Retraced (undoing (length B) (facing back c) (trailOf q B)) q (stoppedBy q k) B (shutBy q b')
+        → Retraced (undoing (length B) (facing back c) (trailOf q B)) q (stoppedBy q k) B (shut (q .len) gap b')
     stops-at back c h i f j =
-        rw (exchanges (length B) r ts t (trailOf q B) back c out from to h i f) (stopped-step (exchanging (length B) (r .place) out part (take (q .len) B)) q k b b' there j)
+        rw (exchanges (length B) r ts t (trailOf q B) back c out from to h i f) (stopped-step (exchanging (length B) (r .place) out part (take (q .len) B)) q gap k b b' there j)
 
     module _ (j : k ≡ 0) where
       fit : Fits (length B) (r .place) out part (take (q .len) B)
@@ -164,13 +160,16 @@ module _ (r : Record) (ts : List ℕ) (t : ℕ) (q : Step) (b : List ℕ) (z : q
       pub left-within : q .len - out + (to - from) ≤ length b
       left-within = omega (arith, fit .room, length-take-le (q .len) B m, part-length, size)
 
-      -- the step behind the record, its gap behind what was put in
+      -- behind the record the gap stands at the cursor, behind what was put in
+      pub gap-within : r .place + (to - from) ≤ q .len - out + (to - from)
+      gap-within = omega (arith, fit .ends, length-take-le (q .len) B m)
+
       abbrev next : Step
       next = record { number = 0; len = q .len - out + (to - from); cursor = r .place + (to - from); undone = true }
 
       -- it is what the record, undone or redone, leaves
       pub moves : (back : Bool) (c : Change) → Carries c r ts t → 2 < r .kind → Faces back r t out from to
-          → Retraced (undoing (length B) (facing back c) (trailOf q B)) q next B (shutBy next b')
+          → Retraced (undoing (length B) (facing back c) (trailOf q B)) q next B (shut (next .len) (next .cursor) b')
       moves back c h i f =
           let e = length-take-le (q .len) B m in
           let g = swaps (length B) (r .place) out part (take (q .len) B) fit in
@@ -179,5 +178,5 @@ module _ (r : Record) (ts : List ℕ) (t : ℕ) (q : Step) (b : List ℕ) (z : q
           let p : r .place + (to - from) ≡ r .place + length part = ap (λ (n : ℕ). r .place + n) (sym part-length) in
           let a : take (length S) (shut (length S) (r .place + length part) b') ≡ S =
           shut-text (length S) (r .place + length part) b' (omega (arith, l, part-length, fit .ends, e)) (omega (arith, l, left-within, y)) ∙ subst (λ (u : Tried). Exchanged u k b b') g there .1 in
-          subst (λ (u : Tried). Retraced u q next B (shutBy next b')) (sym (exchanges (length B) r ts t (trailOf q B) back c out from to h i f ∙ g))
+          subst (λ (u : Tried). Retraced u q next B (shut (next .len) (next .cursor) b')) (sym (exchanges (length B) r ts t (trailOf q B) back c out from to h i f ∙ g))
           (ap₂ (λ (n p : ℕ). record { number = 0; len = n; cursor = p; undone = true }) l p, ap₂ (λ (n p : ℕ). take (length S) (shut n p b')) l p ∙ a)

@@ -1,5 +1,5 @@
-// One record undone or redone: undo.rs, undo and redo of Change. Records and their texts are only read. The text has a gap at the
-// cursor, so a record costs the distance from the cursor to its place, and its own bytes.
+// One record undone or redone: undo.rs, undo and redo of Change. Records and their texts are only read. The text has a gap at
+// a place, so a record costs the distance from there to its own place, and its own bytes.
 ghost use mathlib.Core.Path.{_≡_};
 ghost use mathlib.Core.Bool.{true};
 ghost use Prim.Native.Nat.{_+_, _≤_, _<_};
@@ -139,16 +139,31 @@ pub struct Step {
     pub undone: bool,
 }
 
-// A record undone (back) or redone, whose texts begin at t. The text has its gap at the cursor, before and afterwards.
-pub fn retrace(text: &mut [u8], texts: &[u8], s: Step, r: Record, t: usize, back: bool) -> Step
-    requires { ⌜ (s .number ≡ 0) × (s .cursor ≤ s .len) × (s .len ≤ length (shut (s .len) (s .cursor) (now text))) × (r .place < 4294967296) × (t + (r .old + r .new) ≤ length (now texts)) × (length (now texts) ≤ 65535) ⌝ }
-    requires { ⌜ isText catalogue (take (s .len) (shut (s .len) (s .cursor) (now text))) ≡ true ⌝ }
-    ensures { λ q. ⌜ ((c : Change) → Carries c r (now (texts .entry)) t → Retraced
-        (undoing (length (shut (s .len) (s .cursor) (now (text .entry)))) (facing back c) (record { text = take (s .len) (shut (s .len) (s .cursor) (now (text .entry))); cursor = s .cursor; undone = s .undone }))
-        s q (shut (s .len) (s .cursor) (now (text .entry))) (shut (q .len) (q .cursor) (now (text .exit)))) ⌝ }
+// A record undone or redone: the step behind it, and the place of the text's gap.
+pub struct Traced {
+    pub step: Step,
+    pub gap: usize,
+}
+
+// A record undone (back) or redone, whose texts begin at t, in a text with its gap at a place.
+pub fn retrace(
+    text: &mut [u8],
+    texts: &[u8],
+    s: Step,
+    gap: usize,
+    r: Record,
+    t: usize,
+    back: bool,
+) -> Traced
+    requires { ⌜ (s .number ≡ 0) × (gap ≤ s .len) × (s .len ≤ length (shut (s .len) gap (now text))) × (r .place < 4294967296) × (t + (r .old + r .new) ≤ length (now texts)) × (length (now texts) ≤ 65535) ⌝ }
+    requires { ⌜ isText catalogue (take (s .len) (shut (s .len) gap (now text))) ≡ true ⌝ }
+    ensures text { λ q. ⌜ ((c : Change) → Carries c r (now (texts .entry)) t → Retraced
+        (undoing (length (shut (s .len) gap (now (text .entry)))) (facing back c) (record { text = take (s .len) (shut (s .len) gap (now (text .entry))); cursor = s .cursor; undone = s .undone }))
+        s (q .step) (shut (s .len) gap (now (text .entry))) (shut (q .step .len) (q .gap) (now (text .exit)))) ⌝ }
+    ensures gap { λ q. ⌜ (q .gap ≤ q .step .len) × (q .step .len ≤ length (now (text .exit))) ⌝ }
 {
     if r.kind <= 2 {
-        return s;
+        return Traced { step: s, gap };
     }
     let mid = t + r.old;
     let mut out = r.old;
@@ -160,19 +175,22 @@ pub fn retrace(text: &mut [u8], texts: &[u8], s: Step, r: Record, t: usize, back
         to = mid;
     }
     let put = to - from;
-    let number = exchange(text, s.len, s.cursor, r.place, out, &texts[from..to]);
+    let number = exchange(text, s.len, gap, r.place, out, &texts[from..to]);
     if number != 0 {
-        return Step {
+        let step = Step {
             number,
             len: s.len,
             cursor: s.cursor,
             undone: s.undone,
         };
+        return Traced { step, gap };
     }
-    Step {
+    let cursor = r.place + put;
+    let step = Step {
         number: 0,
         len: s.len - out + put,
-        cursor: r.place + put,
+        cursor,
         undone: true,
-    }
+    };
+    Traced { step, gap: cursor }
 }

@@ -152,8 +152,9 @@ pub record Redoing (F : Format) (l₀ : Lent) (n : ℕ) (t : List ℕ) (a : Line
   pub same : redoOut (length (l₀ .text)) n (stateOf catalogue F l₀) ≡ behindNumber number (redoOut (length (l₀ .text)) left (stateOf catalogue F (lent t (l₀ .records) (l₀ .texts) a g)))
 
 -- at their beginning
-pub redoing-first : {F : Format} {l₀ : Lent} → Ready F l₀ → (n : ℕ) → Redoing F l₀ n (l₀ .text) (l₀ .line) (l₀ .log) 1 n
-redoing-first h n = record { ready = h; text = refl; low = omega arith; same = sym (behind-one _) }
+pub redoing-first : {F : Format} {l₀ : Lent} → Ready F l₀ → (n : ℕ) {t : List ℕ} → t ≡ l₀ .text → Redoing F l₀ n t (l₀ .line) (l₀ .log) 1 n
+redoing-first {F} {l₀} h n e =
+    subst (λ (b : List ℕ). Redoing F l₀ n b (l₀ .line) (l₀ .log) 1 n) (sym e) (record { ready = h; text = refl; low = omega arith; same = sym (behind-one _) })
 
 module _ {F : Format} {l₀ : Lent} {n : ℕ} {t : List ℕ} {a : Line} {g : Log} {number left : ℕ} (k : Redoing F l₀ n t a g number left) where
   abbrev l : Lent

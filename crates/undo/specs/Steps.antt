@@ -28,13 +28,13 @@ trailBy s b = record { text = s .text; cursor = s .cursor; undone = b }
 abbrev pub lineOf : Step → Line
 lineOf s = record { len = s .len; cursor = s .cursor }
 
--- what is lent where the text has a gap at the cursor
-abbrev pub lentGap : List ℕ → List ℕ → List ℕ → Line → Log → Lent
-lentGap t rb tb a g = lent (shut (a .len) (a .cursor) t) rb tb a g
+-- what is lent where the text has its gap at a place
+abbrev pub lentGap : List ℕ → ℕ → List ℕ → List ℕ → Line → Log → Lent
+lentGap t gap rb tb a g = lent (shut (a .len) gap t) rb tb a g
 
--- what is lent where a walk has come to s
-abbrev pub lentBy : List ℕ → List ℕ → List ℕ → Step → Log → Lent
-lentBy t rb tb s g = lentGap t rb tb (lineOf s) g
+-- where a walk has come to s
+abbrev pub lentBy : List ℕ → ℕ → List ℕ → List ℕ → Step → Log → Lent
+lentBy t gap rb tb s g = lentGap t gap rb tb (lineOf s) g
 
 -- a text, a cursor and a log
 abbrev pub stateAt : Trail → groups.Log → State

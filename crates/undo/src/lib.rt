@@ -1,7 +1,8 @@
 // Undo and redo: undo.rs, undo and redo of Changeset, and document 01 for the stops 12 and 9. Any text, cursor and log may be
 // handed over: what is unfit is turned away by a number of document 01. Records and their texts are only read: the seam
-// between the two lists moves. While records are walked the text has a gap at the cursor, so that a record costs
-// the distance from the place before it, and its own bytes.
+// between the two lists moves. While records are walked the text has a gap, behind what the last of them put in: a
+// record costs the distance from there, and its own bytes. It is closed behind the last, and where no record has moved it, it
+// stands behind the text and not a byte is changed.
 ghost use mathlib.Core.Path.{_≡_};
 ghost use mathlib.Core.Bool.{true, false, cond, _&&_};
 ghost use Prim.Native.Nat.{_≤_, _<_};
@@ -9,7 +10,7 @@ ghost use lib.Dec.{eqb};
 ghost use lib.ListN.{length};
 ghost use Rattle.unicode.specs.Repertoire.{catalogue};
 ghost use Rattle.journal.specs.Layout.{narrow};
-ghost use Rattle.buffer.specs.Gap.{shut};
+ghost use Rattle.buffer.specs.Gap.{gapped, shut};
 ghost use Rattle.records.specs.Formats.{asFormat, Fit};
 ghost use Rattle.edit.specs.Calls.{lent, stateOf, Edited, Ready};
 ghost use Rattle.retrace.specs.Records.{SizesOf};
@@ -31,9 +32,11 @@ use retrace::note_sizes;
 use retrace::read_record;
 use retrace::retrace;
 
-// A record undone or redone: where the walk has come to, the log with its seam there, and the record's kind.
+// A record undone or redone: where the walk has come to, the place of the text's gap, the log with its seam there, and the
+// record's kind.
 pub struct Passed {
     pub step: Step,
+    pub gap: usize,
     pub log: Log,
     pub kind: usize,
 }
@@ -46,26 +49,35 @@ pub fn undo_record(
     texts: &[u8],
     sizes: &[u8],
     s: Step,
+    gap: usize,
     log: Log,
 ) -> Passed
     requires { ⌜ Fit f ⌝ }
-    requires { ⌜ Ready (asFormat f) (lentBy (now text) (now records) (now texts) s log) ⌝ }
-    requires { ⌜ (s .number ≡ 0) × (0 < log .undo .records) × (length (now records) ≤ length (now sizes)) ⌝ }
-    requires { ⌜ SizesOf (asFormat f) (now sizes) (stateOf catalogue (asFormat f) (lentBy (now text) (now records) (now texts) s log) .log .undo) ⌝ }
-    ensures { λ q. ⌜ PassesOne (asFormat f) (lentBy (now (text .entry)) (now (records .entry)) (now (texts .entry)) s log) true (s .undone) q (shut (q .step .len) (q .step .cursor) (now (text .exit))) ⌝ }
+    requires { ⌜ Ready (asFormat f) (lentBy (now text) gap (now records) (now texts) s log) ⌝ }
+    requires { ⌜ (s .number ≡ 0) × (0 < log .undo .records) × (length (now records) ≤ length (now sizes)) × (gap ≤ s .len) ⌝ }
+    requires { ⌜ SizesOf (asFormat f) (now sizes) (stateOf catalogue (asFormat f) (lentBy (now text) gap (now records) (now texts) s log) .log .undo) ⌝ }
+    ensures pass { λ q. ⌜ PassesOne (asFormat f) (lentBy (now (text .entry)) gap (now (records .entry)) (now (texts .entry)) s log) true (s .undone) q (shut (q .step .len) (q .gap) (now (text .exit))) ⌝ }
+    ensures gap { λ q. ⌜ (q .gap ≤ q .step .len) × (q .step .len ≤ length (now (text .exit))) ⌝ }
 {
     let u = log.undo;
     let at = u.records;
     let start = at - sizes[at - 1] as usize;
     let r = read_record(f, records, start);
     let first = u.texts - (r.old + r.new);
-    let step = retrace(text, texts, s, r, first, true);
+    let traced = retrace(text, texts, s, gap, r, first, true);
+    let step = traced.step;
     let kind = r.kind;
     if step.number != 0 {
-        return Passed { step, log, kind };
+        return Passed {
+            step,
+            gap: traced.gap,
+            log,
+            kind,
+        };
     }
     Passed {
         step,
+        gap: traced.gap,
         log: log.move_seam(start, first),
         kind,
     }
@@ -78,25 +90,34 @@ fn redo_record(
     records: &[u8],
     texts: &[u8],
     s: Step,
+    gap: usize,
     log: Log,
 ) -> Passed
     requires { ⌜ Fit f ⌝ }
-    requires { ⌜ Ready (asFormat f) (lentBy (now text) (now records) (now texts) s log) ⌝ }
-    requires { ⌜ (s .number ≡ 0) × (0 < log .redo .records) ⌝ }
-    ensures { λ q. ⌜ PassesOne (asFormat f) (lentBy (now (text .entry)) (now (records .entry)) (now (texts .entry)) s log) false (s .undone) q (shut (q .step .len) (q .step .cursor) (now (text .exit))) ⌝ }
+    requires { ⌜ Ready (asFormat f) (lentBy (now text) gap (now records) (now texts) s log) ⌝ }
+    requires { ⌜ (s .number ≡ 0) × (0 < log .redo .records) × (gap ≤ s .len) ⌝ }
+    ensures pass { λ q. ⌜ PassesOne (asFormat f) (lentBy (now (text .entry)) gap (now (records .entry)) (now (texts .entry)) s log) false (s .undone) q (shut (q .step .len) (q .gap) (now (text .exit))) ⌝ }
+    ensures gap { λ q. ⌜ (q .gap ≤ q .step .len) × (q .step .len ≤ length (now (text .exit))) ⌝ }
 {
     let u = log.undo;
     let at = u.records;
     let t = u.texts;
     let r = read_record(f, records, at);
-    let step = retrace(text, texts, s, r, t, false);
+    let traced = retrace(text, texts, s, gap, r, t, false);
+    let step = traced.step;
     let kind = r.kind;
     if step.number != 0 {
-        return Passed { step, log, kind };
+        return Passed {
+            step,
+            gap: traced.gap,
+            log,
+            kind,
+        };
     }
     let end = at + record_size(f, records[at] as usize);
     Passed {
         step,
+        gap: traced.gap,
         log: log.move_seam(end, t + (r.old + r.new)),
         kind,
     }
@@ -116,6 +137,16 @@ pub fn answer(s: Step, log: Log) -> EditAnswer
     says(s.number, line, log)
 }
 
+// The gap closed behind a walk, and its answer.
+pub fn close(text: &mut [u8], s: Step, gap: usize, log: Log) -> EditAnswer
+    requires { ⌜ (gap ≤ s .len) × (s .len ≤ length (now text)) ⌝ }
+    ensures answer { λ r. ⌜ r ≡ record { number = numberOf (s .number) (s .undone); from = 0; to = 0; line = lineOf s; log = log } ⌝ }
+    ensures text { λ r. ⌜ gapped (s .len) (s .len) (now (text .exit)) ≡ gapped (s .len) gap (now (text .entry)) ⌝ }
+{
+    move_gap(text, s.len, gap, s.len);
+    answer(s, log)
+}
+
 // 1 where a record is of a kind, else 0.
 pub fn one_if(kind: usize, k: usize) -> usize
     ensures { λ r. ⌜ (r ≡ cond (eqb kind k) 1 0) × (r ≤ 1) ⌝ }
@@ -126,8 +157,7 @@ pub fn one_if(kind: usize, k: usize) -> usize
     0
 }
 
-// undo_units with the sizes of the undo list's records noted, and the text's gap at the cursor. A unit is done where the Ends
-// passed are no more than the Begins.
+// undo_units with the sizes of the undo list's records noted. A unit is done where the Ends passed are no more than the Begins.
 fn undo_noted(
     f: Format,
     text: &mut [u8],
@@ -139,13 +169,12 @@ fn undo_noted(
     n: usize,
 ) -> EditAnswer
     requires { ⌜ Fit f ⌝ }
-    requires { ⌜ Ready (asFormat f) (lentGap (now text) (now records) (now texts) line log) ⌝ }
+    requires { ⌜ Ready (asFormat f) (lent (now text) (now records) (now texts) line log) ⌝ }
     requires { ⌜ length (now records) ≤ length (now sizes) ⌝ }
-    requires { ⌜ SizesOf (asFormat f) (now sizes) (stateOf catalogue (asFormat f) (lentGap (now text) (now records) (now texts) line log) .log .undo) ⌝ }
-    ensures edit { λ r. ⌜ Edited (asFormat f) (lentGap (now (text .entry)) (now (records .entry)) (now (texts .entry)) line log)
-        (undoOut (length (shut (line .len) (line .cursor) (now (text .entry)))) n (stateOf catalogue (asFormat f) (lentGap (now (text .entry)) (now (records .entry)) (now (texts .entry)) line log)))
-        r (shut (r .line .len) (r .line .cursor) (now (text .exit))) (now (records .entry)) (now (texts .entry)) ⌝ }
-    ensures cursor { λ r. ⌜ r .line .cursor ≤ r .line .len ⌝ }
+    requires { ⌜ SizesOf (asFormat f) (now sizes) (stateOf catalogue (asFormat f) (lent (now text) (now records) (now texts) line log) .log .undo) ⌝ }
+    ensures { λ r. ⌜ Edited (asFormat f) (lent (now (text .entry)) (now (records .entry)) (now (texts .entry)) line log)
+        (undoOut (length (now (text .entry))) n (stateOf catalogue (asFormat f) (lent (now (text .entry)) (now (records .entry)) (now (texts .entry)) line log)))
+        r (now (text .exit)) (now (records .entry)) (now (texts .entry)) ⌝ }
 {
     let mut s = Step {
         number: 0,
@@ -153,6 +182,7 @@ fn undo_noted(
         cursor: line.cursor,
         undone: false,
     };
+    let mut gap = line.len;
     let mut g = log;
     let mut left = n;
     let mut ends: usize = 0;
@@ -160,13 +190,14 @@ fn undo_noted(
     loop {
         let u = g.undo;
         if u.records == 0 {
-            return answer(s, g);
+            return close(text, s, gap, g);
         }
-        let p = undo_record(f, text, records, texts, sizes, s, g);
+        let p = undo_record(f, text, records, texts, sizes, s, gap, g);
         s = p.step;
+        gap = p.gap;
         g = p.log;
         if s.number != 0 {
-            return answer(s, g);
+            return close(text, s, gap, g);
         }
         begins += one_if(p.kind, 1);
         ends += one_if(p.kind, 2);
@@ -174,14 +205,14 @@ fn undo_noted(
             continue;
         }
         if left <= 1 {
-            return answer(s, g);
+            return close(text, s, gap, g);
         }
         left -= 1;
     }
 }
 
 // Undo on a text and a log that the checks pass: the newest records, until n units are done. A unit is done where no End that
-// was passed waits for its Begin. The gap is opened at the cursor, and closed behind them.
+// was passed waits for its Begin.
 fn undo_units(
     f: Format,
     text: &mut [u8],
@@ -201,11 +232,7 @@ fn undo_units(
     let u = log.undo;
     let ur = u.records;
     note_sizes(f, &records[..ur], &mut sizes);
-    move_gap(text, line.len, line.len, line.cursor);
-    let a = undo_noted(f, text, records, texts, &sizes, line, log, n);
-    let last = a.line;
-    move_gap(text, last.len, last.cursor, last.len);
-    a
+    undo_noted(f, text, records, texts, &sizes, line, log, n)
 }
 
 // Wrong answers ruled out: undo 0 that undoes nothing; a unit that goes on over a group's Begin to the end of the list.
@@ -228,6 +255,12 @@ pub fn undo(
     undo_units(NARROW, text, records, texts, line, log, n as usize)
 }
 
+// One unit redone: its answer, and the place of the text's gap.
+struct RedoAnswer {
+    answer: EditAnswer,
+    gap: usize,
+}
+
 // The records of one unit redone. A record redone is passed turned round: a Begin as an End, an End as a Begin.
 fn redo_unit(
     f: Format,
@@ -235,11 +268,14 @@ fn redo_unit(
     records: &[u8],
     texts: &[u8],
     line: Line,
+    gap: usize,
     log: Log,
-) -> EditAnswer
+) -> RedoAnswer
     requires { ⌜ Fit f ⌝ }
-    requires { ⌜ Ready (asFormat f) (lentGap (now text) (now records) (now texts) line log) ⌝ }
-    ensures { λ r. ⌜ Redone (asFormat f) (lentGap (now (text .entry)) (now (records .entry)) (now (texts .entry)) line log) r (shut (r .line .len) (r .line .cursor) (now (text .exit))) ⌝ }
+    requires { ⌜ Ready (asFormat f) (lentGap (now text) gap (now records) (now texts) line log) ⌝ }
+    requires { ⌜ gap ≤ line .len ⌝ }
+    ensures unit { λ r. ⌜ Redone (asFormat f) (lentGap (now (text .entry)) gap (now (records .entry)) (now (texts .entry)) line log) (r .answer) (shut (r .answer .line .len) (r .gap) (now (text .exit))) ⌝ }
+    ensures gap { λ r. ⌜ r .gap ≤ r .answer .line .len ⌝ }
 {
     let mut s = Step {
         number: 0,
@@ -247,24 +283,35 @@ fn redo_unit(
         cursor: line.cursor,
         undone: false,
     };
+    let mut at = gap;
     let mut g = log;
     let mut ends: usize = 0;
     let mut begins: usize = 0;
     loop {
         let d = g.redo;
         if d.records == 0 {
-            return answer(s, g);
+            return RedoAnswer {
+                answer: answer(s, g),
+                gap: at,
+            };
         }
-        let p = redo_record(f, text, records, texts, s, g);
+        let p = redo_record(f, text, records, texts, s, at, g);
         s = p.step;
+        at = p.gap;
         g = p.log;
         if s.number != 0 {
-            return answer(s, g);
+            return RedoAnswer {
+                answer: answer(s, g),
+                gap: at,
+            };
         }
         ends += one_if(p.kind, 1);
         begins += one_if(p.kind, 2);
         if ends <= begins {
-            return answer(s, g);
+            return RedoAnswer {
+                answer: answer(s, g),
+                gap: at,
+            };
         }
     }
 }
@@ -279,46 +326,8 @@ fn behind(number: u32, k: u32) -> u32
     k
 }
 
-// redo_units with the text's gap at the cursor. A stop ends the units; where no record is left to redo, those left would change
-// nothing.
-fn redo_gapped(
-    f: Format,
-    text: &mut [u8],
-    records: &[u8],
-    texts: &[u8],
-    line: Line,
-    log: Log,
-    n: usize,
-) -> EditAnswer
-    requires { ⌜ Fit f ⌝ }
-    requires { ⌜ Ready (asFormat f) (lentGap (now text) (now records) (now texts) line log) ⌝ }
-    ensures edit { λ r. ⌜ Edited (asFormat f) (lentGap (now (text .entry)) (now (records .entry)) (now (texts .entry)) line log)
-        (redoOut (length (shut (line .len) (line .cursor) (now (text .entry)))) n (stateOf catalogue (asFormat f) (lentGap (now (text .entry)) (now (records .entry)) (now (texts .entry)) line log)))
-        r (shut (r .line .len) (r .line .cursor) (now (text .exit))) (now (records .entry)) (now (texts .entry)) ⌝ }
-    ensures cursor { λ r. ⌜ r .line .cursor ≤ r .line .len ⌝ }
-{
-    let mut line_now = line;
-    let mut log_now = log;
-    let mut number: u32 = 1;
-    let mut left = n;
-    loop {
-        let d = log_now.redo;
-        if (left == 0) | (d.records == 0) {
-            return says(number, line_now, log_now);
-        }
-        let a = redo_unit(f, text, records, texts, line_now, log_now);
-        line_now = a.line;
-        log_now = a.log;
-        number = behind(number, a.number);
-        if 1 < number {
-            return says(number, line_now, log_now);
-        }
-        left -= 1;
-    }
-}
-
-// Redo on a text and a log that the checks pass: n times the records of one unit. The gap is opened at the cursor, and closed
-// behind them.
+// Redo on a text and a log that the checks pass: n times the records of one unit. A stop ends them; where no record is left to
+// redo, the units left would change nothing.
 fn redo_units(
     f: Format,
     text: &mut [u8],
@@ -334,11 +343,29 @@ fn redo_units(
         (redoOut (length (now (text .entry))) n (stateOf catalogue (asFormat f) (lent (now (text .entry)) (now (records .entry)) (now (texts .entry)) line log)))
         r (now (text .exit)) (now (records .entry)) (now (texts .entry)) ⌝ }
 {
-    move_gap(text, line.len, line.len, line.cursor);
-    let a = redo_gapped(f, text, records, texts, line, log, n);
-    let last = a.line;
-    move_gap(text, last.len, last.cursor, last.len);
-    a
+    let mut line_now = line;
+    let mut gap = line.len;
+    let mut log_now = log;
+    let mut number: u32 = 1;
+    let mut left = n;
+    loop {
+        let d = log_now.redo;
+        if (left == 0) | (d.records == 0) {
+            move_gap(text, line_now.len, gap, line_now.len);
+            return says(number, line_now, log_now);
+        }
+        let u = redo_unit(f, text, records, texts, line_now, gap, log_now);
+        gap = u.gap;
+        let a = u.answer;
+        line_now = a.line;
+        log_now = a.log;
+        number = behind(number, a.number);
+        if 1 < number {
+            move_gap(text, line_now.len, gap, line_now.len);
+            return says(number, line_now, log_now);
+        }
+        left -= 1;
+    }
 }
 
 // Wrong answers ruled out: redo 0 answered 0; a unit redone without the End that closes it.

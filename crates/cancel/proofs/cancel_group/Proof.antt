@@ -1,6 +1,5 @@
 use borrow.Author.Needs.{needs}
 use native.Mathlib.Omega.{arith}
-use Prim.Native.Nat.{ℕ}
 use mathlib.Core.Path.{sym, _∙_}
 use lib.ListN.{length-reverse}
 use lib.Seq.{length-take-le}
@@ -9,16 +8,16 @@ use Rattle.unicode.specs.Repertoire.{catalogue}
 use Rattle.records.specs.Formats.{asFormat}
 use Rattle.changeset.specs.Calls.{undos}
 use Rattle.changeset.proofs.Recorded.{lays, listed}
-use Rattle.edit.specs.Plan.{State}
 use Rattle.edit.specs.Calls.{lent, logLent, stateOf}
-use Rattle.undo.proofs.Gaps.{opened, used-there, closed}
-use Rattle.cancel.specs.Cancel.{cancelOut}
-use Rattle.cancel.proofs.Cancels.{cancel-answered, not-open, is-open, its-begins, cancels-nothing}
+use Rattle.cancel.proofs.Cancels.{not-open, is-open, its-begins, cancels-nothing}
 use Rattle.cancel.proofs.cancel_group.Statement.{statement}
 use Rattle.cancel.proofs.cancel_group.Tie as tie
 
 slice-aggregate-note-sizes : tie.Need-slice-aggregate-note-sizes
-slice-aggregate-note-sizes c = let s = c .before .before .before .before .before in let a = s .args in let h = s .pre .1 in
+slice-aggregate-note-sizes c =
+    let s = c .before .before .before .before .before in
+    let a = s .args in
+    let h = s .pre .1 in
     let e = length-take-le (a .log .undo .records) (now (a .records)) (omega (arith, h .log .hold .room)) in
     sym e
 
@@ -26,13 +25,19 @@ slice-aggregate-note-sizes-2 : tie.Need-slice-aggregate-note-sizes-2
 slice-aggregate-note-sizes-2 c = search needs
 
 note-sizes-requires : tie.Need-note-sizes-requires
-note-sizes-requires c κs = let s = c .before .before .before .before .before .before in let a = s .args in let h = s .pre .1 in
+note-sizes-requires c κs =
+    let s = c .before .before .before .before .before .before in
+    let a = s .args in
+    let h = s .pre .1 in
     let l = lent (now (a .text)) (now (a .records)) (now (a .texts)) (a .line) (a .log) in
     let e = length-take-le (a .log .undo .records) (now (a .records)) (omega (arith, h .log .hold .room)) in
     (s .pre .0, (listed (asFormat (a .f)) (logLent l) (h .log), omega (arith, e, h .log .hold .room, h .log .records)))
 
 slice-aggregate-open-begins : tie.Need-slice-aggregate-open-begins
-slice-aggregate-open-begins c = let s = c .before .before .before .before .before .before .before .before .before in let a = s .args in let h = s .pre .1 in
+slice-aggregate-open-begins c =
+    let s = c .before .before .before .before .before .before .before .before .before in
+    let a = s .args in
+    let h = s .pre .1 in
     let e = length-take-le (a .log .undo .records) (now (a .records)) (omega (arith, h .log .hold .room)) in
     sym e
 
@@ -40,7 +45,10 @@ slice-aggregate-open-begins-2 : tie.Need-slice-aggregate-open-begins-2
 slice-aggregate-open-begins-2 c = search needs
 
 open-begins-requires : tie.Need-open-begins-requires
-open-begins-requires c κs = let s = c .before .before .before .before .before .before .before .before .before .before in let a = s .args in let h = s .pre .1 in
+open-begins-requires c κs =
+    let s = c .before .before .before .before .before .before .before .before .before .before in
+    let a = s .args in
+    let h = s .pre .1 in
     let l = lent (now (a .text)) (now (a .records)) (now (a .texts)) (a .line) (a .log) in
     let e = length-take-le (a .log .undo .records) (now (a .records)) (omega (arith, h .log .hold .room)) in
     let n = c .before .before .before .note-sizes in (
@@ -52,7 +60,10 @@ says-requires : tie.Need-says-requires
 says-requires c κs = search needs
 
 returns : tie.Need-returns
-returns c = let s = c .before .before .before .before .before .before .before .before .before .before .before .before .before in let a = s .args in let h = s .pre .1 in
+returns c =
+    let s = c .before .before .before .before .before .before .before .before .before .before .before .before .before in
+    let a = s .args in
+    let h = s .pre .1 in
     let l = lent (now (a .text)) (now (a .records)) (now (a .texts)) (a .line) (a .log) in
     let u = stateOf catalogue (asFormat (a .f)) l .log .undo in
     let d = lays (asFormat (a .f)) (logLent l) (h .log) in
@@ -60,45 +71,41 @@ returns c = let s = c .before .before .before .before .before .before .before .b
     let o = c .before .before .open-begins .ensures (asFormat (a .f)) (n .ensures) _ _ d in
     cancels-nothing h (a .mark) (not-open (a .mark) u o (c .before .if1 .taken)) (c .says .ensures)
 
-move-gap-requires : tie.Need-move-gap-requires
-move-gap-requires c κs = search needs
-
 slice-aggregate-cancel-noted : tie.Need-slice-aggregate-cancel-noted
 slice-aggregate-cancel-noted c = search needs
 
 cancel-noted-requires : tie.Need-cancel-noted-requires
-cancel-noted-requires c κs = let s = c .before .before .before .before .before .before .before .before .before .before .before .before .before .before .before .before .before .before in let a = s .args in let h = s .pre .1 in
+cancel-noted-requires c κs =
+    let s = c .before .before .before .before .before .before .before .before .before .before .before .before .before .before in
+    let a = s .args in
+    let h = s .pre .1 in
     let l = lent (now (a .text)) (now (a .records)) (now (a .texts)) (a .line) (a .log) in
     let u = stateOf catalogue (asFormat (a .f)) l .log .undo in
     let d = lays (asFormat (a .f)) (logLent l) (h .log) in
-    let n = c .before .before .before .before .before .before .before .before .before .before .before .note-sizes in
-    let o = c .before .before .before .before .before .before .before .open-begins .ensures (asFormat (a .f)) (n .ensures) _ _ d in
-    let z = c .before .before .before .before .before .before .if1 .left in
-    let m = c .before .before .before .before .move-gap in
+    let n = c .before .before .before .before .before .before .before .note-sizes in
+    let o = c .before .before .before .open-begins .ensures (asFormat (a .f)) (n .ensures) _ _ d in
     let i = n .ensures _ _ d in (
       s .pre .0,
       (
-        opened (asFormat (a .f)) (now (a .text)) (now (a .records)) (now (a .texts)) (a .line) (a .log) (s .pre .1) (m .last .0) (m .kept .0) (m .ensures),
+        h,
         (
           omega (arith, n .kept .1 .1 .0, h .log .records),
           (
             i .1,
-            (i .0 ∙ sym (length-reverse (undos catalogue (asFormat (a .f)) (logLent l))), (is-open (a .mark) u o z, its-begins (a .mark) u o z)),
+            (
+              i .0 ∙ sym (length-reverse (undos catalogue (asFormat (a .f)) (logLent l))),
+              (is-open (a .mark) u o (c .before .before .if1 .left), its-begins (a .mark) u o (c .before .before .if1 .left)),
+            ),
           ),
         ),
       ),
     )
 
-move-gap-requires-2 : tie.Need-move-gap-requires-2
-move-gap-requires-2 c κs = let s = c .before .before .before .before .before .before .before .before .before .before .before .before .before .before .before .before .before .before .before .before .before .before .before in let a = s .args in let m = c .before .before .before .before .before .before .before .before .before .move-gap in let r = c .before .before .before .before .cancel-noted in
-    (r .ensures .1, (omega arith, used-there (asFormat (a .f)) (now (a .text)) (now (a .records)) (now (a .texts)) (a .line) (a .log) (s .pre .1) (m .last .0) (m .kept .0) (m .ensures) (λ (C : ℕ) (x : State). cancelOut C (a .mark) x) (λ (C : ℕ) (x : State). cancel-answered C (a .mark) x) (r .last .1 .0) (r .ensures .0)))
-
 same-length : tie.Need-same-length
 same-length c = search needs
 
 returns-2 : tie.Need-returns-2
-returns-2 c = let s = c .before .before .before .before .before .before .before .before .before .before .before .before .before .before .before .before .before .before .before .before .before .before .before .before .before .before in let a = s .args in let m = c .before .before .before .before .before .before .before .before .before .before .before .before .move-gap in let r = c .before .before .before .before .before .before .before .cancel-noted in let e = c .before .before .move-gap2 in
-    closed (asFormat (a .f)) (now (a .text)) (now (a .records)) (now (a .texts)) (a .line) (a .log) (s .pre .1) (m .last .0) (m .kept .0) (m .ensures) (λ (C : ℕ) (x : State). cancelOut C (a .mark) x) (λ (C : ℕ) (x : State). cancel-answered C (a .mark) x) (r .last .1 .0) (r .ensures .0) (r .ensures .1) (e .kept .0) (e .ensures)
+returns-2 c = search needs
 
 pub cancel-group-spec : {M : Type 1} → statement M
 cancel-group-spec =
@@ -112,9 +119,7 @@ cancel-group-spec =
     open-begins-requires
     says-requires
     returns
-    move-gap-requires
     slice-aggregate-cancel-noted
     cancel-noted-requires
-    move-gap-requires-2
     same-length
     returns-2)

@@ -5,7 +5,7 @@ use mathlib.Core.Logic.{⊎-elim}
 use lib.ListN.{length}
 use denote.Ref.{now}
 use Rattle.buffer.proofs.Gaps.{shut-length}
-use Rattle.retrace.proofs.Faces.{Faces, Within, within, text-around, unmoved, stops-at, out-within, left-within, moves}
+use Rattle.retrace.proofs.Faces.{Faces, Within, within, used, text-around, unmoved, stops-at, out-within, left-within, gap-within, moves}
 use borrow.Author.Needs.{needs}
 use Rattle.retrace.proofs.retrace.Statement.{statement}
 use Rattle.retrace.proofs.retrace.Tie as tie
@@ -24,8 +24,10 @@ inside c =
     within (c .before .before .before .before .before .before .before .args .back) (c .before .before .before .before .before .before .before .args .r) (c .before .before .before .before .before .before .before .args .t) (c .if2 .out) (c .if2 .from) (c .if2 .to) (length (now (c .before .before .before .before .before .before .before .args .texts))) (faces c) (c .before .before .before .before .before .before .before .pre .0 .4)
 
 returns : tie.Need-returns
-returns c = let s = c .before .before .before .before in let a = s .args in
-    λ x h. unmoved (a .r) (now (a .texts)) (a .t) (a .s) (now (a .text)) (s .pre .0 .0) (s .pre .0 .1) (s .pre .0 .2) (a .back) x h (c .if1 .taken)
+returns c =
+    let s = c .before .before .before .before in
+    let a = s .args in
+    ((λ x h. unmoved (a .r) (now (a .texts)) (a .t) (a .s) (a .gap) (now (a .text)) (s .pre .0 .0) (s .pre .0 .1) (s .pre .0 .2) (a .back) x h (c .if1 .taken)), (s .pre .0 .1, used (a .r) (now (a .texts)) (a .t) (a .s) (a .gap) (now (a .text)) (s .pre .0 .0) (s .pre .0 .1) (s .pre .0 .2)))
 
 add-mid : tie.Need-add-mid
 add-mid c = search needs
@@ -47,33 +49,57 @@ part-exchange-end c = inside (c .before .before .before) .last
 
 exchange-requires : tie.Need-exchange-requires
 exchange-requires c κs = let s = c .before .before .before .before .before .before .before .before .before .before .before in let p = s .pre .0 in let a = s .args in
-    let e = shut-length (a .s .len) (a .s .cursor) (now (a .text)) in
-    ((p .1, omega (arith, e, p .2), p .3, omega (arith, inside (c .before .before .before .before) .taken, p .5)), text-around (a .r) (now (a .texts)) (a .t) (a .s) (now (a .text)) (p .0) (p .1) (p .2) (s .pre .1))
+    let e = shut-length (a .s .len) (a .gap) (now (a .text)) in
+    ((p .1, omega (arith, e, p .2), p .3, omega (arith, inside (c .before .before .before .before) .taken, p .5)), text-around (a .r) (now (a .texts)) (a .t) (a .s) (a .gap) (now (a .text)) (p .0) (p .1) (p .2) (s .pre .1))
 
 same-length : tie.Need-same-length
 same-length c = search needs
 
 returns-2 : tie.Need-returns-2
-returns-2 c = let s = c .before .before .before .before .before .before .before .before .before .before .before .before .before .before .before in let a = s .args in let j = c .before .before .before .before .before .before .before .before in
-    λ x h. stops-at (a .r) (now (a .texts)) (a .t) (a .s) (now (a .text)) (s .pre .0 .0) (s .pre .0 .1) (s .pre .0 .2) (j .if2 .out) (j .if2 .from) (j .if2 .to) (c .before .before .before .exchange .result) _ (inside j) (c .before .before .before .exchange .kept .0) (c .before .before .before .exchange .ensures) (a .back) x h (c .before .before .before .before .before .before .before .before .before .before .before .if1 .left) (faces j) (c .if3 .taken)
+returns-2 c =
+    let s = c .before .before .before .before .before .before .before .before .before .before .before .before .before .before .before in
+    let a = s .args in
+    let j = c .before .before .before .before .before .before .before .before in
+    let e = c .before .before .before .exchange in (
+      (λ x h. stops-at (a .r) (now (a .texts)) (a .t) (a .s) (a .gap) (now (a .text)) (s .pre .0 .0) (s .pre .0 .1) (s .pre .0 .2) (j .if2 .out) (j .if2 .from) (j .if2 .to) (e .result) (e .last .0) (inside j) (e .kept .0) (e .ensures) (a .back) x h (c .before .before .before .before .before .before .before .before .before .before .before .if1 .left) (faces j) (c .if3 .taken)),
+      (s .pre .0 .1, omega (arith, used (a .r) (now (a .texts)) (a .t) (a .s) (a .gap) (now (a .text)) (s .pre .0 .0) (s .pre .0 .1) (s .pre .0 .2), e .kept .0)),
+    )
 
-sub-t17 : tie.Need-sub-t17
-sub-t17 c = let s = c .before .before .before .before .before .before .before .before .before .before .before .before .before .before .before .before .before in let a = s .args in let j = c .before .before .before .before .before .before .before .before .before .before in
-    out-within (a .r) (now (a .texts)) (a .t) (a .s) (now (a .text)) (s .pre .0 .0) (s .pre .0 .1) (s .pre .0 .2) (j .if2 .out) (j .if2 .from) (j .if2 .to) (c .before .before .before .before .before .exchange .result) _ (inside j) (c .before .before .before .before .before .exchange .kept .0) (c .before .before .before .before .before .exchange .ensures) (c .before .before .if3 .left)
+add-cursor : tie.Need-add-cursor
+add-cursor c =
+    let s = c .before .before .before .before .before .before .before .before .before .before .before .before .before .before .before .before in
+    omega (arith, inside (c .before .before .before .before .before .before .before .before .before) .last, s .pre .0 .3, s .pre .0 .5)
 
-add-t20 : tie.Need-add-t20
-add-t20 c = let s = c .before .before .before .before .before .before .before .before .before .before .before .before .before .before .before .before .before in let a = s .args in let j = c .before .before .before .before .before .before .before .before .before .before in
-    let l = left-within (a .r) (now (a .texts)) (a .t) (a .s) (now (a .text)) (s .pre .0 .0) (s .pre .0 .1) (s .pre .0 .2) (j .if2 .out) (j .if2 .from) (j .if2 .to) (c .before .before .before .before .before .exchange .result) _ (inside j) (c .before .before .before .before .before .exchange .kept .0) (c .before .before .before .before .before .exchange .ensures) (c .before .before .if3 .left) in omega (arith, l)
+sub-t21 : tie.Need-sub-t21
+sub-t21 c =
+    let s = c .before .before .before .before .before .before .before .before .before .before .before .before .before .before .before .before .before .before in
+    let a = s .args in
+    let j = c .before .before .before .before .before .before .before .before .before .before .before in
+    let e = c .before .before .before .before .before .before .exchange in
+    out-within (a .r) (now (a .texts)) (a .t) (a .s) (a .gap) (now (a .text)) (s .pre .0 .0) (s .pre .0 .1) (s .pre .0 .2) (j .if2 .out) (j .if2 .from) (j .if2 .to) (e .result) (e .last .0) (inside j) (e .kept .0) (e .ensures) (c .before .before .before .if3 .left)
 
-add-t21 : tie.Need-add-t21
-add-t21 c = let s = c .before .before .before .before .before .before .before .before .before .before .before .before .before .before .before .before .before .before in omega (arith, inside (c .before .before .before .before .before .before .before .before .before .before .before) .last, s .pre .0 .3, s .pre .0 .5)
+add-t24 : tie.Need-add-t24
+add-t24 c =
+    let s = c .before .before .before .before .before .before .before .before .before .before .before .before .before .before .before .before .before .before in
+    let a = s .args in
+    let j = c .before .before .before .before .before .before .before .before .before .before .before in
+    let e = c .before .before .before .before .before .before .exchange in
+    let l = left-within (a .r) (now (a .texts)) (a .t) (a .s) (a .gap) (now (a .text)) (s .pre .0 .0) (s .pre .0 .1) (s .pre .0 .2) (j .if2 .out) (j .if2 .from) (j .if2 .to) (e .result) (e .last .0) (inside j) (e .kept .0) (e .ensures) (c .before .before .before .if3 .left) in
+    omega (arith, l)
 
 same-length-2 : tie.Need-same-length-2
 same-length-2 c = search needs
 
 returns-3 : tie.Need-returns-3
-returns-3 c = let s = c .before .before .before .before .before .before .before .before .before .before .before .before .before .before .before .before .before .before in let a = s .args in let j = c .before .before .before .before .before .before .before .before .before .before .before in
-    λ x h. moves (a .r) (now (a .texts)) (a .t) (a .s) (now (a .text)) (s .pre .0 .0) (s .pre .0 .1) (s .pre .0 .2) (j .if2 .out) (j .if2 .from) (j .if2 .to) (c .before .before .before .before .before .before .exchange .result) _ (inside j) (c .before .before .before .before .before .before .exchange .kept .0) (c .before .before .before .before .before .before .exchange .ensures) (c .before .before .before .if3 .left) (a .back) x h (c .before .before .before .before .before .before .before .before .before .before .before .before .before .before .if1 .left) (faces j)
+returns-3 c =
+    let s = c .before .before .before .before .before .before .before .before .before .before .before .before .before .before .before .before .before .before in
+    let a = s .args in
+    let j = c .before .before .before .before .before .before .before .before .before .before .before in
+    let e = c .before .before .before .before .before .before .exchange in
+    let z = c .before .before .before .if3 .left in (
+      (λ x h. moves (a .r) (now (a .texts)) (a .t) (a .s) (a .gap) (now (a .text)) (s .pre .0 .0) (s .pre .0 .1) (s .pre .0 .2) (j .if2 .out) (j .if2 .from) (j .if2 .to) (e .result) (e .last .0) (inside j) (e .kept .0) (e .ensures) z (a .back) x h (c .before .before .before .before .before .before .before .before .before .before .before .before .before .before .if1 .left) (faces j)),
+      (gap-within (a .r) (now (a .texts)) (a .t) (a .s) (a .gap) (now (a .text)) (s .pre .0 .0) (s .pre .0 .1) (s .pre .0 .2) (j .if2 .out) (j .if2 .from) (j .if2 .to) (e .result) (e .last .0) (inside j) (e .kept .0) (e .ensures) z, omega (arith, left-within (a .r) (now (a .texts)) (a .t) (a .s) (a .gap) (now (a .text)) (s .pre .0 .0) (s .pre .0 .1) (s .pre .0 .2) (j .if2 .out) (j .if2 .from) (j .if2 .to) (e .result) (e .last .0) (inside j) (e .kept .0) (e .ensures) z, e .kept .0)),
+    )
 
 pub retrace-spec : {M : Type 1} → statement M
 retrace-spec =
@@ -89,8 +115,8 @@ retrace-spec =
     exchange-requires
     same-length
     returns-2
-    sub-t17
-    add-t20
-    add-t21
+    add-cursor
+    sub-t21
+    add-t24
     same-length-2
     returns-3)

@@ -4,7 +4,7 @@ use mathlib.Core.Path.{refl}
 use mathlib.Core.Bool.{false}
 use denote.Ref.{now}
 use Rattle.records.specs.Formats.{asFormat}
-use Rattle.retrace.proofs.Faces.{shutBy}
+use Rattle.buffer.specs.Gap.{shut}
 use Rattle.undo.specs.Steps.{lentBy}
 use Rattle.undo.proofs.Seams.{some-next, next-stands}
 use Rattle.undo.proofs.Steps.{next-whole, next-space, next-seam-there, record-stops, record-passes}
@@ -24,27 +24,32 @@ retrace-requires c κs =
     let h = s .pre .1 .0 in
     let n = some-next h (s .pre .1 .1 .1) .2 in
     let r = c .before .read-record in
-    ((s .pre .1 .1 .0, h .within, h .used, r .ensures .2, next-space h n (r .ensures .0), h .log .texts), h .text)
+    ((s .pre .1 .1 .0, s .pre .1 .1 .2, h .used, r .ensures .2, next-space h n (r .ensures .0), h .log .texts), h .text)
 
 same-length : tie.Need-same-length
 same-length c = search needs
 
 returns : tie.Need-returns
 returns c =
-    let s = c .before .before .before .before .before .before .before .before .before .before .before in
+    let s = c .before .before .before .before .before .before .before .before .before .before .before .before in
     let a = s .args in
     let h = s .pre .1 .0 in
-    let l = lentBy (now (a .text)) (now (a .records)) (now (a .texts)) (a .s) (a .log) in
-    let r = c .before .before .before .before .before .before .read-record in
-    let q = c .before .before .before .before .retrace in
-    λ x d e. record-stops (asFormat (a .f)) l false x d (next-stands h e) (r .ensures .0) (a .s) (q .result) (shutBy (q .result) (q .last .0)) (q .ensures) refl (c .if1 .taken)
+    let l = lentBy (now (a .text)) (a .gap) (now (a .records)) (now (a .texts)) (a .s) (a .log) in
+    let r = c .before .before .before .before .before .before .before .read-record in
+    let q = c .before .before .before .before .before .retrace in (
+      (λ x d e. record-stops (asFormat (a .f)) l false x d (next-stands h e) (r .ensures .0) (a .s) (q .result .step) (shut (q .result .step .len) (q .result .gap) (q .last .0)) (q .ensures .0) refl (c .if1 .taken)),
+      q .ensures .1,
+    )
 
 shared-slice-read-record-size : tie.Need-shared-slice-read-record-size
-shared-slice-read-record-size c = search needs
+shared-slice-read-record-size c =
+    let s = c .before .before .before .before .before .before .before .before .before .before .before .before .before in
+    let h = s .pre .1 .0 in
+    omega (arith, h .log .hold .room, s .pre .1 .1 .1)
 
 cast-record-size : tie.Need-cast-record-size
 cast-record-size c =
-    let s = c .before .before .before .before .before .before .before .before .before .before .before .before in
+    let s = c .before .before .before .before .before .before .before .before .before .before .before .before .before in
     let a = s .args in
     omega (arith, c .shared-slice-known3 .given (a .log .undo .records))
 
@@ -52,25 +57,29 @@ record-size-requires : tie.Need-record-size-requires
 record-size-requires c κs = search needs
 
 add-end : tie.Need-add-end
-add-end c = search needs
+add-end c =
+    let s = c .before .before .before .before .before .before .before .before .before .before .before .before .before .before in
+    let h = s .pre .1 .0 in
+    let n = some-next h (s .pre .1 .1 .1) .2 in
+    omega (arith, next-whole h n .1, c .record-size .ensures .0, h .log .records)
 
 add-move-seam : tie.Need-add-move-seam
 add-move-seam c = search needs
 
 add-move-seam-2 : tie.Need-add-move-seam-2
 add-move-seam-2 c =
-    let s = c .before .before .before .before .before .before .before .before .before .before .before .before .before .before in
+    let s = c .before .before .before .before .before .before .before .before .before .before .before .before .before .before .before in
     let h = s .pre .1 .0 in
     let n = some-next h (s .pre .1 .1 .1) .2 in
-    let r = c .before .before .before .before .before .before .before .before .before .read-record in
+    let r = c .before .before .before .before .before .before .before .before .before .before .read-record in
     omega (arith, next-space h n (r .ensures .0), h .log .texts)
 
 move-seam-requires : tie.Need-move-seam-requires
 move-seam-requires c κs =
-    let s = c .before .before .before .before .before .before .before .before .before .before .before .before .before .before in
+    let s = c .before .before .before .before .before .before .before .before .before .before .before .before .before .before .before in
     let h = s .pre .1 .0 in
     let n = some-next h (s .pre .1 .1 .1) .2 in
-    let r = c .before .before .before .before .before .before .before .before .before .read-record in
+    let r = c .before .before .before .before .before .before .before .before .before .before .read-record in
     let k = c .before .record-size in
     let m = next-seam-there h n (r .ensures .0) (k .ensures .0) in
     ((m .within, omega (arith, h .log .hold .room, h .log .records)), (m .texts, omega (arith, h .log .hold .space, h .log .texts)))
@@ -80,15 +89,17 @@ same-length-2 c = search needs
 
 returns-2 : tie.Need-returns-2
 returns-2 c =
-    let s = c .before .before .before .before .before .before .before .before .before .before .before .before .before .before .before in
+    let s = c .before .before .before .before .before .before .before .before .before .before .before .before .before .before .before .before in
     let a = s .args in
     let h = s .pre .1 .0 in
-    let l = lentBy (now (a .text)) (now (a .records)) (now (a .texts)) (a .s) (a .log) in
-    let r = c .before .before .before .before .before .before .before .before .before .before .read-record in
-    let q = c .before .before .before .before .before .before .before .before .retrace in
-    let k = c .before .before .record-size in
-    λ x d e. record-passes (asFormat (a .f)) l false x d (next-stands h e) (r .ensures .0) (a .s) (q .result) (shutBy (q .result) (q .last .0)) (q .ensures)
-    (next-seam-there h e (r .ensures .0) (k .ensures .0)) (c .before .before .before .before .if1 .left) (c .move-seam .ensures)
+    let l = lentBy (now (a .text)) (a .gap) (now (a .records)) (now (a .texts)) (a .s) (a .log) in
+    let r = c .before .before .before .before .before .before .before .before .before .before .before .read-record in
+    let q = c .before .before .before .before .before .before .before .before .before .retrace in
+    let k = c .before .before .record-size in (
+      (λ x d e. record-passes (asFormat (a .f)) l false x d (next-stands h e) (r .ensures .0) (a .s) (q .result .step) (shut (q .result .step .len) (q .result .gap) (q .last .0)) (q .ensures .0)
+          (next-seam-there h e (r .ensures .0) (k .ensures .0)) (c .before .before .before .before .if1 .left) (c .move-seam .ensures)),
+      q .ensures .1,
+    )
 
 pub redo-record-spec : {M : Type 1} → statement M
 redo-record-spec =

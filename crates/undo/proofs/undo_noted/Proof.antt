@@ -1,102 +1,102 @@
 use borrow.Author.Needs.{needs}
 use native.Mathlib.Omega.{arith}
-use Prim.Native.Nat.{_+_, _-_}
-use mathlib.Core.Path.{_≡_, _∙_}
+use Prim.Native.Nat.{_+_, _-_, _≤_}
+use mathlib.Core.Path.{_∙_}
 use mathlib.Core.Bool.{true}
 use lib.ListN.{length}
 use denote.Ref.{now}
 use Rattle.unicode.specs.Repertoire.{catalogue}
 use Rattle.records.specs.Formats.{asFormat}
-use Rattle.edit.specs.Calls.{stateOf}
+use Rattle.buffer.specs.Gap.{shut}
+use Rattle.edit.specs.Calls.{lent, stateOf}
 use Rattle.retrace.specs.Records.{SizesOf}
-use Rattle.retrace.proofs.Faces.{shutBy}
 use Rattle.undo.specs.Undo.{undoWalk, undoOut}
 use Rattle.undo.specs.Steps.{lineOf, lentBy}
 use Rattle.undo.proofs.Seams.{some-newest, none-newest}
 use Rattle.undo.proofs.Counts.{one-of, counts-back}
 use Rattle.undo.proofs.Walks.{edited, falls, sizes-next}
 use Rattle.undo.proofs.Units.{Walking, walking-first, walked-all, walked-stop, walking-on, walking-next, walked-last}
-use Rattle.undo.proofs.Gaps.{shut-kept, plain-kept, ends-there}
+use Rattle.buffer.proofs.Gaps.{shut-end}
+use Rattle.undo.proofs.Gaps.{shut-kept, plain-kept, plain-used, closed}
 use Rattle.undo.proofs.undo_noted.Statement.{statement}
 use Rattle.undo.proofs.undo_noted.Tie as tie
 
 abbrev Inv-loop : tie.InvT-loop
-Inv-loop f text₀ records texts sizes n s₀ g₀ left₀ ends₀ begins₀ text s g left ends begins =
-    Walking (asFormat f) (lentBy text₀ records texts s₀ g₀) true (undoWalk (length (shutBy s₀ text₀)) n (stateOf catalogue (asFormat f) (lentBy text₀ records texts s₀ g₀))) (shutBy s text) s g (left - 1) ends begins
-    × SizesOf (asFormat f) sizes (stateOf catalogue (asFormat f) (lentBy text records texts s g) .log .undo)
+Inv-loop f text₀ records texts sizes n s₀ gap₀ g₀ left₀ ends₀ begins₀ text s gap g left ends begins =
+    Walking (asFormat f) (lent text₀ records texts (lineOf s₀) g₀) true (undoWalk (length text₀) n (stateOf catalogue (asFormat f) (lent text₀ records texts (lineOf s₀) g₀))) (shut (s .len) gap text) s g (left - 1) ends begins
+    × SizesOf (asFormat f) sizes (stateOf catalogue (asFormat f) (lentBy text gap records texts s g) .log .undo)
+    × (gap ≤ s .len)
 
 abbrev μ-loop : tie.MeasureT-loop
-μ-loop f text₀ records texts sizes n s₀ g₀ left₀ ends₀ begins₀ text s g left ends begins = g .undo .records
-
--- the buffer keeps its length
-text-kept : (c : tie.At-loop Inv-loop μ-loop) → length (c .loop .text) ≡ length (now (c .before .before .before .before .before .args .text))
-text-kept c =
-    let s = c .before .before .before .before .before in
-    plain-kept (s .args .line) (lineOf (c .loop .s)) (now (s .args .text)) (c .loop .text) (c .loop .inv .0 .come .text)
+μ-loop f text₀ records texts sizes n s₀ gap₀ g₀ left₀ ends₀ begins₀ text s gap g left ends begins = g .undo .records
 
 loop-holds : tie.Need-loop-holds Inv-loop μ-loop
 loop-holds c =
     let s = c .before .before .before .before in
-    (walking-first true (s .args .n - 1) (s .pre .1 .0), s .pre .1 .1 .1)
+    let h = s .pre .1 .0 in
+    (walking-first true (s .args .n - 1) h (shut-end (s .args .line .len) (now (s .args .text)) (h .used)), s .pre .1 .1 .1, omega arith)
 
-answer-requires : tie.Need-answer-requires Inv-loop μ-loop
-answer-requires c κs = search needs
+close-requires : tie.Need-close-requires Inv-loop μ-loop
+close-requires c κs =
+    let b = c .before .before .before .before .loop in
+    (b .inv .2, plain-used (b .s .len) (b .gap) (b .text) (b .inv .0 .come .ready .used))
 
 same-length : tie.Need-same-length Inv-loop μ-loop
-same-length c = text-kept (c .before .before .before .before)
+same-length c =
+    let b = c .before .before .before .before .before .before .before .loop in
+    c .before .before .close .kept .0 ∙ plain-kept (b .s .len) (b .gap) (b .text) (b .inv .0 .come .text)
 
 returns : tie.Need-returns Inv-loop μ-loop
 unfolding undoOut
 returns c =
-    let b = c .before .before .before .before .loop in
+    let b = c .before .before .before .before .before .before .before .loop in
     let k = b .inv .0 in
-    let e = ends-there (c .answer .ensures) (b .text) (walked-all k (none-newest (k .come .ready) (c .before .if1 .taken)) (c .answer .ensures)) in
-    (edited e, e .ready .within)
+    let e = c .before .before .close in
+    closed (e .ensures .0) (b .gap) (b .text) (b .inv .2) (plain-used (b .s .len) (b .gap) (b .text) (k .come .ready .used)) (e .last .0) (e .kept .0) (e .ensures .1) tt
+    (edited (walked-all k (none-newest (k .come .ready) (c .before .before .before .before .if1 .taken)) (e .ensures .0)))
 
 undo-record-requires : tie.Need-undo-record-requires Inv-loop μ-loop
 undo-record-requires c κs =
     let s = c .before .before .before .before .before .before .before .before .before in
     let b = c .before .before .before .before .loop in
     let k = b .inv .0 in
-    (s .pre .0, (k .come .ready, ((k .come .number, omega (arith, c .before .if1 .left), s .pre .1 .1 .0), b .inv .1)))
+    (s .pre .0, (k .come .ready, ((k .come .number, omega (arith, c .before .if1 .left), s .pre .1 .1 .0, b .inv .2), b .inv .1)))
 
-answer-requires-2 : tie.Need-answer-requires-2 Inv-loop μ-loop
-answer-requires-2 c κs = search needs
+close-requires-2 : tie.Need-close-requires-2 Inv-loop μ-loop
+close-requires-2 c κs =
+    c .before .before .before .before .before .before .before .undo-record .ensures .1
 
 same-length-2 : tie.Need-same-length-2 Inv-loop μ-loop
 same-length-2 c =
-    let u = c .before .before .before .before .before .before .before .undo-record in
-    u .kept .1 .0 ∙ text-kept (c .before .before .before .before .before .before .before .before .before .before .before .before)
+    let b = c .before .before .before .before .before .before .before .before .before .before .before .before .before .before .before .loop in
+    c .before .before .close2 .kept .0 ∙ c .before .before .before .before .before .before .before .before .before .before .undo-record .kept .1 .0 ∙ plain-kept (b .s .len) (b .gap) (b .text) (b .inv .0 .come .text)
 
 returns-2 : tie.Need-returns-2 Inv-loop μ-loop
 unfolding undoOut
 returns-2 c =
-    let b = c .before .before .before .before .before .before .before .before .before .before .before .before .loop in
+    let b = c .before .before .before .before .before .before .before .before .before .before .before .before .before .before .before .loop in
     let k = b .inv .0 in
-    let n = some-newest (k .come .ready) (omega (arith, c .before .before .before .before .before .before .before .before .before .if1 .left)) in
-    let u = c .before .before .before .before .before .before .before .undo-record in
-    let e = ends-there (c .answer2 .ensures) (u .last .1 .0) (walked-stop k (n .2) (u .result) (shutBy (u .result .step) (u .last .1 .0)) (u .ensures) (c .before .if2 .taken) (c .answer2 .ensures)) in
-    (edited e, e .ready .within)
+    let n = some-newest (k .come .ready) (omega (arith, c .before .before .before .before .before .before .before .before .before .before .before .before .if1 .left)) in
+    let u = c .before .before .before .before .before .before .before .before .before .before .undo-record in
+    let e = c .before .before .close2 in
+    closed (e .ensures .0) (u .result .gap) (u .last .1 .0) (u .ensures .1 .0) (u .ensures .1 .1) (e .last .0) (e .kept .0) (e .ensures .1) tt
+    (edited (walked-stop k (n .2) (u .result) (shut (u .result .step .len) (u .result .gap) (u .last .1 .0)) (u .ensures .0) (c .before .before .before .before .if2 .taken) (e .ensures .0)))
 
 one-if-requires : tie.Need-one-if-requires Inv-loop μ-loop
 one-if-requires c κs = search needs
 
 add-begins : tie.Need-add-begins Inv-loop μ-loop
 add-begins c =
-    let b = c .before .before .before .before .before .before .before .before .before .before .before .before .loop in
-    let k = b .inv .0 in
-    let i = c .one-if in
-    omega (arith, k .few, i .ensures .1)
+    let k = c .before .before .before .before .before .before .before .before .before .before .before .before .loop .inv .0 in
+    omega (arith, k .few, c .one-if .ensures .1)
 
 one-if-requires-2 : tie.Need-one-if-requires-2 Inv-loop μ-loop
 one-if-requires-2 c κs = search needs
 
 add-ends : tie.Need-add-ends Inv-loop μ-loop
 add-ends c =
-    let b = c .before .before .before .before .before .before .before .before .before .before .before .before .before .loop in
-    let k = b .inv .0 in
-    let j = c .one-if2 in
-    omega (arith, k .few, j .ensures .1)
+    let k = c .before .before .before .before .before .before .before .before .before .before .before .before .before .loop .inv .0 in
+    omega (arith, k .few, c .one-if2 .ensures .1)
 
 loop-less : tie.Need-loop-less Inv-loop μ-loop
 loop-less c =
@@ -104,8 +104,7 @@ loop-less c =
     let k = b .inv .0 in
     let n = some-newest (k .come .ready) (omega (arith, c .before .before .before .before .before .before .before .before .before .before .before .if1 .left)) in
     let u = c .before .before .before .before .before .before .before .before .before .undo-record in
-    let z = c .before .before .before .if2 .left in
-    falls true (k .come) (n .2) (u .result) (shutBy (u .result .step) (u .last .1 .0)) (u .ensures) (shut-kept (lineOf (b .s)) (lineOf (u .result .step)) (b .text) (u .last .1 .0) (u .kept .1 .0)) z
+    falls true (k .come) (n .2) (u .result) (shut (u .result .step .len) (u .result .gap) (u .last .1 .0)) (u .ensures .0) (shut-kept (b .s .len) (b .gap) (u .result .step .len) (u .result .gap) (b .text) (u .last .1 .0) (u .kept .1 .0)) (c .before .before .before .if2 .left)
 
 loop-again : tie.Need-loop-again Inv-loop μ-loop
 loop-again c =
@@ -117,37 +116,37 @@ loop-again c =
     let i = c .before .before .one-if in
     let j = c .before .one-if2 in
     let z = c .before .before .before .if2 .left in
-    let w = counts-back (u .result .kind) (i .ensures .0) (j .ensures .0) (n .0) (k .waiting) (b .ends) (b .begins) (k .waits) (u .ensures (n .0) (n .1) (n .2) .0) in
+    let w = counts-back (u .result .kind) (i .ensures .0) (j .ensures .0) (n .0) (k .waiting) (b .ends) (b .begins) (k .waits) (u .ensures .0 (n .0) (n .1) (n .2) .0) in
     let few = one-of (u .result .kind) (i .ensures .0) (j .ensures .0) in (
-      walking-on k (n .2) (u .result) (shutBy (u .result .step) (u .last .1 .0)) (u .ensures) (shut-kept (lineOf (b .s)) (lineOf (u .result .step)) (b .text) (u .last .1 .0) (u .kept .1 .0)) z (b .ends + j .result) (b .begins + i .result) w (omega (arith, few)) (c .if3 .taken),
-      sizes-next (k .come) (n .2) (u .result) (shutBy (u .result .step) (u .last .1 .0)) (u .ensures) (shut-kept (lineOf (b .s)) (lineOf (u .result .step)) (b .text) (u .last .1 .0) (u .kept .1 .0)) z (now (s .args .sizes)) (b .inv .1),
+      walking-on k (n .2) (u .result) (shut (u .result .step .len) (u .result .gap) (u .last .1 .0)) (u .ensures .0) (shut-kept (b .s .len) (b .gap) (u .result .step .len) (u .result .gap) (b .text) (u .last .1 .0) (u .kept .1 .0)) z (b .ends + j .result) (b .begins + i .result) w (omega (arith, few)) (c .if3 .taken),
+      sizes-next (k .come) (n .2) (u .result) (shut (u .result .step .len) (u .result .gap) (u .last .1 .0)) (u .ensures .0) (shut-kept (b .s .len) (b .gap) (u .result .step .len) (u .result .gap) (b .text) (u .last .1 .0) (u .kept .1 .0)) z (now (s .args .sizes)) (b .inv .1),
+      u .ensures .1 .0,
     )
 
-answer-requires-3 : tie.Need-answer-requires-3 Inv-loop μ-loop
-answer-requires-3 c κs = search needs
+close-requires-3 : tie.Need-close-requires-3 Inv-loop μ-loop
+close-requires-3 c κs =
+    c .before .before .before .before .before .before .before .before .before .before .before .undo-record .ensures .1
 
 same-length-3 : tie.Need-same-length-3 Inv-loop μ-loop
 same-length-3 c =
-    let u = c .before .before .before .before .before .before .before .before .before .before .before .undo-record in
-    u .kept .1 .0 ∙ text-kept (c .before .before .before .before .before .before .before .before .before .before .before .before .before .before .before .before)
+    let b = c .before .before .before .before .before .before .before .before .before .before .before .before .before .before .before .before .before .before .before .loop in
+    c .before .before .close3 .kept .0 ∙ c .before .before .before .before .before .before .before .before .before .before .before .before .before .before .undo-record .kept .1 .0 ∙ plain-kept (b .s .len) (b .gap) (b .text) (b .inv .0 .come .text)
 
 returns-3 : tie.Need-returns-3 Inv-loop μ-loop
 unfolding undoOut
 returns-3 c =
-    let b = c .before .before .before .before .before .before .before .before .before .before .before .before .before .before .before .before .loop in
+    let b = c .before .before .before .before .before .before .before .before .before .before .before .before .before .before .before .before .before .before .before .loop in
     let k = b .inv .0 in
-    let n = some-newest (k .come .ready) (omega (arith, c .before .before .before .before .before .before .before .before .before .before .before .before .before .if1 .left)) in
-    let u = c .before .before .before .before .before .before .before .before .before .before .before .undo-record in
-    let i = c .before .before .before .before .one-if in
-    let j = c .before .before .before .one-if2 in
-    let z = c .before .before .before .before .before .if2 .left in
-    let w = counts-back (u .result .kind) (i .ensures .0) (j .ensures .0) (n .0) (k .waiting) (b .ends) (b .begins) (k .waits) (u .ensures (n .0) (n .1) (n .2) .0) in
+    let n = some-newest (k .come .ready) (omega (arith, c .before .before .before .before .before .before .before .before .before .before .before .before .before .before .before .before .if1 .left)) in
+    let u = c .before .before .before .before .before .before .before .before .before .before .before .before .before .before .undo-record in
+    let i = c .before .before .before .before .before .before .before .one-if in
+    let j = c .before .before .before .before .before .before .one-if2 in
+    let z = c .before .before .before .before .before .before .before .before .if2 .left in
+    let w = counts-back (u .result .kind) (i .ensures .0) (j .ensures .0) (n .0) (k .waiting) (b .ends) (b .begins) (k .waits) (u .ensures .0 (n .0) (n .1) (n .2) .0) in
     let few = one-of (u .result .kind) (i .ensures .0) (j .ensures .0) in
-    let e =
-    ends-there (c .answer3 .ensures) (u .last .1 .0)
-    (walked-last k (n .2) (u .result) (shutBy (u .result .step) (u .last .1 .0)) (u .ensures) (shut-kept (lineOf (b .s)) (lineOf (u .result .step)) (b .text) (u .last .1 .0) (u .kept .1 .0)) z (b .ends + j .result) (b .begins + i .result) w (omega (arith, few)) (c .before .before .if3 .left) (omega (arith, c .before .if4 .taken))
-    (c .answer3 .ensures)) in
-    (edited e, e .ready .within)
+    let e = c .before .before .close3 in
+    closed (e .ensures .0) (u .result .gap) (u .last .1 .0) (u .ensures .1 .0) (u .ensures .1 .1) (e .last .0) (e .kept .0) (e .ensures .1) tt
+    (edited (walked-last k (n .2) (u .result) (shut (u .result .step .len) (u .result .gap) (u .last .1 .0)) (u .ensures .0) (shut-kept (b .s .len) (b .gap) (u .result .step .len) (u .result .gap) (b .text) (u .last .1 .0) (u .kept .1 .0)) z (b .ends + j .result) (b .begins + i .result) w (omega (arith, few)) (c .before .before .before .before .before .if3 .left) (omega (arith, c .before .before .before .before .if4 .taken)) (e .ensures .0)))
 
 sub-left : tie.Need-sub-left Inv-loop μ-loop
 sub-left c = omega (arith, c .if4 .left)
@@ -158,8 +157,7 @@ loop-less-2 c =
     let k = b .inv .0 in
     let n = some-newest (k .come .ready) (omega (arith, c .before .before .before .before .before .before .before .before .before .before .before .before .if1 .left)) in
     let u = c .before .before .before .before .before .before .before .before .before .before .undo-record in
-    let z = c .before .before .before .before .if2 .left in
-    falls true (k .come) (n .2) (u .result) (shutBy (u .result .step) (u .last .1 .0)) (u .ensures) (shut-kept (lineOf (b .s)) (lineOf (u .result .step)) (b .text) (u .last .1 .0) (u .kept .1 .0)) z
+    falls true (k .come) (n .2) (u .result) (shut (u .result .step .len) (u .result .gap) (u .last .1 .0)) (u .ensures .0) (shut-kept (b .s .len) (b .gap) (u .result .step .len) (u .result .gap) (b .text) (u .last .1 .0) (u .kept .1 .0)) (c .before .before .before .before .if2 .left)
 
 loop-again-2 : tie.Need-loop-again-2 Inv-loop μ-loop
 loop-again-2 c =
@@ -171,10 +169,11 @@ loop-again-2 c =
     let i = c .before .before .before .one-if in
     let j = c .before .before .one-if2 in
     let z = c .before .before .before .before .if2 .left in
-    let w = counts-back (u .result .kind) (i .ensures .0) (j .ensures .0) (n .0) (k .waiting) (b .ends) (b .begins) (k .waits) (u .ensures (n .0) (n .1) (n .2) .0) in
+    let w = counts-back (u .result .kind) (i .ensures .0) (j .ensures .0) (n .0) (k .waiting) (b .ends) (b .begins) (k .waits) (u .ensures .0 (n .0) (n .1) (n .2) .0) in
     let few = one-of (u .result .kind) (i .ensures .0) (j .ensures .0) in (
-      walking-next k (n .2) (u .result) (shutBy (u .result .step) (u .last .1 .0)) (u .ensures) (shut-kept (lineOf (b .s)) (lineOf (u .result .step)) (b .text) (u .last .1 .0) (u .kept .1 .0)) z (b .ends + j .result) (b .begins + i .result) w (omega (arith, few)) (c .before .if3 .left) (omega (arith, c .if4 .left)),
-      sizes-next (k .come) (n .2) (u .result) (shutBy (u .result .step) (u .last .1 .0)) (u .ensures) (shut-kept (lineOf (b .s)) (lineOf (u .result .step)) (b .text) (u .last .1 .0) (u .kept .1 .0)) z (now (s .args .sizes)) (b .inv .1),
+      walking-next k (n .2) (u .result) (shut (u .result .step .len) (u .result .gap) (u .last .1 .0)) (u .ensures .0) (shut-kept (b .s .len) (b .gap) (u .result .step .len) (u .result .gap) (b .text) (u .last .1 .0) (u .kept .1 .0)) z (b .ends + j .result) (b .begins + i .result) w (omega (arith, few)) (c .before .if3 .left) (omega (arith, c .if4 .left)),
+      sizes-next (k .come) (n .2) (u .result) (shut (u .result .step .len) (u .result .gap) (u .last .1 .0)) (u .ensures .0) (shut-kept (b .s .len) (b .gap) (u .result .step .len) (u .result .gap) (b .text) (u .last .1 .0) (u .kept .1 .0)) z (now (s .args .sizes)) (b .inv .1),
+      u .ensures .1 .0,
     )
 
 pub undo-noted-spec : {M : Type 1} → statement M
@@ -184,11 +183,11 @@ undo-noted-spec =
     Inv-loop
     μ-loop
     loop-holds
-    answer-requires
+    close-requires
     same-length
     returns
     undo-record-requires
-    answer-requires-2
+    close-requires-2
     same-length-2
     returns-2
     one-if-requires
@@ -197,7 +196,7 @@ undo-noted-spec =
     add-ends
     loop-less
     loop-again
-    answer-requires-3
+    close-requires-3
     same-length-3
     returns-3
     sub-left

@@ -5,7 +5,7 @@ use mathlib.Core.Path.{refl}
 use mathlib.Core.Bool.{true}
 use denote.Ref.{now}
 use Rattle.records.specs.Formats.{asFormat}
-use Rattle.retrace.proofs.Faces.{shutBy}
+use Rattle.buffer.specs.Gap.{shut}
 use Rattle.undo.specs.Steps.{lentBy}
 use Rattle.undo.proofs.Seams.{some-newest}
 use Rattle.undo.proofs.Steps.{size-within, start-whole, texts-within, stands-there, seam-there, space, record-stops, record-passes}
@@ -63,30 +63,32 @@ retrace-requires c κs =
     let z = s .pre .1 .1 .1 in
     let n = some-newest h (s .pre .1 .1 .0 .1) .2 in
     let r = c .before .before .before .read-record in
-    ((s .pre .1 .1 .0 .0, h .within, h .used, r .ensures .2, space (stands-there h (now (a .sizes)) z n (r .ensures .0)) (r .ensures .0), h .log .texts), h .text)
+    ((s .pre .1 .1 .0 .0, s .pre .1 .1 .0 .3, h .used, r .ensures .2, space (stands-there h (now (a .sizes)) z n (r .ensures .0)) (r .ensures .0), h .log .texts), h .text)
 
 same-length : tie.Need-same-length
 same-length c = search needs
 
 returns : tie.Need-returns
 returns c =
-    let s = c .before .before .before .before .before .before .before .before .before .before .before .before .before .before .before in
+    let s = c .before .before .before .before .before .before .before .before .before .before .before .before .before .before .before .before in
     let a = s .args in
     let h = s .pre .1 .0 in
     let z = s .pre .1 .1 .1 in
-    let l = lentBy (now (a .text)) (now (a .records)) (now (a .texts)) (a .s) (a .log) in
-    let r = c .before .before .before .before .before .before .before .before .read-record in
-    let q = c .before .before .before .before .retrace in
-    λ x u e. record-stops (asFormat (a .f)) l true x u (stands-there h (now (a .sizes)) z e (r .ensures .0)) (r .ensures .0) (a .s) (q .result) (shutBy (q .result) (q .last .0)) (q .ensures) refl (c .if1 .taken)
+    let l = lentBy (now (a .text)) (a .gap) (now (a .records)) (now (a .texts)) (a .s) (a .log) in
+    let r = c .before .before .before .before .before .before .before .before .before .read-record in
+    let q = c .before .before .before .before .before .retrace in (
+      (λ x u e. record-stops (asFormat (a .f)) l true x u (stands-there h (now (a .sizes)) z e (r .ensures .0)) (r .ensures .0) (a .s) (q .result .step) (shut (q .result .step .len) (q .result .gap) (q .last .0)) (q .ensures .0) refl (c .if1 .taken)),
+      q .ensures .1,
+    )
 
 move-seam-requires : tie.Need-move-seam-requires
 move-seam-requires c κs =
-    let s = c .before .before .before .before .before .before .before .before .before .before .before .before .before .before .before in
+    let s = c .before .before .before .before .before .before .before .before .before .before .before .before .before .before .before .before in
     let a = s .args in
     let h = s .pre .1 .0 in
     let z = s .pre .1 .1 .1 in
     let n = some-newest h (s .pre .1 .1 .0 .1) .2 in
-    let r = c .before .before .before .before .before .before .before .before .read-record in
+    let r = c .before .before .before .before .before .before .before .before .before .read-record in
     let m = seam-there h (now (a .sizes)) z n (r .ensures .0) in
     ((m .within, omega (arith, h .log .hold .room, h .log .records)), (m .texts, omega (arith, h .log .hold .space, h .log .texts)))
 
@@ -95,15 +97,17 @@ same-length-2 c = search needs
 
 returns-2 : tie.Need-returns-2
 returns-2 c =
-    let s = c .before .before .before .before .before .before .before .before .before .before .before .before .before .before .before .before in
+    let s = c .before .before .before .before .before .before .before .before .before .before .before .before .before .before .before .before .before in
     let a = s .args in
     let h = s .pre .1 .0 in
     let z = s .pre .1 .1 .1 in
-    let l = lentBy (now (a .text)) (now (a .records)) (now (a .texts)) (a .s) (a .log) in
-    let r = c .before .before .before .before .before .before .before .before .before .read-record in
-    let q = c .before .before .before .before .before .retrace in
-    λ x u e. record-passes (asFormat (a .f)) l true x u (stands-there h (now (a .sizes)) z e (r .ensures .0)) (r .ensures .0) (a .s) (q .result) (shutBy (q .result) (q .last .0)) (q .ensures)
-    (seam-there h (now (a .sizes)) z e (r .ensures .0)) (c .before .if1 .left) (c .move-seam .ensures)
+    let l = lentBy (now (a .text)) (a .gap) (now (a .records)) (now (a .texts)) (a .s) (a .log) in
+    let r = c .before .before .before .before .before .before .before .before .before .before .read-record in
+    let q = c .before .before .before .before .before .before .retrace in (
+      (λ x u e. record-passes (asFormat (a .f)) l true x u (stands-there h (now (a .sizes)) z e (r .ensures .0)) (r .ensures .0) (a .s) (q .result .step) (shut (q .result .step .len) (q .result .gap) (q .last .0)) (q .ensures .0)
+          (seam-there h (now (a .sizes)) z e (r .ensures .0)) (c .before .if1 .left) (c .move-seam .ensures)),
+      q .ensures .1,
+    )
 
 pub undo-record-spec : {M : Type 1} → statement M
 undo-record-spec =
