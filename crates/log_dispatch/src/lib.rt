@@ -103,7 +103,7 @@ pub fn call(
     let n = count_of(a);
     match key {
         10 => undo::undo(text, records, texts, line, log, n),
-        11 => undo::redo(text, records, texts, line, log, n),
+        11 => redo::redo(text, records, texts, line, log, n),
         12 => cancel::cancel(text, records, texts, line, log, a),
         _ => on_line(line, log_call(key, records, texts, log, buf, new, v)),
     }

@@ -141,7 +141,7 @@ pub extern "C" fn tlf_log_redo(
         (redoCall catalogue narrow (edits.lent (now (text .entry)) (now (records .entry)) (now (texts .entry)) line log) n)
         r (now (text .exit)) (now (records .entry)) (now (texts .entry)) ⌝ }
 {
-    undo::redo(text, records, texts, line, log, n)
+    redo::redo(text, records, texts, line, log, n)
 }
 
 #[no_mangle]

@@ -6,6 +6,5 @@ pub mod Counts
 pub mod Steps
 pub mod Walks
 pub mod Units
-pub mod Redos
 pub mod Gaps
 pub mod Examples

@@ -5,10 +5,10 @@ use Rattle.unicode.specs.Repertoire.{catalogue}
 use Rattle.journal.specs.Layout.{narrow}
 use Rattle.records.proofs.Formats.{narrow-fit}
 use Rattle.edit.specs.Calls.{lent, stateOf}
 use Rattle.undo.specs.Undo.{redoOut}
 use Rattle.undo.proofs.Calls.{call-refused, call-passed}
-use Rattle.undo.proofs.redo.Statement.{statement}
-use Rattle.undo.proofs.redo.Tie as tie
+use Rattle.redo.proofs.redo.Statement.{statement}
+use Rattle.redo.proofs.redo.Tie as tie
 
 none-requires : tie.Need-none-requires
 none-requires c κs = search needs

@@ -1,7 +1,7 @@
 use mathlib.Core.Path.{sym, ap}
 use mathlib.Core.Bool.{Bool, cond}
-use Rattle.undo.proofs.behind.Statement.{statement}
-use Rattle.undo.proofs.behind.Tie as tie
+use Rattle.redo.proofs.behind.Statement.{statement}
+use Rattle.redo.proofs.behind.Tie as tie
 
 returns : tie.Need-returns
 returns c = sym (ap (λ (b : Bool). cond b 0 (c .before .args .k)) (c .if1 .taken))

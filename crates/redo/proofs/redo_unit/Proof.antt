@@ -10,16 +10,16 @@ use Rattle.records.specs.Formats.{asFormat}
 use Rattle.buffer.specs.Gap.{shut}
 use Rattle.buffer.proofs.Gaps.{shut-length}
 use Rattle.edit.specs.Calls.{stateOf}
 use Rattle.undo.specs.Undo.{redoWalk}
 use Rattle.undo.specs.Steps.{lentBy}
 use Rattle.undo.proofs.Seams.{some-next, none-next}
 use Rattle.undo.proofs.Counts.{one-of, counts-on}
 use Rattle.undo.proofs.Walks.{falls}
 use Rattle.undo.proofs.Units.{Walking, walking-first, walked-all, walked-stop, walking-on, walked-last}
-use Rattle.undo.proofs.Redos.{redone}
+use Rattle.redo.proofs.Redos.{redone}
 use Rattle.undo.proofs.Gaps.{shut-kept, plain-kept, within-there, ends-there}
-use Rattle.undo.proofs.redo_unit.Statement.{statement}
-use Rattle.undo.proofs.redo_unit.Tie as tie
+use Rattle.redo.proofs.redo_unit.Statement.{statement}
+use Rattle.redo.proofs.redo_unit.Tie as tie
 
 abbrev Inv-loop : tie.InvT-loop
 Inv-loop f text₀ records texts gap s₀ at₀ g₀ ends₀ begins₀ text s at g ends begins =

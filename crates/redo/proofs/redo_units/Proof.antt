@@ -6,11 +6,11 @@ use denote.Ref.{now}
 use Rattle.records.specs.Formats.{asFormat}
 use Rattle.buffer.specs.Gap.{shut}
 use Rattle.edit.specs.Calls.{lent}
-use Rattle.undo.proofs.Redos.{Redoing, redoing-first, redo-ended, more-left, redoing-next, redo-stopped}
+use Rattle.redo.proofs.Redos.{Redoing, redoing-first, redo-ended, more-left, redoing-next, redo-stopped}
 use Rattle.buffer.proofs.Gaps.{shut-end}
 use Rattle.undo.proofs.Gaps.{shut-kept, plain-kept, plain-used, redo-answered, closed}
-use Rattle.undo.proofs.redo_units.Statement.{statement}
-use Rattle.undo.proofs.redo_units.Tie as tie
+use Rattle.redo.proofs.redo_units.Statement.{statement}
+use Rattle.redo.proofs.redo_units.Tie as tie
 
 abbrev Inv-loop : tie.InvT-loop
 Inv-loop f text₀ records texts n line-now₀ gap₀ log-now₀ number₀ left₀ text line-now gap log-now number left =

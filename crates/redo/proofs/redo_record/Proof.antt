@@ -5,11 +5,11 @@ use mathlib.Core.Bool.{false}
 use denote.Ref.{now}
 use Rattle.records.specs.Formats.{asFormat}
 use Rattle.buffer.specs.Gap.{shut}
 use Rattle.undo.specs.Steps.{lentBy}
 use Rattle.undo.proofs.Seams.{some-next, next-stands}
 use Rattle.undo.proofs.Steps.{next-whole, next-space, next-seam-there, record-stops, record-passes}
-use Rattle.undo.proofs.redo_record.Statement.{statement}
-use Rattle.undo.proofs.redo_record.Tie as tie
+use Rattle.redo.proofs.redo_record.Statement.{statement}
+use Rattle.redo.proofs.redo_record.Tie as tie
 
 read-record-requires : tie.Need-read-record-requires
 read-record-requires c κs =
