@@ -1,5 +1,5 @@
-# cargo and rustc, of Debian where they are missing. For scripts that have two functions: `quietly` runs a command into
-# their log and ends them where that fails, `fail` ends them with a message.
+# Debian's packages where they are missing, cargo and rustc among them. For scripts that have two functions: `quietly`
+# runs a command into their log and ends them where that fails, `fail` ends them with a message.
 
 # The compiler's version; nothing where cargo or rustc is missing.
 rust_version() {
