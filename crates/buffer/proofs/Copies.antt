@@ -7,7 +7,7 @@ use mathlib.Core.List.{List, [], _++_, append-nil, append-assoc}
 use lib.ListN.{length, take, drop, length-append, length-drop, drop-of-length-le}
 use lib.Seq.{length-take-le, take-all, take-at, drop-at, drop-drop}
 use Rattle.buffer.specs.Edit.{shifted, inserted, written, copies}
-use Rattle.buffer.proofs.Laws.{write-law, back-law}
+use Rattle.buffer.proofs.Shifts.{write-law, back-law}
 
 pub copies-length : (n : ℕ) (s : List ℕ) → length (copies n s) ≡ length s * n
 unfolding copies

@@ -7,12 +7,22 @@ use lib.ListN.{length, take, drop, length-take, length-drop, length-append, take
 use lib.Seq.{length-take-le, length-front, take-all, take-at, drop-at, take-take, drop-drop, take-add, take-append-le, take-append-add, drop-append-add, drop-length}
 use Rattle.buffer.specs.Edit.{shifted, cut}
 use Rattle.buffer.specs.Gap.{gapped, shut}
-use Rattle.buffer.proofs.Laws.{take-drop}
+use Rattle.lists.proofs.Parts.{take-drop}
 
 -- ---- the text, and the buffer with the gap behind it
 pub shut-length : (len at : ℕ) (s : List ℕ) → length (shut len at s) ≡ length s
 unfolding gapped shut
 shut-length len at s = simp (length-append, length-take, length-drop) (omega arith)
+
+-- so a buffer keeps its length where the gap is put behind the text
+pub shut-kept : (m i n j : ℕ) (b b′ : List ℕ) → length b′ ≡ length b → length (shut n j b′) ≡ length (shut m i b)
+shut-kept m i n j b b′ e = shut-length n j b′ ∙ e ∙ sym (shut-length m i b)
+
+pub plain-kept : (len gap : ℕ) (b : List ℕ) {k : ℕ} → length (shut len gap b) ≡ k → length b ≡ k
+plain-kept len gap b e = sym (shut-length len gap b) ∙ e
+
+pub plain-used : (len gap : ℕ) (b : List ℕ) → len ≤ length (shut len gap b) → len ≤ length b
+plain-used len gap b h = omega (arith, h, shut-length len gap b)
 
 module _ (len at : ℕ) (s : List ℕ) (h : at ≤ len) (k : len ≤ length s) where
   pub gapped-length : length (gapped len at s) ≡ len

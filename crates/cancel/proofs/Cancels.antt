@@ -25,8 +25,8 @@ use Rattle.undo.specs.declared.Passed.{Passed}
 use Rattle.undo.specs.Undo.{Walked, numberOf, trailOf}
 use Rattle.undo.specs.Steps.{trailBy, lineOf, PassesOne}
 use Rattle.undo.proofs.Seams.{held}
-use Rattle.undo.proofs.Walks.{walked, Come, come-first, outOf, answerBy, edited, ended, stopped-there, stop-ended, goes, come-next, from-there, to-there, trail-there, tried-there}
-use Rattle.undo.proofs.Gaps.{Answered, either-answered}
+use Rattle.undo.proofs.Walks.{walked, Come, come-first, outOf, edited, ended, stopped-there, stop-ended, goes, come-next, from-there, to-there, trail-there, tried-there}
+use Rattle.undo.proofs.Gaps.{NotRefused, either-not-refused}
 use Rattle.cancel.specs.Cancel.{opens, walkTo, beginsDown, cancelled, cancelOut}
 use Rattle.cancel.specs.Open.{openBegins}
 
@@ -89,11 +89,11 @@ module _ (C m : ℕ) (s : State) where
   cancel-done e u r p f = rw (e, f)
 
 -- it refuses nothing that the checks pass
-pub cancel-answered : (C m : ℕ) (s : State) → Answered (cancelOut C m s)
+pub cancel-not-refused : (C m : ℕ) (s : State) → NotRefused (cancelOut C m s)
 unfolding cancelOut
-cancel-answered C m s =
+cancel-not-refused C m s =
     let w = walkTo C m (s .log .undo) (s .log .redo) (trailOf s) in
-    either-answered (opens m (s .log .undo)) (cancelled w m s) (answered 1 0 0 s) (either-answered (eqb (w .stopped) 0) _ _ tt tt) tt
+    either-not-refused (opens m (s .log .undo)) (cancelled w m s) (answered 1 0 0 s) (either-not-refused (eqb (w .stopped) 0) _ _ tt tt) tt
 
 -- nothing is done where the group is not open
 pub cancels-nothing : {F : Format} {l : Lent} (h : Ready F l) (m : ℕ) → opens m (stateOf catalogue F l .log .undo) ≡ false → {r : EditAnswer} → r ≡ says 1 (l .line) (l .log)
@@ -166,7 +166,7 @@ module _ {F : Format} {l₀ : Lent} {m : ℕ} {t : List ℕ} {s : Step} {g : Log
     at-record = sym (k .same) ∙ ap (λ (a : List Change). downTo (length (l₀ .text)) m n a (now .log .redo) (trailBy now (s .undone))) e
 
     -- a record stops it
-    pub cancel-stop : (p .step .number ≡ 0 → ⊥) → {r : EditAnswer} → r ≡ answerBy (numberOf (p .step .number) (p .step .undone)) (lineOf (p .step)) (p .log)
+    pub cancel-stop : (p .step .number ≡ 0 → ⊥) → {r : EditAnswer} → r ≡ says (numberOf (p .step .number) (p .step .undone)) (lineOf (p .step)) (p .log)
         → Edited F l₀ (cancelOut (length (l₀ .text)) m start) r t′ (l₀ .records) (l₀ .texts)
     cancel-stop z {r} y =
         let a = at-record ∙ to-stop (length (l₀ .text)) m n x f (now .log .redo) (trailBy now (s .undone)) (p .step .number) h (stopped-there true (k .come) e p t′ q z) in

@@ -11,7 +11,7 @@ use lib.Seq.{sets, length-sets, length-take-le, take-take, take-at, take-all}
 use borrow.Author.Tests.{lt-ltb, le-ltb, ne-eqb}
 use Rattle.lists.proofs.Stores.{take-sets}
 use Rattle.unicode.specs.Repertoire.{catalogue}
-use Rattle.journal.specs.Change.{Edit, insert, delete, replace, Change, begin, end, edit, turn}
+use Rattle.journal.specs.Change.{insert, delete, replace, Change, begin, end, edit, turn}
 use Rattle.journal.specs.Layout.{Format, encodeRecords, encodeTexts, Layout}
 use Rattle.journal.specs.Hold.{Holds, Listed}
 use Rattle.journal.specs.Groups as groups
@@ -20,7 +20,8 @@ use Rattle.journal.specs.Undo.{undoRecords, undoTexts, fits, Places, lastInsert
 use Rattle.journal.proofs.Decode.{records-many}
 use Rattle.journal.proofs.Holds.{records-append, texts-append, holds-alone, pushed, closed, layout-left}
 use Rattle.journal.proofs.Undo.{records-size, texts-size, good-oldest, fits-yes, full-records}
-use Rattle.journal.proofs.Groups.{run, passed-same, passed-run, passed-short, passed-twice, begins-records, begins-texts, begins-size, ends-records, ends-texts, good-ends, good-drop, Ended, ended-least, truncated-is, ends-passed, turned-back}
+use Rattle.journal.proofs.Groups.{run, passed-same, passed-run, passed-short, passed-twice, begins-records, begins-texts, begins-size, ends-records, ends-texts, good-ends, good-drop, Ended, ended-least, truncated-is, ends-passed}
+use Rattle.journal.proofs.Newest.{turned-back}
 use Rattle.records.specs.Walks.{isKind, firstOf, Walks, RunAt}
 use Rattle.records.specs.declared.Walked.{Walked}
 use Rattle.recording.specs.Tails.{tailOf, TailAt}

@@ -12,15 +12,15 @@ use Rattle.lists.proofs.Bools.{by-less}
 use Rattle.unicode.specs.Repertoire.{Repertoire}
 use Rattle.unicode.specs.Text.{isText}
 use Rattle.unicode.proofs.Text.{text-valid}
-use Rattle.cluster.specs.Clusters.{clustersOf, bytes}
+use Rattle.cluster.specs.Clusters.{clustersOf, firstCluster, firstSize}
 use Rattle.cluster.specs.Facts.{facts}
 use Rattle.cluster.specs.declared.Cluster.{Cluster}
-use Rattle.cluster.proofs.Steps.{firstCluster, step-none, step-one, step-two}
+use Rattle.cluster.proofs.Steps.{step-none, step-one, step-two}
 use Rattle.journal.specs.Recording.{isSingle}
 
 module _ (R : Repertoire) (t : List ℕ) where
   abbrev m : ℕ
-  m = bytes (firstCluster R t)
+  m = firstSize R t
 
   abbrev told : Bool
   told = (ltb 0 (length t) && eqb m (length t)) && all (R .alnum) (firstCluster R t)

@@ -7,6 +7,7 @@ use native.Mathlib.Omega.{arith}
 use borrow.Author.Tests.{ltb-false, not-false}
 use lib.Dec.{ltb}
 use lib.ListN.{length}
+use lib.Seq.{length-take-le}
 use Rattle.lists.proofs.Bools.{never, or-none}
 use Rattle.utf8.specs.Chars.{valid, boundary}
 use Rattle.unicode.specs.Repertoire.{Repertoire}
@@ -79,6 +80,12 @@ module _ (R : Repertoire) (buffer : List ℕ) (line : Line) where
 
   pub fit-valid : Fit R buffer line → valid (lentText buffer line) ≡ true
   fit-valid f = text-valid R (lentText buffer line) (f .text)
+
+  pub fit-within : Fit R buffer line → line .cursor ≤ length (lentText buffer line)
+  fit-within f = let h = f .within in let l = length-take-le (line .len) buffer (f .used) in omega arith
+
+  pub fit-small : Fit R buffer line → length (lentText buffer line) ≤ 131072
+  fit-small f = let h = f .small in let u = f .used in let l = length-take-le (line .len) buffer (f .used) in omega arith
 
   -- a number that names nothing is always refused
   pub code-refused : (foreign place : Bool) → refusal (both (lineTests R buffer line) (ownTests true foreign place)) ≡ 0 → ⊥

@@ -1,5 +1,5 @@
 -- The scan for the last cluster, from the end of a text backward: what is known of it so far. Assumes nothing.
-use mathlib.Core.Path.{_≡_, refl, sym, ap, _∙_}
+use mathlib.Core.Path.{_≡_, sym, ap, _∙_}
 use mathlib.Core.Bool.{true, false}
 use mathlib.Core.List.{List, [], _∷_, _++_}
 use Prim.Native.Nat.{ℕ, _+_}
@@ -7,6 +7,7 @@ use native.Mathlib.Omega.{arith}
 use lib.ListN.{length, take, drop}
 use lib.Seq.{drop-drop, drop-length}
 use Rattle.lists.specs.Lists.{lastOr}
+use Rattle.lists.proofs.Parts.{none-left}
 use Rattle.lists.proofs.Ends.{last-snoc}
 use Rattle.utf8.specs.Utf8.{char, first}
 use Rattle.utf8.specs.Chars.{chars, boundary, charsFrom, EndsAt}
@@ -14,15 +15,11 @@ use Rattle.utf8.proofs.Chars.{first-within, chars-step}
 use Rattle.utf8.proofs.Append.{chars-cut}
 use Rattle.utf8.proofs.Ends.{ends-char, chars-before}
 use Rattle.unicode.specs.Repertoire.{Repertoire}
-use Rattle.cluster.specs.Clusters.{joined, clusters, clustersOf}
+use Rattle.cluster.specs.Clusters.{joined, clusters, clustersOf, lastCluster}
 use Rattle.cluster.specs.Facts.{facts, single, extended}
 use Rattle.cluster.specs.declared.Cluster.{Cluster}
 use Rattle.cluster.proofs.Clusters.{Linked, clusters-break, clusters-linked}
 use Rattle.cluster.proofs.Facts.{facts-single, facts-cons}
-
-empty : (s : List ℕ) → length s ≡ 0 → [] ≡ s
-empty [] h = refl
-empty (x ∷ s) h = absurd (omega arith)
 
 module _ (R : Repertoire) (s : List ℕ) where
   -- the characters from j on are c and those behind it, with no break between them, and k is their cluster
@@ -87,18 +84,18 @@ module _ (R : Repertoire) (s : List ℕ) where
         ap (λ (l : List ℕ). clusters R l ++ clusters R (c ∷ z .behind)) (sym (chars-before s j i p n f e)) ∙
         ap (λ (l : List (List ℕ)). clustersOf R (take j s) ++ l) (clusters-linked R c (z .behind) (z .linked))
 
-    pub back-stop : joined R p c ≡ false → k ≡ facts R (lastOr [] (clustersOf R s))
+    pub back-stop : joined R p c ≡ false → k ≡ facts R (lastCluster R s)
     back-stop g =
         z .known ∙ ap (facts R) (sym (last-snoc [] (clustersOf R (take j s)) (c ∷ z .behind))) ∙
         ap (λ (l : List (List ℕ)). facts R (lastOr [] l)) (sym (back-break g))
 
   -- of no characters
-  pub back-empty : (k : Cluster) → length s ≡ 0 → k ≡ facts R [] → k ≡ facts R (lastOr [] (clustersOf R s))
+  pub back-empty : (k : Cluster) → length s ≡ 0 → k ≡ facts R [] → k ≡ facts R (lastCluster R s)
   unfolding charsFrom clusters lastOr
-  back-empty k h e = e ∙ ap (λ (l : List ℕ). facts R (lastOr [] (clustersOf R l))) (empty s h)
+  back-empty k h e = e ∙ ap (λ (l : List ℕ). facts R (lastCluster R l)) (sym (none-left s h))
 
   -- the text's start is reached
-  pub back-done : (c : ℕ) (k : Cluster) → Backed 0 c k → k ≡ facts R (lastOr [] (clustersOf R s))
+  pub back-done : (c : ℕ) (k : Cluster) → Backed 0 c k → k ≡ facts R (lastCluster R s)
   unfolding lastOr
   back-done c k z =
       z .known ∙ ap (λ (l : List (List ℕ)). facts R (lastOr [] l)) (sym (ap (clusters R) (z .there) ∙ clusters-linked R c (z .behind) (z .linked)))

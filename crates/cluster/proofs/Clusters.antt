@@ -13,7 +13,7 @@ use Rattle.utf8.specs.Chars.{chars}
 use Rattle.utf8.specs.Encode.{size}
 use Rattle.utf8.proofs.Chars.{chars-step, chars-bad, chars-cons}
 use Rattle.unicode.specs.Repertoire.{Repertoire}
-use Rattle.cluster.specs.Clusters.{joined, attach, clusters, clustersOf, bytes}
+use Rattle.cluster.specs.Clusters.{joined, attach, clusters, clustersOf, firstCluster, bytes, firstSize}
 
 concat-attach : (b : Bool) (c : ℕ) (ks : List (List ℕ)) → concat (attach b c ks) ≡ c ∷ concat ks
 concat-attach true c [] = refl
@@ -97,7 +97,7 @@ module _ (R : Repertoire) where
 
   -- the first cluster of a part, then the clusters of what is left of it
   pub clusters-step : (t : List ℕ) (c n : ℕ) → first t ≡ char c n →
-      clustersOf R t ≡ headOr [] (clustersOf R t) ∷ clustersOf R (drop (bytes (headOr [] (clustersOf R t))) t)
+      clustersOf R t ≡ firstCluster R t ∷ clustersOf R (drop (firstSize R t) t)
   clusters-step t c n e =
       split-at (clustersOf R t) t (sym (clusters-concat (chars t))) refl (rest (chars t)) (rw (chars-step t c n e) (clusters-some c (chars (drop n t))))
 

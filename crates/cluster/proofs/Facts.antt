@@ -1,10 +1,10 @@
 -- The facts of a cluster, character by character. Assumes nothing.
 use mathlib.Core.Path.{_≡_, refl, sym, ap, _∙_}
 use mathlib.Core.Bool.{Bool, false, _&&_, _||_, and-true, or-false, and-comm, or-comm}
-use mathlib.Core.List.{List, [], _∷_, _++_, append-assoc, append-nil}
+use mathlib.Core.List.{List, [], _∷_, _++_, map, append-assoc, append-nil}
 use Prim.Native.Nat.{ℕ, _+_}
 use native.Mathlib.Omega.{arith}
-use Rattle.lists.specs.Lists.{all, any}
+use Rattle.lists.specs.Lists.{all, any, sum, concat}
 use Rattle.lists.proofs.Alls.{all-append, any-append}
 use Rattle.utf8.specs.Encode.{size}
 use Rattle.unicode.specs.Repertoire.{Repertoire}
@@ -15,6 +15,11 @@ use Rattle.cluster.specs.declared.Cluster.{Cluster}
 pub bytes-append : (a b : List ℕ) → bytes (a ++ b) ≡ bytes a + bytes b
 bytes-append [] b = omega arith
 bytes-append (c ∷ a) b = let h = bytes-append a b in omega arith
+
+-- the bytes of some clusters
+pub sum-bytes : (ks : List (List ℕ)) → sum (map bytes ks) ≡ bytes (concat ks)
+sum-bytes [] = refl
+sum-bytes (k ∷ ks) = let h = sum-bytes ks in let b = bytes-append k (concat ks) in omega arith
 
 same : {l m : ℕ} {a b c d e f : Bool} → l ≡ m → a ≡ b → c ≡ d → e ≡ f →
     _≡_ {A = Cluster} (record { len = l; alnum = a; white = c; underscore = e }) (record { len = m; alnum = b; white = d; underscore = f })

@@ -10,7 +10,7 @@ use Rattle.utf8.specs.Utf8.{char, bad, first}
 use Rattle.utf8.specs.Chars.{chars}
 use Rattle.utf8.proofs.Chars.{first-within, chars-step, chars-bad}
 use Rattle.unicode.specs.Repertoire.{Repertoire}
-use Rattle.cluster.specs.Clusters.{joined, clusters, clustersOf}
+use Rattle.cluster.specs.Clusters.{joined, clusters, firstCluster}
 use Rattle.cluster.specs.Facts.{facts, single, extended}
 use Rattle.cluster.specs.declared.Cluster.{Cluster}
 use Rattle.cluster.proofs.Clusters.{runOf, clusters-head, clusters-none}
@@ -30,7 +30,7 @@ module _ (R : Repertoire) (s : List ℕ) where
   -- k, with what still joins p from i on, is the first cluster of s
   pub record Scanned (i p : ℕ) (k : Cluster) : Type 0 where
     pub sized : k .len ≡ i
-    pub known : facts R (headOr [] (clustersOf R s)) ≡ extendedBy R k (runOf R p (chars (drop i s)))
+    pub known : facts R (firstCluster R s) ≡ extendedBy R k (runOf R p (chars (drop i s)))
 
   pub scan-start : (c n : ℕ) (k : Cluster) → first s ≡ char c n → k ≡ single R c n → Scanned n c k
   scan-start c n k e q =
@@ -43,7 +43,7 @@ module _ (R : Repertoire) (s : List ℕ) where
             facts-append R c [] (runOf R c (chars (drop n s))) ∙ ap (λ (x : Cluster). extendedBy R x (runOf R c (chars (drop n s)))) same;
       }
 
-  pub scan-none : first s ≡ bad → facts R [] ≡ facts R (headOr [] (clustersOf R s))
+  pub scan-none : first s ≡ bad → facts R [] ≡ facts R (firstCluster R s)
   scan-none e = ap (λ (l : List (List ℕ)). facts R (headOr [] l)) (sym (clusters-none R s e))
 
   module _ (i p : ℕ) (k : Cluster) (z : Scanned i p k) where
@@ -61,8 +61,8 @@ module _ (R : Repertoire) (s : List ℕ) where
         }
 
     -- c does not, or no character is left
-    pub scan-break : (c n : ℕ) → first (drop i s) ≡ char c n → joined R p c ≡ false → k ≡ facts R (headOr [] (clustersOf R s))
+    pub scan-break : (c n : ℕ) → first (drop i s) ≡ char c n → joined R p c ≡ false → k ≡ facts R (firstCluster R s)
     scan-break c n e j = sym (z .known ∙ ap (extendedBy R k) (run-out R (drop i s) p c n e j))
 
-    pub scan-end : first (drop i s) ≡ bad → k ≡ facts R (headOr [] (clustersOf R s))
+    pub scan-end : first (drop i s) ≡ bad → k ≡ facts R (firstCluster R s)
     scan-end e = sym (z .known ∙ ap (extendedBy R k) (run-bad R (drop i s) p e))

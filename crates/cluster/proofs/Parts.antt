@@ -16,7 +16,7 @@ use Rattle.utf8.proofs.Chars.{chars-step, valid-bad, size-pos}
 use Rattle.utf8.proofs.Append.{by-first}
 use Rattle.utf8.proofs.Encode.{size-encode, encodeAll-append, chars-encode, valid-encode, encode-chars, chars-scalar}
 use Rattle.unicode.specs.Repertoire.{Repertoire}
-use Rattle.cluster.specs.Clusters.{clusters, clustersOf, bytes}
+use Rattle.cluster.specs.Clusters.{clusters, clustersOf, firstCluster, lastCluster, bytes, firstSize}
 use Rattle.cluster.proofs.Clusters.{runOf, chars-drop, clusters-some, clusters-head, clusters-concat, clusters-last}
 use Rattle.cluster.proofs.Facts.{bytes-append}
 
@@ -68,8 +68,8 @@ head-concat (k ∷ ks) h = refl
 module _ (R : Repertoire) (t : List ℕ) (v : valid t ≡ true) (h : 0 < length t) where
   -- the first cluster of a text that is not empty
   pub record FirstCut : Type 0 where
-    pub some : 0 < bytes (headOr [] (clustersOf R t))
-    pub cut : Cut t (headOr [] (clustersOf R t)) (chars (drop (bytes (headOr [] (clustersOf R t))) t))
+    pub some : 0 < firstSize R t
+    pub cut : Cut t (firstCluster R t) (chars (drop (firstSize R t) t))
 
   pub first-cut : FirstCut
   first-cut =
@@ -93,13 +93,13 @@ module _ (R : Repertoire) (t : List ℕ) (v : valid t ≡ true) (h : 0 < length 
     pub edge : boundary t (length t - bytes k) ≡ true
     pub split : clustersOf R t ≡ clustersOf R (take (length t - bytes k) t) ++ (k ∷ [])
 
-  pub last-cut : LastCut (lastOr [] (clustersOf R t))
+  pub last-cut : LastCut (lastCluster R t)
   last-cut =
       some-char _ t v h
       (λ c cs e.
       let l = clusters-last R c cs in
       let s : clustersOf R t ≡ clusters R (l .front) ++ (l .final ∷ []) = ap (clusters R) e ∙ l .split in
-      let f : lastOr [] (clustersOf R t) ≡ l .final = ap (lastOr []) s ∙ last-snoc [] (clusters R (l .front)) (l .final) in
+      let f : lastCluster R t ≡ l .final = ap (lastOr []) s ∙ last-snoc [] (clusters R (l .front)) (l .final) in
       let z = cut-chars t (l .front) (l .final) v (e ∙ l .parts) in
       let w = z .whole in
       let n : length t - bytes (l .final) ≡ bytes (l .front) = omega arith in

@@ -4,6 +4,7 @@ use Prim.Native.Nat.{ℕ, _+_}
 use mathlib.Core.Bool.{Bool, true, false, cond, _&&_}
 use mathlib.Core.List.{List, [], _∷_}
 use lib.Dec.{eqb}
+use Rattle.lists.specs.Lists.{headOr, lastOr}
 use Rattle.utf8.specs.Chars.{chars}
 use Rattle.utf8.specs.Encode.{size}
 use Rattle.unicode.specs.Repertoire.{Repertoire}
@@ -36,7 +37,18 @@ clusters R (c ∷ (d ∷ cs)) = attach (joined R c d) c (clusters R (d ∷ cs))
 abbrev pub clustersOf : Repertoire → List ℕ → List (List ℕ)
 clustersOf R s = clusters R (chars s)
 
--- the bytes of some characters
+-- the first of them and the last, the cluster of no characters where there is none
+abbrev pub firstCluster : Repertoire → List ℕ → List ℕ
+firstCluster R s = headOr [] (clustersOf R s)
+
+abbrev pub lastCluster : Repertoire → List ℕ → List ℕ
+lastCluster R s = lastOr [] (clustersOf R s)
+
+-- how many bytes some characters have
 abbrev pub bytes : List ℕ → ℕ
 bytes [] = 0
 bytes (c ∷ cs) = size c + bytes cs
+
+-- how many bytes the first cluster has
+abbrev pub firstSize : Repertoire → List ℕ → ℕ
+firstSize R s = bytes (firstCluster R s)

@@ -4,10 +4,9 @@ ghost use mathlib.Core.Bool.{true};
 ghost use mathlib.Core.List.{[]};
 ghost use Prim.Native.Nat.{_+_, _≤_, _<_};
 ghost use lib.ListN.{length};
-ghost use Rattle.lists.specs.Lists.{headOr, lastOr};
 ghost use Rattle.utf8.specs.Chars.{valid};
 ghost use Rattle.unicode.specs.Repertoire.{catalogue};
-ghost use Rattle.cluster.specs.Clusters.{joined, clustersOf};
+ghost use Rattle.cluster.specs.Clusters.{joined, firstCluster, lastCluster};
 ghost use Rattle.cluster.specs.Facts.{facts, single, extended};
 use unicode::is_alnum;
 use unicode::is_control;
@@ -82,7 +81,7 @@ pub fn joins(p: u32, c: u32) -> bool
 
 // The first cluster of s, the empty one where s begins with no character.
 pub fn next_cluster(s: &[u8]) -> Cluster
-    ensures known { λ r. ⌜ r ≡ facts catalogue (headOr [] (clustersOf catalogue (now (s .entry)))) ⌝ }
+    ensures known { λ r. ⌜ r ≡ facts catalogue (firstCluster catalogue (now (s .entry))) ⌝ }
     ensures within { λ r. ⌜ r .len ≤ length (now (s .entry)) ⌝ }
 {
     let d = decode_at(s, 0);
@@ -110,7 +109,7 @@ pub fn next_cluster(s: &[u8]) -> Cluster
 // The last cluster of s, by a scan that goes back from its end.
 pub fn prev_cluster(s: &[u8]) -> Cluster
     requires { ⌜ valid (now s) ≡ true ⌝ }
-    ensures known { λ r. ⌜ r ≡ facts catalogue (lastOr [] (clustersOf catalogue (now (s .entry)))) ⌝ }
+    ensures known { λ r. ⌜ r ≡ facts catalogue (lastCluster catalogue (now (s .entry))) ⌝ }
     ensures within { λ r. ⌜ r .len ≤ length (now (s .entry)) ⌝ }
 {
     let n = s.len();

@@ -6,12 +6,13 @@
 // any other form, or whose text is over 64 bytes, agrees in neither direction. The last line may lack its line feed.
 //
 // A row of marks has a byte for each place of a text, its end too: 1 at a break, else 0.
-ghost use mathlib.Core.Path.{_≡_};
-ghost use mathlib.Core.Bool.{true};
-ghost use Prim.Native.Nat.{_+_, _<_, _≤_, min};
+ghost use Prim.Native.Nat.{_<_, _≤_};
 ghost use lib.ListN.{length};
 use cluster::next_cluster;
 use cluster::prev_cluster;
+use fields::is_at;
+use fields::past;
+use fields::place_of;
 use libc::STDOUT_FILENO;
 use unicode::check_text;
 use utf8::encode_at;
@@ -79,12 +80,6 @@ fn number_at(s: &[u8], from: usize) -> Number
     Number { value, next: at }
 }
 
-fn is_space(s: &[u8], at: usize) -> bool
-    ensures { λ r. ⌜ (r ≡ true → at < length (now (s .entry))) ⌝ }
-{
-    if at < s.len() { s[at] == b' ' } else { false }
-}
-
 // The code point that stands at a place between two spaces, and the place after the second.
 fn point_at(s: &[u8], from: usize) -> Number
     requires { ⌜ from ≤ length (now s) ⌝ }
@@ -94,12 +89,12 @@ fn point_at(s: &[u8], from: usize) -> Number
         value: NO_POINT,
         next: from,
     };
-    if !is_space(s, from) {
+    if !is_at(s, from, b' ') {
         return none;
     }
     let n = number_at(s, from + 1);
     let end = n.next;
-    if !is_space(s, end) {
+    if !is_at(s, end, b' ') {
         return none;
     }
     let digits = end - (from + 1);
@@ -236,38 +231,14 @@ fn tested(line: &[u8]) -> Tally
 fn counted(line: &[u8]) -> Tally
     ensures { λ r. ⌜ (r .lines ≤ 1) × (r .forward ≤ 1) × (r .backward ≤ 1) ⌝ }
 {
-    if 0 < line.len() {
-        if line[0] == b'#' {
-            return Tally {
-                lines: 0,
-                forward: 0,
-                backward: 0,
-            };
-        }
+    if is_at(line, 0, b'#') {
+        return Tally {
+            lines: 0,
+            forward: 0,
+            backward: 0,
+        };
     }
     tested(line)
-}
-
-// The end of the line that begins at a place.
-fn line_end(s: &[u8], from: usize) -> usize
-    requires { ⌜ from ≤ length (now s) ⌝ }
-    ensures { λ r. ⌜ (from ≤ r) × (r ≤ length (now (s .entry))) ⌝ }
-{
-    let mut at = from;
-    while at < s.len() {
-        if s[at] == b'\n' {
-            return at;
-        }
-        at += 1;
-    }
-    at
-}
-
-// The place after a line's end.
-fn past(end: usize, len: usize) -> usize
-    ensures { λ r. ⌜ r ≡ min (end + 1) len ⌝ }
-{
-    if end < len { end + 1 } else { len }
 }
 
 // The tally of all lines.
@@ -277,7 +248,7 @@ fn total(s: &[u8]) -> Tally {
     let mut backward: usize = 0;
     let mut at = 0;
     while at < s.len() {
-        let end = line_end(s, at);
+        let end = place_of(s, at, b'\n');
         let t = counted(&s[at..end]);
         lines += t.lines;
         forward += t.forward;

@@ -8,6 +8,7 @@ use native.Mathlib.Omega.{arith}
 use borrow.Author.Tests.{ltb-false}
 use lib.Dec.{ltb}
 use lib.ListN.{length}
+use Rattle.lists.proofs.Bools.{or-none}
 use Rattle.utf8.specs.Chars.{valid, boundary}
 use Rattle.unicode.specs.Repertoire.{Repertoire}
 use Rattle.keymap.specs.declared.Movement.{Movement}
@@ -16,8 +17,8 @@ use Rattle.checks.specs.Checks.{Tests, both, refusal, lentText, lineTests, ownT
 use Rattle.checks.specs.Answers.{says}
 use Rattle.checks.specs.declared.Line.{Line}
 use Rattle.checks.specs.declared.LineAnswer.{LineAnswer}
-use Rattle.checks.proofs.Fit.{fit-valid}
-use Rattle.movement.proofs.Called.{refused, accepted, fit-of, fit-within}
+use Rattle.checks.proofs.Fit.{fit-valid, fit-within}
+use Rattle.movement.proofs.Called.{refused, accepted, fit-of}
 use Rattle.copies.specs.Copy.{isForeign, startsAfter, copied, ranged, copyTests, copyBy, movementIs}
 
 -- ---- the tests in number order: sizes, characters, places, split characters
@@ -41,11 +42,6 @@ chain-late false false p q h = (refl, refl)
 chain-place : (a c p x q : Bool) → a ≡ false → c ≡ false → x ≡ true → 5 ≡ chain a c (p || x) q
 chain-place a c p x q u v h = rw (u, v, h, or-true p)
 
-or-none : (a b : Bool) → (a || b) || false ≡ false → b ≡ false
-or-none true b e = let z : _≡_ {A = ℕ} 0 1 = cc in absurd (omega arith)
-or-none false true e = e
-or-none false false e = refl
-
 module _ (R : Repertoire) (buffer : List ℕ) (line : Line) (mvt : Movement) (f : Bool) (w : f ≡ isForeign R mvt) (r : ℕ) (e : r ≡ refusal (both (lineTests R buffer line) (ownTests false f false))) where
   abbrev Late : Type 0
   Late = (r ≡ 0) ⊎ (r ≡ 6)
@@ -61,7 +57,7 @@ module _ (R : Repertoire) (buffer : List ℕ) (line : Line) (mvt : Movement) (f 
   late h = chain-late (t .sizes) (t .foreign) (t .place) (t .split) (⊎-elim (λ z. inl (sym e ∙ z)) (λ z. inr (sym e ∙ z)) h)
 
   pub lent-used : Late → line .len ≤ length buffer
-  lent-used h = ltb-false (length buffer) (line .len) (or-none (ltb 4096 (length buffer)) (ltb (length buffer) (line .len)) (late h .0))
+  lent-used h = ltb-false (length buffer) (line .len) (or-none (ltb 4096 (length buffer)) (ltb (length buffer) (line .len)) (or-none (ltb 4096 (length buffer) || ltb (length buffer) (line .len)) false (late h .0) .0) .1)
 
   pub lent-fit : r ≡ 0 →
       (valid (lentText buffer line) ≡ true) × (boundary (lentText buffer line) (line .cursor) ≡ true) × (line .cursor ≤ length (lentText buffer line))

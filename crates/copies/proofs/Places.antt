@@ -3,6 +3,7 @@ use mathlib.Core.Path.{_≡_, refl, sym, ap, subst, _∙_}
 use mathlib.Core.Bool.{Bool, true, false, cond, _&&_}
 use mathlib.Core.List.{List}
 use Prim.Native.Nat.{ℕ, _+_, _≤_}
+use native.Mathlib.Nat.{add-zero}
 use native.Mathlib.Omega.{arith}
 use borrow.Author.Tests.{ltb-false}
 use lib.Dec.{eqb, ltb}
@@ -58,16 +59,13 @@ module _ (P : ℕ → ℕ → Type 0) (a b : ℕ) where
     of-back (found.At p) e g = of-places (p + k) pos e (g p refl)
     of-back found.Nothing e g = of-nowhere e
 
-pub no-more : (p : ℕ) → p ≡ p + 0
-no-more p = omega arith
-
 -- from the cursor to a place that is found, and back
 module _ (s : List ℕ) (pos a b : ℕ) (k : boundary s pos ≡ true) (h : pos ≤ length s) where
   pub up-in : (f : Found) → upTo pos 0 f ≡ Places a b → ((p : ℕ) → f ≡ found.At p → (pos ≤ p) × (p ≤ length s) × (boundary s p ≡ true)) → In s a b
-  up-in f e g = of-up (In s) a b pos 0 f e (λ p q. let z = g p q in subst (In s pos) (no-more p) (z .0, z .1, k, z .2))
+  up-in f e g = of-up (In s) a b pos 0 f e (λ p q. let z = g p q in subst (In s pos) (sym (add-zero p)) (z .0, z .1, k, z .2))
 
   pub back-in : (f : Found) → backTo pos 0 f ≡ Places a b → ((p : ℕ) → f ≡ found.At p → (p ≤ pos) × (boundary s p ≡ true)) → In s a b
-  back-in f e g = of-back (In s) a b pos 0 f e (λ p q. let z = g p q in subst (λ (i : ℕ). In s i pos) (no-more p) (z .0, h, z .1, k))
+  back-in f e g = of-back (In s) a b pos 0 f e (λ p q. let z = g p q in subst (λ (i : ℕ). In s i pos) (sym (add-zero p)) (z .0, h, z .1, k))
 
 module _ (R : Repertoire) (s : List ℕ) (pos a b : ℕ) (v : valid s ≡ true) (k : boundary s pos ≡ true) (h : pos ≤ length s) where
   search-in : (n : ℕ) (cs : CharSearch) → searchRange R s pos n cs ≡ Places a b → In s a b
@@ -107,7 +105,7 @@ module _ (R : Repertoire) (s : List ℕ) (pos a b : ℕ) (v : valid s ≡ true) 
       (λ p g y.
       let z = next-word-place R s 0 Start Big 1 p v (boundary-zero s) (omega arith) g in
       let x : p ≤ pos = omega arith in
-      subst (λ (i : ℕ). In s i pos) (no-more p) (x, h, z .2, k)) refl)
+      subst (λ (i : ℕ). In s i pos) (sym (add-zero p)) (x, h, z .2, k)) refl)
   range-in (m.BackwardChar n) e f = back-in s pos a b k h (prevPos R s pos n) e (λ p q. prev-pos-place R s pos n p v k h q)
   range-in (m.ForwardChar n) e f = up-in s pos a b k h (nextPos R s pos n) e (λ p q. next-pos-place R s pos n p v k h q)
   range-in (m.LineUp n) e f = lines-up-place s pos n a b v k h e

@@ -1,6 +1,6 @@
 -- The two places of copy, by the tests that lead to them. Assumes nothing.
 use mathlib.Core.Path.{_≡_, refl, sym, ap, _∙_}
-use mathlib.Core.Bool.{Bool, true, false, _&&_}
+use mathlib.Core.Bool.{Bool, false, _&&_, and-false}
 use mathlib.Core.List.{List, [], _∷_}
 use Prim.Native.Nat.{ℕ, _+_}
 use native.Mathlib.Omega.{arith}
@@ -43,13 +43,9 @@ module _ (R : Repertoire) (s : List ℕ) (pos : ℕ) where
     unfolding copied
     copied-full h r e = e ∙ simp (ne-eqb (length s) 0 h)
 
-    and-false : (b : Bool) → false ≡ b && false
-    and-false true = refl
-    and-false false = refl
-
     pub starts-empty : length s ≡ 0 → false ≡ startsAfter R s pos mvt
     unfolding startsAfter
-    starts-empty h = and-false (isFirstPrint mvt) ∙ ap (λ (r : Range). isFirstPrint mvt && isAfter pos r) (copied-empty h)
+    starts-empty h = sym (and-false (isFirstPrint mvt)) ∙ ap (λ (r : Range). isFirstPrint mvt && isAfter pos r) (copied-empty h)
 
     pub starts-other : false ≡ isFirstPrint mvt → false ≡ startsAfter R s pos mvt
     unfolding startsAfter

@@ -6,6 +6,7 @@ use mathlib.Core.List.{List, [], _∷_}
 use Prim.Native.Nat.{ℕ, _+_, _-_, _<_, _≤_}
 use lib.ListN.{length, take, drop}
 use lib.Seq.{length-take-le, take-take}
+use Rattle.lists.specs.Lists.{part}
 use Rattle.lists.proofs.Bools.{by-less}
 use Rattle.utf8.specs.Chars.{In}
 use Rattle.unicode.specs.Repertoire.{catalogue}
@@ -14,18 +15,20 @@ use Rattle.checks.specs.declared.Line.{Line}
 use Rattle.journal.specs.Layout.{narrow}
 use Rattle.journal.specs.Undo.{fits}
 use Rattle.buffer.specs.Gap.{gapped, shut}
-use Rattle.buffer.proofs.Gaps.{shut-length, gap-moved, gap-closed}
+use Rattle.buffer.proofs.Gaps.{shut-length, shut-kept, gap-moved, gap-closed}
 use Rattle.changeset.specs.declared.Log.{Log}
 use Rattle.edit.specs.declared.EditAnswer.{EditAnswer}
-use Rattle.edit.specs.Plan.{part, splice, Piece, cutting, once, Plan, AllSuit, tooLong, listAfter, edited}
+use Rattle.edit.specs.Plan.{splice, Piece, cutting, once, Plan, AllSuit, tooLong, listAfter, edited}
 use Rattle.edit.specs.Calls.{Lent, lent, textOf, sizesOf, stateOf, says, Edited, Ready}
-use Rattle.edit.proofs.Made.{raw-part, edited-as}
-use Rattle.edit.proofs.Splice.{splice-length}
+use Rattle.edit.proofs.Parts.{raw-part}
+use Rattle.edit.proofs.Answers.{length-kept}
+use Rattle.edit.proofs.Made.{edited-as}
+use Rattle.edit.proofs.Splice.{splice-length, drop-splice}
 use Rattle.edit.proofs.Left.{Left, begins, moved, moved-first, next-suits, goes-on, ends, text-now}
 use Rattle.touched_lines.specs.Touched.{split, deleting}
 use Rattle.touched_lines.proofs.White.{deleting-in}
 use Rattle.indent_plans.specs.IndentPlans.{dedentLines, dedented, dedentCursor, indentPlan}
-use Rattle.indent_plans.proofs.FirstLine.{drop-splice, first-in, lines-last, lines-more, first-width}
+use Rattle.indent_plans.proofs.FirstLine.{first-in, lines-last, lines-more, first-width}
 use Rattle.indent_plans.proofs.Gap.{opened-length, opened-text}
 
 -- ---- the lines from at up to end; the first ends at e, and is dedented by d
@@ -112,11 +115,8 @@ module _ (l₀ : Lent) (m from to : ℕ) where
     abbrev t : List ℕ
     t = textOf l
 
-    long : length t ≡ l .line .len
-    long = length-take-le (l .line .len) (l .text) (k .left .ready .used)
-
     fit : end ≤ length t
-    fit = let z = k .within in omega (arith, long)
+    fit = let z = k .within in omega (arith, length-kept narrow l (k .left .ready))
 
     q′ : e ≡ endOfLine (take end t) at
     q′ = q ∙ ap (λ (x : List ℕ). endOfLine x at) (sym (take-take end (l .line .len) (l .text) (k .within)))
@@ -152,7 +152,7 @@ module _ (l₀ : Lent) (m from to : ℕ) where
             let u = ap length (text-now narrow l₀ (dedentPlan l₀ m from to) (cutting at (at + d)) ys l (as-left ys y) r tn rb tb o lt lr ls) in
             let i = splice-length t at (at + d) [] (omega arith) (let z = fit in let v = line-within in omega arith) in
             let n = length-take-le (r .line .len) tn (x .ready .used) in
-            (omega (arith, long), x .ready .used)
+            (omega (arith, length-kept narrow l (k .left .ready)), x .ready .used)
 
         pub cut-leaves : (r .line .len ≡ l .line .len - d) × (r .line .len ≤ length tn)
         cut-leaves =
@@ -210,7 +210,7 @@ module _ (l₁ : Lent) (m from to : ℕ) (s rb tb : List ℕ) (line : Line) (g :
   module _ (e : ℕ) (q : e ≡ endOfLine (take end (shut (line .len) at s)) at) (d : ℕ) (f : d ≡ deleting catalogue m (part (shut (line .len) at s) at e)) (r : EditAnswer) (rn tn : List ℕ)
       (o : Edited narrow l (edited catalogue narrow (sizesOf l) (length (l .text)) (once (cutting at (at + d)) at) (stateOf catalogue narrow l)) r (shut (r .line .len) at s) rn tn) (lr : length rn ≡ length rb) (ls : length tn ≡ length tb) where
     kept : length (shut (r .line .len) at s) ≡ length (shut (line .len) at s)
-    kept = shut-length (r .line .len) at s ∙ sym (shut-length (line .len) at s)
+    kept = shut-kept (line .len) at (r .line .len) at s s refl
 
     -- the places that the gap goes to
     pub gap-leaves : (at ≤ r .line .len) × (r .line .len ≤ length s)
@@ -234,7 +234,7 @@ module _ (l₁ : Lent) (m from to : ℕ) (s rb tb : List ℕ) (line : Line) (g :
           let w = gap-leaves in
           dedent-moved l₁ m from to (lent (shut (r .line .len) at s) rn tn (r .line) (r .log)) c (e - d + 1) (end - d)
           (dedent-goes-on l₁ m from to l cursor at end k e q d f r (shut (r .line .len) at s) rn tn o kept lr ls c cq h) (shut (r .line .len) (e - d + 1) u)
-          (shut-length (r .line .len) (e - d + 1) u ∙ lu ∙ sym (shut-length (r .line .len) at s)) (gap-moved (r .line .len) s u (w .1) lu at (e - d + 1) (w .0) (gap-next h) i)
+          (shut-kept (r .line .len) at (r .line .len) (e - d + 1) s u lu) (gap-moved (r .line .len) s u (w .1) lu at (e - d + 1) (w .0) (gap-next h) i)
 
       pub dedent-done : e ≡ end → gapped (r .line .len) (r .line .len) u ≡ gapped (r .line .len) at s → (t : List ℕ) → length t ≡ length (l₁ .text) → take (l₁ .line .len) t ≡ textOf l₁ → (a : EditAnswer)
           → a ≡ says 0 (record { len = r .line .len; cursor = c }) (r .log)

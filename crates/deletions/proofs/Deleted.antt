@@ -23,15 +23,11 @@ use Rattle.copies.specs.Copy.{upTo, copied}
 use Rattle.journal.specs.Layout.{narrow}
 use Rattle.journal.specs.Undo.{fits}
 use Rattle.edit.specs.declared.EditAnswer.{EditAnswer}
-use Rattle.edit.specs.Plan.{cutting, nothing, State, Outcome, refused, answered, called, tooLong, textAfter, listAfter, planned, edited}
+use Rattle.edit.specs.Plan.{cutting, nothing, State, Outcome, refused, answered, numberIn, called, tooLong, textAfter, listAfter, planned, edited}
 use Rattle.edit.specs.Calls.{Lent, textOf, sizesOf, stateOf, checked, Edited}
 use Rattle.edit.proofs.Splice.{splice-length}
 use Rattle.kills.specs.Kills.{killRange, cutPlan, placesPlan, killOf, deleteCall}
 use Rattle.kills.proofs.Ranges.{kill-in}
-
-abbrev numberOf : Outcome → ℕ
-numberOf (refused k) = k
-numberOf (answered k a b s) = k
 
 -- from the cursor on
 forward-start : (t : List ℕ) (pos n a b : ℕ) → killRange catalogue t pos (m.ForwardChar n) ≡ Places a b → a ≡ pos
@@ -58,7 +54,7 @@ module _ (l : Lent) (n : ℕ) where
 
   -- kill and delete do the same and do not answer 0, or delete answers the places of the cut
   data Way : Outcome → Outcome → Type 0 where
-    alike : (o : Outcome) → (numberOf o ≡ 0 → ⊥) → Way o o
+    alike : (o : Outcome) → (numberIn o ≡ 0 → ⊥) → Way o o
     between : (a b : ℕ) (s : State) → a ≡ pos → a ≤ b → b ≤ l .line .len → length (s .text) ≡ l .line .len - (b - a) → Way (answered 0 0 0 s) (answered 0 a b s)
 
   cut-ways : (a b : ℕ) → a ≡ pos → In (textOf l) a b → l .line .len ≤ length (l .text) → Way (cut (Places a b)) (placed (Places a b))
@@ -99,7 +95,7 @@ module _ (l : Lent) (n : ℕ) where
       by-number (suc k) e = alike (refused (suc k)) (λ z. omega arith)
 
   module _ (r : EditAnswer) (t rb tb : List ℕ) (q : Edited narrow l (killOf catalogue narrow l (m.ForwardChar n)) r t rb tb) where
-    number-is : (o : Outcome) → Edited narrow l o r t rb tb → r .number ≡ numberOf o
+    number-is : (o : Outcome) → Edited narrow l o r t rb tb → r .number ≡ numberIn o
     number-is (refused k) e = ap (λ (x : EditAnswer). x .number) (e .answer)
     number-is (answered k a b s) e = ap (λ (x : EditAnswer). x .number) (e .answer)
 

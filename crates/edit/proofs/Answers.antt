@@ -13,7 +13,7 @@ use Rattle.journal.specs.Layout.{Format}
 use Rattle.journal.specs.Hold.{Holds}
 use Rattle.journal.specs.Groups as groups
 use Rattle.journal.specs.Undo.{fits}
-use Rattle.journal.proofs.Groups.{turned-back}
+use Rattle.journal.proofs.Newest.{turned-back}
 use Rattle.changeset.specs.declared.Log.{Log}
 use Rattle.changeset.specs.Calls as log
 use Rattle.changeset.proofs.Answers.{held-state, held-bytes}
@@ -47,7 +47,7 @@ module _ (F : Format) (l : Lent) where
     abbrev v : groups.Log
     v = log.valueOf catalogue F (logLent l)
 
-    abbrev hold : Holds catalogue F (l .records) (l .texts) (l .log .undo .records) (l .log .undo .texts) (l .log .redo .records) (l .log .redo .texts) (reverse (v .undo)) (map turn (v .redo))
+    pub hold : Holds catalogue F (l .records) (l .texts) (l .log .undo .records) (l .log .undo .texts) (l .log .redo .records) (l .log .redo .texts) (reverse (v .undo)) (map turn (v .redo))
     hold =
         subst
         (λ (rs : List Change). Holds catalogue F (l .records) (l .texts) (l .log .undo .records) (l .log .undo .texts) (l .log .redo .records) (l .log .redo .texts) (reverse (v .undo)) rs)

@@ -15,7 +15,7 @@ use Rattle.journal.specs.Layout.{Format, top, AllGood, Layout, isSome, decode, 
 use Rattle.journal.specs.Hold.{Holds}
 use Rattle.journal.specs.Groups as groups
 use Rattle.journal.proofs.Decode.{decode-encode}
-use Rattle.journal.proofs.Groups.{turned-back}
+use Rattle.journal.proofs.Newest.{turned-back}
 use Rattle.journal.proofs.Holds.{records-append, texts-append, good-append, front, behind}
 use Rattle.journal.proofs.Undo.{good-oldest}
 use Rattle.checks.specs.Checks.{refusal, ownTests}

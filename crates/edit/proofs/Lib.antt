@@ -1,4 +1,5 @@
 pub mod Numbers
+pub mod Parts
 pub mod Splice
 pub mod Made
 pub mod Once

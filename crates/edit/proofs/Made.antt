@@ -6,10 +6,11 @@ use mathlib.Core.Bool.{Bool, true, false, cond, not, _&&_}
 use mathlib.Core.List.{List, [], _∷_}
 use lib.Dec.{ltb, eqb}
 use lib.ListN.{length, take, drop, length-drop}
-use lib.Seq.{length-take-le, take-take}
+use lib.Seq.{length-take-le}
 use borrow.Author.Tests.{lt-ltb, le-ltb, eq-eqb, ne-eqb, eqb-true}
+use Rattle.lists.specs.Lists.{part}
 use Rattle.lists.proofs.Bools.{and-both}
-use Rattle.lists.proofs.Parts.{drop-take}
+use Rattle.lists.proofs.Parts.{none-left}
 use Rattle.unicode.specs.Repertoire.{catalogue}
 use Rattle.buffer.specs.Edit.{inserted, cut}
 use Rattle.journal.specs.Change.{Edit, insert, delete, replace, Change, edit, place, old, new}
@@ -25,8 +26,9 @@ use Rattle.changeset.specs.declared.LogAnswer.{LogAnswer}
 use Rattle.changeset.specs.Calls as log
 use Rattle.changeset.proofs.Recorded as recorded
 use Rattle.edit.specs.declared.EditAnswer.{EditAnswer}
-use Rattle.edit.specs.Plan.{splice, part, Outcome, blank, changed, changeOut}
+use Rattle.edit.specs.Plan.{splice, Outcome, blank, changed, changeOut}
 use Rattle.edit.specs.Calls.{Lent, logLent, textOf, sizesOf, stateOf, says, Edited, Ready}
+use Rattle.edit.proofs.Answers.{length-kept}
 use Rattle.edit.proofs.Splice.{splice-length, cut-put, splice-none}
 
 -- ---- what recording answered
@@ -56,10 +58,6 @@ module _ (F : Format) (l : log.Lent) (u : List Change) (g : groups.Log) (a : Log
   was-refused h = ⊎-elim (λ w. absurd (h (w .0))) (λ w. w .1) ways
 
 -- ---- a change of nothing
-pub no-bytes : (s : List ℕ) → length s ≡ 0 → s ≡ []
-no-bytes [] e = refl
-no-bytes (b ∷ s) e = absurd (omega arith)
-
 pub blank-is : (x : Edit) (k a b m : ℕ) → kindNumber x ≡ k → a ≤ b → length (old x) ≡ b - a → length (new x) ≡ m → ((not (eqb k 5) && eqb a b) && eqb m 0) ≡ blank x
 blank-is (insert p []) k a b m e h f g = rw (sym e, eq-eqb a b (omega arith), eq-eqb m 0 (omega arith))
 blank-is (insert p (c ∷ s)) k a b m e h f g = rw (sym e, eq-eqb a b (omega arith), ne-eqb m 0 (λ z. omega arith))
@@ -75,11 +73,8 @@ module _ (F : Format) (l : Lent) (h : Ready F l) (j : Bool) (x : Edit) (k a b : 
   abbrev outcome : Outcome
   outcome = changeOut F (sizesOf l) (length (l .text)) j x p (stateOf catalogue F l)
 
-  long : length (textOf l) ≡ l .line .len
-  long = length-take-le (l .line .len) (l .text) (h .used)
-
   cut-size : length (old x) ≡ b - a
-  cut-size = ap length (d .old) ∙ length-take-le (b - a) (drop a (textOf l)) (simp length-drop (omega (arith, long)))
+  cut-size = ap length (d .old) ∙ length-take-le (b - a) (drop a (textOf l)) (simp length-drop (omega (arith, length-kept F l h)))
 
   pub is-blank : ((not (eqb k 5) && eqb a b) && eqb (length n) 0) ≡ blank x
   is-blank = blank-is x k a b (length n) (d .kind) h₁ cut-size (ap length (d .new))
@@ -90,7 +85,7 @@ module _ (F : Format) (l : Lent) (h : Ready F l) (j : Bool) (x : Edit) (k a b : 
       ap₂ (λ (i k : ℕ). splice (textOf l) i k (new x)) (d .place) e ∙ ap (splice (textOf l) a b) (d .new)
 
   size : length (changed x (textOf l)) ≡ l .line .len - (b - a) + length n
-  size = ap length is-splice ∙ splice-length (textOf l) a b n h₁ (omega (arith, long)) ∙ ap (λ (i : ℕ). i - (b - a) + length n) long
+  size = ap length is-splice ∙ splice-length (textOf l) a b n h₁ (omega (arith, length-kept F l h)) ∙ ap (λ (i : ℕ). i - (b - a) + length n) (length-kept F l h)
 
   -- 9
   pub too-long : length (l .text) - (l .line .len - (b - a)) < length n → Edited F l outcome (says 9 (l .line) (l .log)) (l .text) (l .records) (l .texts)
@@ -109,17 +104,17 @@ module _ (F : Format) (l : Lent) (h : Ready F l) (j : Bool) (x : Edit) (k a b : 
         let q = took F (logLent l) u (log.valueOf catalogue F (logLent l)) _ (l .records) (l .texts) (recorded.only-dropped F (logLent l) (h .log) u refl) refl in
         let m = is-blank ∙ e in
         let z : changed x (textOf l) ≡ textOf l = is-splice ∙ nothing-cut (and-both (not (eqb k 5) && eqb a b) (eqb (length n) 0) m) in
-        let t : take (length (textOf l)) (l .text) ≡ textOf l = ap (λ (i : ℕ). take i (l .text)) long in
+        let t : take (length (textOf l)) (l .text) ≡ textOf l = ap (λ (i : ℕ). take i (l .text)) (length-kept F l h) in
         rw (no-nine, e, q .room, z)
         (record {
-          answer = ap₂ (λ (i : ℕ) (g : Log). says 0 (record { len = i; cursor = p }) g) (sym long) (q .state);
+          answer = ap₂ (λ (i : ℕ) (g : Log). says 0 (record { len = i; cursor = p }) g) (sym (length-kept F l h)) (q .state);
           bytes = record { text = t; log = q .bytes };
         })
       where
         nothing-cut : ((not (eqb k 5) && eqb a b) ≡ true) × (eqb (length n) 0 ≡ true) → splice (textOf l) a b n ≡ textOf l
         nothing-cut m =
             let e : a ≡ b = eqb-true a b (and-both (not (eqb k 5)) (eqb a b) (m .0) .1) in
-            ap₂ (λ (i : ℕ) (s : List ℕ). splice (textOf l) a i s) (sym e) (no-bytes n (eqb-true (length n) 0 (m .1))) ∙ splice-none (textOf l) a
+            ap₂ (λ (i : ℕ) (s : List ℕ). splice (textOf l) a i s) (sym e) (none-left n (eqb-true (length n) 0 (m .1))) ∙ splice-none (textOf l) a
 
     module _ (some : blank x ≡ false) (r : LogAnswer) (rb tb : List ℕ) (q : log.Logged F (logLent l) (recordOut F (sizesOf l) (note j x u) (log.valueOf catalogue F (logLent l))) r rb tb) where
       -- 10
@@ -145,12 +140,9 @@ module _ (F : Format) (l : Lent) (h : Ready F l) (j : Bool) (x : Edit) (k a b : 
       pub made : r .number ≡ 0 → (t₁ t₂ : List ℕ) → take (l .line .len - (b - a)) t₁ ≡ cut (textOf l) a b
           → take (l .line .len - (b - a) + length n) t₂ ≡ inserted (take (l .line .len - (b - a)) t₁) a n
           → Edited F l outcome (says 0 (record { len = l .line .len - (b - a) + length n; cursor = p }) (r .log)) t₂ rb tb
-      made e t₁ t₂ c i = made-in e t₂ (l .line .len - (b - a) + length n) refl (i ∙ ap (λ (s : List ℕ). inserted s a n) c ∙ cut-put (textOf l) a b n (omega (arith, long)))
+      made e t₁ t₂ c i = made-in e t₂ (l .line .len - (b - a) + length n) refl (i ∙ ap (λ (s : List ℕ). inserted s a n) c ∙ cut-put (textOf l) a b n (omega (arith, length-kept F l h)))
 
 -- ---- the bytes that are cut, as they are lent from the buffer
-pub raw-part : (t : List ℕ) (len a b : ℕ) → b ≤ len → part (take len t) a b ≡ take (b - a) (drop a t)
-raw-part t len a b h = ap (take (b - a)) (drop-take a len t) ∙ take-take (b - a) (len - a) (drop a t) (omega arith)
-
 module _ (F : Format) (l : Lent) (j : Bool) (k a : ℕ) (n s s′ : List ℕ) (e : s ≡ s′) where
   pub numbered-as : log.Numbered (log.editOf k a s n) k a s n → log.Numbered (log.editOf k a s′ n) k a s′ n
   numbered-as d = subst (λ (x : List ℕ). log.Numbered (log.editOf k a x n) k a x n) e d

@@ -1,50 +1,24 @@
 -- A plan of one piece is one change. Assumes nothing.
-use Prim.Native.Nat.{ℕ, _+_, _-_, _≤_, _<_}
+use Prim.Native.Nat.{ℕ, _+_, _<_}
 use native.Mathlib.Omega.{arith}
 use mathlib.Core.Path.{_≡_, refl, sym, ap, ap₂, _∙_}
 use mathlib.Core.Bool.{Bool, true, false, cond, or-false}
-use mathlib.Core.List.{List, [], _∷_, _++_}
+use mathlib.Core.List.{List, [], _∷_}
 use lib.Dec.{ltb}
-use lib.ListN.{length, take, drop, length-drop, take-append-drop}
-use lib.Seq.{length-take-le, drop-drop}
-use Rattle.utf8.specs.Chars.{boundary, In}
+use lib.ListN.{length}
+use Rattle.lists.specs.Lists.{part}
+use Rattle.utf8.specs.Chars.{In}
 use Rattle.utf8.specs.Encode.{encode}
 use Rattle.utf8.proofs.Chars.{size-pos}
-use Rattle.utf8.proofs.Boundary.{boundary-drop}
 use Rattle.utf8.proofs.Encode.{size-encode}
 use Rattle.unicode.specs.Repertoire.{Repertoire}
-use Rattle.unicode.specs.Text.{isText}
-use Rattle.unicode.proofs.Text.{text-cut}
 use Rattle.cluster.specs.Clusters.{clustersOf}
 use Rattle.journal.specs.Change.{Edit, insert, delete, replace, Change}
 use Rattle.journal.specs.Layout.{Format}
 use Rattle.journal.specs.Recording.{isSingle, note, recordInsert, recordInsertStr, recordDelete, recordReplace}
 use Rattle.journal.specs.Undo.{Sizes, fits}
-use Rattle.edit.specs.Plan.{Outcome, Piece, State, answered, changeOut, changed, cutting, edited, listAfter, made, notedOr, once, part, pasted, recorded, refused, splice, swapping, textAfter, tooLong, typed}
-
--- ---- parts
--- nothing lies between a place and itself
-pub part-none : (t : List ℕ) (a : ℕ) → part t a a ≡ []
-part-none t a = let e : a - a ≡ 0 = omega arith in ap (λ (n : ℕ). take n (drop a t)) e
-
--- a text is what lies before a part, the part, and what lies behind it
-pub part-between : (t : List ℕ) (a b : ℕ) → a ≤ b → t ≡ take a t ++ (part t a b ++ drop b t)
-part-between t a b h =
-    let z : a + (b - a) ≡ b = omega arith in
-    let e : drop b t ≡ drop (b - a) (drop a t) = sym (drop-drop (b - a) a t ∙ ap (λ (n : ℕ). drop n t) z) in
-    sym (ap (λ (l : List ℕ). take a t ++ (part t a b ++ l)) e ∙ ap (λ (l : List ℕ). take a t ++ l) (take-append-drop (b - a) (drop a t)) ∙ take-append-drop a t)
-
--- one that lies between two characters
-module _ (R : Repertoire) (t : List ℕ) (a b : ℕ) (i : In t a b) where
-  pub part-length : length (part t a b) ≡ b - a
-  part-length = length-take-le (b - a) (drop a t) (simp length-drop (let h = i .0 in let k = i .1 in omega arith))
-
-  pub part-text : isText R t ≡ true → isText R (part t a b) ≡ true
-  part-text v =
-      let h = i .0 in
-      let e : a + (b - a) ≡ b = omega arith in
-      let rest = text-cut R t a v (i .2) .1 in
-      text-cut R (drop a t) (b - a) rest (sym (boundary-drop t a (b - a) (i .2)) ∙ ap (boundary t) e ∙ i .3) .0
+use Rattle.edit.specs.Plan.{Outcome, Piece, State, answered, changeOut, changed, cutting, edited, listAfter, made, notedOr, once, pasted, recorded, refused, splice, swapping, textAfter, tooLong, typed}
+use Rattle.edit.proofs.Parts.{part-length}
 
 -- ---- the outcome of one piece, where it is the change x
 one-piece : (R : Repertoire) (F : Format) (z : Sizes) (C : ℕ) (y : Piece) (p : ℕ) (s : State) (j : Bool) (x : Edit)

@@ -1,12 +1,13 @@
 -- A cut and then a text put in: 9 and 10 over both, and what is left after each. Assumes nothing.
 use Prim.Native.Nat.{ℕ, _+_, _-_, _≤_, _<_}
 use native.Mathlib.Omega.{arith}
-use mathlib.Core.Path.{_≡_, refl, sym, subst, _∙_}
-use mathlib.Core.Bool.{Bool, true, false, _||_}
+use mathlib.Core.Path.{_≡_, sym, subst, _∙_}
+use mathlib.Core.Bool.{Bool, true, false, or-false}
 use mathlib.Core.List.{List, [], _∷_}
 use lib.Dec.{ltb}
 use lib.ListN.{length}
 use borrow.Author.Tests.{lt-ltb, le-ltb}
+use Rattle.lists.specs.Lists.{part}
 use Rattle.utf8.specs.Chars.{In}
 use Rattle.unicode.specs.Repertoire.{catalogue}
 use Rattle.unicode.specs.Text.{isText}
@@ -18,7 +19,7 @@ use Rattle.journal.specs.Undo.{fits}
 use Rattle.recording.specs.Tails.{tailOf, Narrow}
 use Rattle.edit.specs.declared.EditAnswer.{EditAnswer}
 use Rattle.edit.specs.declared.Room.{Room}
-use Rattle.edit.specs.Plan.{Piece, part, cutting, pasted, made, recorded, Plan, once, listAfter, Suits, AllSuit, tooLong, edited}
+use Rattle.edit.specs.Plan.{Piece, cutting, pasted, made, recorded, Plan, once, listAfter, Suits, AllSuit, tooLong, edited}
 use Rattle.edit.specs.Calls.{Lent, lent, textOf, sizesOf, stateOf, Edited, Ready}
 use Rattle.edit.specs.Room.{roomCut, roomPut}
 use Rattle.edit.proofs.Answers.{length-kept}
@@ -26,10 +27,6 @@ use Rattle.edit.proofs.Pieces.{made-text}
 use Rattle.edit.proofs.Splice.{splice-length}
 use Rattle.edit.proofs.Rooms.{Roomy, dry-now, dry-narrow, dry-cut, dry-put}
 use Rattle.edit.proofs.Left.{Left, begins, goes-on, ends}
-
-or-last : (c : Bool) → (false || (c || false)) ≡ c
-or-last true = refl
-or-last false = refl
 
 module _ (F : Format) (l : Lent) (h : Ready F l) (a b p : ℕ) (n : List ℕ) (s : AllSuit catalogue (cutting a b ∷ pasted p n ∷ []) (textOf l)) where
   abbrev t : List ℕ
@@ -71,7 +68,7 @@ module _ (F : Format) (l : Lent) (h : Ready F l) (a b p : ℕ) (n : List ℕ) (s
   -- 9 is decided by the last text
   long-is : (c : Bool) → ltb (length (l .text)) (length (made (pasted p n) mid)) ≡ c → tooLong (length (l .text)) both t ≡ c
   unfolding tooLong
-  long-is c e = rw (le-ltb (length (l .text)) (length mid) mid-short, e) (or-last c)
+  long-is c e = rw (le-ltb (length (l .text)) (length mid) mid-short, e) (or-false c)
 
   pub pair-long : length (l .text) - (l .line .len - (b - a)) < length n → tooLong (length (l .text)) both t ≡ true
   pair-long k = long-is true (lt-ltb (length (l .text)) (length (made (pasted p n) mid)) (omega (arith, last-length, h .used)))

@@ -1,22 +1,21 @@
 -- A piece as a part of a text replaced by another text, and as the change that the log notes. Assumes nothing.
-use Prim.Native.Nat.{ℕ, _+_, _-_, _≤_, _<_}
+use Prim.Native.Nat.{ℕ, _+_, _≤_, _<_}
 use native.Mathlib.Omega.{arith}
 use mathlib.Core.Path.{_≡_, refl, sym, ap, subst, _∙_}
 use mathlib.Core.Bool.{Bool, true, false, _&&_}
-use mathlib.Core.List.{List, [], _∷_, _++_}
+use mathlib.Core.List.{List, [], _∷_}
 use lib.Dec.{eqb}
-use lib.ListN.{length, take, drop}
-use lib.Seq.{length-take-le, take-at, drop-at}
+use lib.ListN.{length}
 use Rattle.lists.proofs.Bools.{by-test, never}
-use Rattle.utf8.specs.Chars.{boundary, In, valid}
+use Rattle.lists.specs.Lists.{part}
+use Rattle.utf8.specs.Chars.{In}
 use Rattle.utf8.specs.Encode.{encode}
 use Rattle.utf8.proofs.Chars.{size-pos}
-use Rattle.utf8.proofs.Boundary.{boundary-drop, boundary-take}
 use Rattle.utf8.proofs.Encode.{size-encode}
 use Rattle.unicode.specs.Repertoire.{Repertoire}
 use Rattle.unicode.specs.Text.{isText}
 use Rattle.unicode.proofs.Typed.{char-text}
-use Rattle.unicode.proofs.Text.{text-append, text-cut, text-nil}
+use Rattle.unicode.proofs.Text.{text-nil}
 use Rattle.cluster.specs.Clusters.{clustersOf}
 use Rattle.journal.specs.Change.{Edit, insert, delete, replace, Change, edit, place, old, new}
 use Rattle.journal.specs.Layout.{Format, top, okChange, AllGood}
@@ -26,9 +25,10 @@ use Rattle.recording.specs.Tails.{kindNumber, tailOf, noted}
 use Rattle.recording.specs.declared.Tail.{Tail}
 use Rattle.recording.proofs.Numbers.{tail-records, tail-texts, tail-place}
 use Rattle.recording.proofs.Put.{put, put-records, put-texts, put-good}
-use Rattle.edit.specs.Plan.{Piece, typed, pasted, cutting, swapping, Suits, part, splice, made, recorded, blank, notedOr}
-use Rattle.edit.proofs.Once.{part-text, noted-insert, noted-delete}
-use Rattle.edit.proofs.Splice.{splice-length}
+use Rattle.edit.specs.Plan.{Piece, typed, pasted, cutting, swapping, Suits, splice, made, recorded, blank, notedOr}
+use Rattle.edit.proofs.Parts.{part-text}
+use Rattle.edit.proofs.Once.{noted-insert, noted-delete}
+use Rattle.edit.proofs.Splice.{splice-text, splice-start}
 
 -- ---- a piece puts a text in the place of the bytes from its start up to its end
 abbrev pub startOf : Piece → ℕ
@@ -68,55 +68,6 @@ module _ (R : Repertoire) where
   suits-text (cutting a b) t h = text-nil R
   suits-text (swapping a b s) t h = h .1
 
--- ---- a text with a part replaced
-module _ (t : List ℕ) (a b : ℕ) (s : List ℕ) (i : In t a b) where
-  long : length (take a t) ≡ a
-  long = let h = i .0 in let k = i .1 in length-take-le a t (omega arith)
-
-  -- it is a text
-  pub splice-text : (R : Repertoire) → isText R t ≡ true → isText R s ≡ true → isText R (splice t a b s) ≡ true
-  unfolding splice
-  splice-text R v e =
-      text-append R (take a t) (s ++ drop b t) (text-cut R t a v (i .2) .0) ∙ text-append R s (drop b t) e ∙ text-cut R t b v (i .3) .1
-
-  -- the places up to its start are as they were
-  pub splice-before : (p : ℕ) → p ≤ a → boundary (splice t a b s) p ≡ boundary t p
-  unfolding splice
-  splice-before p h =
-      boundary-take (take a t ++ (s ++ drop b t)) a p h ∙ ap (λ (l : List ℕ). boundary l p) (take-at (take a t) (s ++ drop b t) a long) ∙ sym (boundary-take t a p h)
-
-  -- those behind it have moved
-  pub splice-behind : valid s ≡ true → (p : ℕ) → boundary (splice t a b s) (a + length s + p) ≡ boundary t (b + p)
-  unfolding splice
-  splice-behind v p =
-      let e : a + length s + p ≡ a + (length s + p) = omega arith in
-      ap (boundary (take a t ++ (s ++ drop b t))) e
-      ∙ boundary-drop (take a t ++ (s ++ drop b t)) a (length s + p) (splice-before a (omega arith) ∙ i .2)
-      ∙ ap (λ (l : List ℕ). boundary l (length s + p)) (drop-at (take a t) (s ++ drop b t) a long)
-      ∙ boundary-drop (s ++ drop b t) (length s) p (ap valid (take-at s (drop b t) (length s) refl) ∙ v)
-      ∙ ap (λ (l : List ℕ). boundary l p) (drop-at s (drop b t) (length s) refl)
-      ∙ sym (boundary-drop t b p (i .3))
-
-  -- a place up to its start stays between characters
-  pub splice-stays : (p : ℕ) → p ≤ a → boundary t p ≡ true → In (splice t a b s) p p
-  splice-stays p h k =
-      let e = splice-before p h ∙ k in
-      (omega arith, omega (arith, i .0, i .1, splice-length t a b s (i .0) (i .1)), e, e)
-
-  -- one from its end on moves with the text behind it
-  pub splice-moves : valid s ≡ true → (p q : ℕ) → b ≤ p → p ≤ length t → boundary t p ≡ true → q ≡ a + length s + (p - b) → In (splice t a b s) q q
-  splice-moves v p q h l k m =
-      let z : b + (p - b) ≡ p = omega arith in
-      let e = ap (boundary (splice t a b s)) m ∙ splice-behind v (p - b) ∙ ap (boundary t) z ∙ k in
-      (omega arith, omega (arith, i .0, splice-length t a b s (i .0) (i .1)), e, e)
-
-  -- its start, and the place behind what is put in
-  pub splice-start : In (splice t a b s) a a
-  splice-start = splice-stays a (omega arith) (i .2)
-
-  pub splice-end : valid s ≡ true → In (splice t a b s) (a + length s) (a + length s)
-  splice-end v = splice-moves v b (a + length s) (omega arith) (i .1) (i .3) (omega arith)
-
 module _ (R : Repertoire) (x : Piece) (t : List ℕ) (h : Suits R x t) where
   pub made-text : isText R t ≡ true → isText R (made x t) ≡ true
   made-text v = ap (isText R) (made-is x t) ∙ splice-text t (startOf x) (endOf x) (textIn x) (suits-in R x t h) R v (suits-text R x t h)
@@ -144,14 +95,28 @@ place-at (pasted p s) t = refl
 place-at (cutting a b) t = refl
 place-at (swapping a b s) t = refl
 
-some-bytes : (s : List ℕ) (p : ℕ) → 0 < length s → blank (insert p s) ≡ false
-some-bytes [] p h = absurd (omega arith)
-some-bytes (b ∷ s) p h = refl
+-- one of some bytes is not blank
+pub blank-insert : (p : ℕ) (s : List ℕ) → 0 < length s → blank (insert p s) ≡ false
+blank-insert p [] h = absurd (omega arith)
+blank-insert p (b ∷ s) h = refl
+
+pub blank-delete : (p : ℕ) (s : List ℕ) → 0 < length s → blank (delete p s) ≡ false
+blank-delete p [] h = absurd (omega arith)
+blank-delete p (b ∷ s) h = refl
+
+-- one of no bytes is
+pub put-blank : (p : ℕ) (s : List ℕ) → length s ≡ 0 → blank (insert p s) ≡ true
+put-blank p [] e = refl
+put-blank p (b ∷ s) e = absurd (omega arith)
+
+pub cut-blank : (p : ℕ) (s : List ℕ) → length s ≡ 0 → blank (delete p s) ≡ true
+cut-blank p [] e = refl
+cut-blank p (b ∷ s) e = absurd (omega arith)
 
 module _ (R : Repertoire) where
   pub recorded-as : (x : Piece) (t : List ℕ) (u : List Change) → recorded R x t u ≡ notedOr (joinsAt R x t) (editAt x t) u
   unfolding recordInsert recordReplace
-  recorded-as (typed p c) t u = sym (rw (some-bytes (encode c) p (omega (arith, size-encode c, size-pos c))))
+  recorded-as (typed p c) t u = sym (rw (blank-insert p (encode c) (omega (arith, size-encode c, size-pos c))))
   recorded-as (pasted p s) t u = noted-insert p s u
   recorded-as (cutting a b) t u = noted-delete R a (part t a b) u
   recorded-as (swapping a b s) t u = refl
@@ -182,9 +147,6 @@ module _ (F : Format) (j : Bool) (k p o n : ℕ) (t : Tail) where
       (λ e. rw e b)
 
 module _ (F : Format) (j : Bool) (x : Edit) (u : List Change) where
-  abbrev there : Tail
-  there = noted F j (kindNumber x) (place x) (length (old x)) (length (new x)) (tailOf F u) .tail
-
   abbrev after : List Change
   after = note j x u
 

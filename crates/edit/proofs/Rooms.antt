@@ -3,11 +3,13 @@ use Prim.Native.Nat.{ℕ, _-_, _≤_, _<_}
 use native.Mathlib.Omega.{arith}
 use mathlib.Core.Path.{_≡_, refl, sym, ap, ap₂, subst, _∙_}
 use mathlib.Core.Bool.{Bool, true, false, cond, _&&_}
-use mathlib.Core.List.{List, [], _∷_}
+use mathlib.Core.List.{List, []}
 use lib.Dec.{eqb, leb}
 use lib.ListN.{length, take}
 use lib.Seq.{length-take-le}
 use borrow.Author.Tests.{eq-eqb, ne-eqb, eqb-true, eqb-false, leb-true}
+use Rattle.lists.proofs.Parts.{none-left}
+use Rattle.lists.specs.Lists.{part}
 use Rattle.lists.proofs.Bools.{by-test, and-both, never}
 use Rattle.utf8.specs.Chars.{In}
 use Rattle.unicode.specs.Repertoire.{Repertoire, catalogue}
@@ -26,12 +28,11 @@ use Rattle.recording.proofs.Put.{put}
 use Rattle.changeset.specs.Calls as log
 use Rattle.changeset.proofs.Recorded.{lays, good, fits-now}
 use Rattle.edit.specs.declared.Room.{Room}
-use Rattle.edit.specs.Plan.{part, cutting, pasted, Piece, Suits, recorded, blank, notedOr}
+use Rattle.edit.specs.Plan.{cutting, pasted, Piece, Suits, recorded, blank, notedOr}
 use Rattle.edit.specs.Calls.{Lent, logLent, sizesOf, stateOf, Ready}
 use Rattle.edit.specs.Room.{roomFor, tailCut, tailPut, roomCut, roomPut}
-use Rattle.edit.proofs.Once.{part-length}
-use Rattle.edit.proofs.Pieces.{recorded-as}
-use Rattle.edit.proofs.Made.{no-bytes}
+use Rattle.edit.proofs.Parts.{part-length}
+use Rattle.edit.proofs.Pieces.{recorded-as, blank-insert, blank-delete}
 use Rattle.edit.proofs.Steps.{records-grow, texts-grow, good-step, fits-lengths}
 
 -- ---- the definitions by their tests
@@ -75,14 +76,6 @@ module _ (F : Format) where
   tail-noted : (j : Bool) (x : Edit) (u : List Change) → blank x ≡ false → noted F j (kindNumber x) (place x) (length (old x)) (length (new x)) (tailOf F u) .tail ≡ tailOf F (notedOr j x u)
   tail-noted j x u e = put F j x u .tail ∙ ap (tailOf F) (sym (rw e))
 
-  some-cut : (p : ℕ) (s : List ℕ) → (length s ≡ 0 → ⊥) → blank (delete p s) ≡ false
-  some-cut p [] h = absurd (h refl)
-  some-cut p (b ∷ s) h = refl
-
-  some-put : (p : ℕ) (s : List ℕ) → (length s ≡ 0 → ⊥) → blank (insert p s) ≡ false
-  some-put p [] h = absurd (h refl)
-  some-put p (b ∷ s) h = refl
-
   pub tail-cut : (R : Repertoire) (t : List ℕ) (a b : ℕ) (j : Bool) (u : List Change) → In t a b → j ≡ isSingle R (clustersOf R (part t a b)) → tailCut F j a b (tailOf F u) ≡ tailOf F (recorded R (cutting a b) t u)
   unfolding tailCut
   tail-cut R t a b j u i e =
@@ -92,11 +85,11 @@ module _ (F : Format) where
       ∙ by-test (cond (eqb a b) (tailOf F u) (noted F (isSingle R (clustersOf R (part t a b))) 4 a (b - a) 0 (tailOf F u) .tail) ≡ tailOf F (recorded R (cutting a b) t u)) (eqb a b)
       (λ f.
       let g = eqb-true a b f in
-      let none : part t a b ≡ [] = no-bytes (part t a b) (omega arith) in
+      let none : part t a b ≡ [] = none-left (part t a b) (omega arith) in
       rw f (ap (tailOf F) (sym (recorded-as R (cutting a b) t u ∙ ap (λ (s : List ℕ). notedOr (isSingle R (clustersOf R (part t a b))) (delete a s) u) none))))
       (λ f.
       let g = eqb-false a b f in
-      let k = some-cut a (part t a b) (λ z. g (omega arith)) in
+      let k = blank-delete a (part t a b) (omega (arith, g)) in
       rw f
       (ap (λ (m : ℕ). noted F (isSingle R (clustersOf R (part t a b))) 4 a m 0 (tailOf F u) .tail) (sym n)
       ∙ tail-noted (isSingle R (clustersOf R (part t a b))) (delete a (part t a b)) u k ∙ ap (tailOf F) (sym (recorded-as R (cutting a b) t u))))
@@ -106,9 +99,9 @@ module _ (F : Format) where
   tail-put R t p s u =
       by-test (cond (eqb (length s) 0) (tailOf F u) (noted F false 3 p 0 (length s) (tailOf F u) .tail) ≡ tailOf F (recorded R (pasted p s) t u)) (eqb (length s) 0)
       (λ f.
-      let none : s ≡ [] = no-bytes s (eqb-true (length s) 0 f) in
+      let none : s ≡ [] = none-left s (eqb-true (length s) 0 f) in
       rw f (ap (tailOf F) (sym (recorded-as R (pasted p s) t u ∙ ap (λ (x : List ℕ). notedOr false (insert p x) u) none))))
-      (λ f. rw f (tail-noted false (insert p s) u (some-put p s (eqb-false (length s) 0 f)) ∙ ap (tailOf F) (sym (recorded-as R (pasted p s) t u))))
+      (λ f. rw f (tail-noted false (insert p s) u (blank-insert p s (omega (arith, eqb-false (length s) 0 f))) ∙ ap (tailOf F) (sym (recorded-as R (pasted p s) t u))))
 
 -- ---- r says of the list u whether there is room for it, and where there is, its tail
 pub record Roomy (R : Repertoire) (F : Format) (z : Sizes) (u : List Change) (r : Room) : Type 0 where

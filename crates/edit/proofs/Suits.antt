@@ -9,7 +9,7 @@ use Rattle.unicode.specs.Repertoire.{Repertoire}
 use Rattle.unicode.specs.Text.{isText}
 use Rattle.unicode.proofs.Text.{text-valid}
 use Rattle.edit.specs.Plan.{cutting, swapping, Plan, nothing, textAfter, AllSuit}
-use Rattle.edit.proofs.Pieces.{splice-start, splice-end}
+use Rattle.edit.proofs.Splice.{splice-start, splice-end}
 
 -- a plan suits the text, and leaves the cursor between its characters
 abbrev pub PlanSuits : Repertoire → List ℕ → Plan → Type 0
@@ -24,6 +24,9 @@ module _ (R : Repertoire) (t : List ℕ) where
   pub nothing-cursor : (pos : ℕ) → In t pos pos → In (textAfter (nothing pos .pieces) t) pos pos
   unfolding textAfter
   nothing-cursor pos i = i
+
+  pub nothing-plan : (pos : ℕ) → In t pos pos → PlanSuits R t (nothing pos)
+  nothing-plan pos i = (nothing-suits pos, nothing-cursor pos i)
 
   module _ (a b : ℕ) (i : In t a b) where
     -- a cut

@@ -1,10 +1,11 @@
 -- Plans: the primitive changes that an edit makes of a text, one after the other, and what they leave. line_buffer.rs with its listener, the log.
-use Prim.Native.Nat.{ℕ, zero, suc, _+_, _-_}
+use Prim.Native.Nat.{ℕ, zero, suc, _+_}
 use mathlib.Core.Path.{_≡_}
 use mathlib.Core.Bool.{Bool, true, false, cond, _||_}
 use mathlib.Core.List.{List, [], _∷_, _++_}
 use lib.Dec.{ltb}
 use lib.ListN.{length, take, drop}
+use Rattle.lists.specs.Lists.{part}
 use Rattle.utf8.specs.Chars.{In}
 use Rattle.utf8.specs.Encode.{encode}
 use Rattle.unicode.specs.Repertoire.{Repertoire}
@@ -14,10 +15,6 @@ use Rattle.journal.specs.Layout.{Format}
 use Rattle.journal.specs.Recording.{note, recordInsert, recordInsertStr, recordDelete, recordReplace}
 use Rattle.journal.specs.Groups.{Log}
 use Rattle.journal.specs.Undo.{Sizes, fits}
-
--- the bytes of t from a up to b
-abbrev pub part : List ℕ → ℕ → ℕ → List ℕ
-part t a b = take (b - a) (drop a t)
 
 -- t with s in the place of its bytes from a up to b
 unfoldable pub splice : List ℕ → ℕ → ℕ → List ℕ → List ℕ
@@ -100,6 +97,11 @@ pub record State : Type 0 where
 pub data Outcome : Type 0 where
   refused : ℕ → Outcome
   answered : ℕ → ℕ → ℕ → State → Outcome
+
+-- its number
+abbrev pub numberIn : Outcome → ℕ
+numberIn (refused k) = k
+numberIn (answered k a b s) = k
 
 -- the lowest check that refuses, or what the call does where none does
 abbrev pub called : ℕ → Outcome → Outcome

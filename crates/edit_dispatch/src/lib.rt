@@ -7,11 +7,8 @@ use edit::EditAnswer;
 use fields::amount_of;
 use fields::code_of;
 use fields::count_of;
+use fields::key_if;
 use fields::value_at;
-
-fn key_if(name: &[u8], call: &[u8], key: usize) -> usize {
-    if same(name, call) { key } else { 0 }
-}
 
 fn key_with_one(name: &[u8]) -> usize {
     if same(name, b"yank") {

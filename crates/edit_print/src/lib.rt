@@ -1,6 +1,7 @@
-// An edit's answer printed, with all that it leaves: behind a space each, the number and the two places that are answered, the text's
+// An edit's answer printed, and what it leaves: behind a space each, the number and the two places that are answered, the text's
 // used length, its first 40 bytes and the cursor, then of the undo list and of the redo list the two used lengths, the records in
-// hexadecimal and the texts. In a text \ stands before the hexadecimal digits of a byte that is not a visible ASCII character.
+// hexadecimal and the texts, and the level. In a text \ stands before the hexadecimal digits of a byte that is not a visible ASCII
+// character.
 use changeset::Used;
 use checks::Line;
 use edit::EditAnswer;
@@ -103,5 +104,7 @@ pub fn print_answer(text: &[u8], records: &[u8], texts: &[u8], a: EditAnswer) {
     print_list(records, texts, none_used(), u);
     print(b" redo");
     print_list(records, texts, u, r);
+    print(b" level");
+    print_number(log.level);
     print(b"\n");
 }

@@ -5,9 +5,10 @@ use mathlib.Core.Path.{_≡_, refl, sym, ap, ap₂, subst, _∙_}
 use mathlib.Core.Bool.{true}
 use mathlib.Core.List.{List, [], _∷_, _++_, append-assoc, append-nil}
 use lib.ListN.{length, take, drop, length-append, length-drop, drop-of-length-le}
-use lib.Seq.{sets, length-sets, sets-eq, length-take-le, take-all, drop-drop}
+use lib.Seq.{sets, length-sets, sets-eq, length-take-le, drop-drop}
 use borrow.Author.Tests.{le-leb}
 use Rattle.lists.proofs.Bools.{by-less}
+use Rattle.lists.proofs.Parts.{part-tail}
 use Rattle.lists.proofs.Stores.{take-sets}
 use Rattle.utf8.specs.Chars.{boundary, charsFrom, validFrom}
 use Rattle.unicode.specs.Repertoire.{Repertoire, Lawful, catalogue}
@@ -18,11 +19,11 @@ use Rattle.unicode.specs.declared.Case.the-variants.{Upper, Lower}
 use Rattle.unicode.proofs.Cased.{cased-text}
 use Rattle.unicode.proofs.Catalogue.{cased-le}
 use Rattle.unicode.proofs.Text.{text-append, text-cut, text-valid}
-use Rattle.cluster.specs.Clusters.{clusters, bytes}
+use Rattle.cluster.specs.Clusters.{clusters, bytes, firstSize}
 use Rattle.cluster.proofs.Parts.{first-cut}
 use Rattle.edit_word.specs.declared.WordAction.{WordAction}
 use Rattle.edit_word.specs.declared.WordAction.the-variants.{Capitalize, Lowercase, Uppercase}
-use Rattle.edit_word.specs.EditWord.{firstSize, inCase, Written, WrittenAt}
+use Rattle.edit_word.specs.EditWord.{inCase, Written, WrittenAt}
 
 -- ---- written into a buffer
 pub case-back : (k : Case) (out s : List ℕ) (at : ℕ) (after : List ℕ) (count : ℕ) → at + length s ≤ length out → CasedInto (take (length out - at) (drop at out)) k s after count
@@ -30,7 +31,7 @@ pub case-back : (k : Case) (out s : List ℕ) (at : ℕ) (after : List ℕ) (cou
 unfolding casedInto
 case-back k out s at after count h q =
     let x = cased catalogue k s in
-    let d : take (length out - at) (drop at out) ≡ drop at out = take-all (length out - at) (drop at out) (simp length-drop (omega arith)) in
+    let d : take (length out - at) (drop at out) ≡ drop at out = part-tail out at in
     let n : length (take (length out - at) (drop at out)) ≡ length out - at = ap length d ∙ length-drop at out in
     let all : casedInto (length (take (length out - at) (drop at out))) k s ≡ x = rw (le-leb (length s) (length (take (length out - at) (drop at out))) (omega arith)) in
     let l = cased-le k s in
@@ -74,16 +75,10 @@ module _ (s before after : List ℕ) (count : ℕ) (h : length s ≤ length befo
 
 -- the first cluster's length is within the text
 module _ (s before : List ℕ) (m : ℕ) (e : m ≡ firstSize catalogue s) (f : m ≤ length s) (h : length s ≤ length before) where
-  front-length : length (take m s) ≡ m
-  front-length = length-take-le m s f
-
-  back-is : take (length s - m) (drop m s) ≡ drop m s
-  back-is = take-all (length s - m) (drop m s) (simp length-drop (omega arith))
-
   pub room-behind : (mid : List ℕ) (a : ℕ) → WrittenAt (cased catalogue Upper (take m s)) before 0 mid a → a + length (take (length s - m) (drop m s)) ≤ length mid
   room-behind mid a q =
       let l = cased-le Upper (take m s) in
-      omega (arith, q .counted, front-length, ap length (q .bytes), length-sets before 0 (cased catalogue Upper (take m s)), ap length back-is, length-drop m s)
+      omega (arith, q .counted, length-take-le m s f, ap length (q .bytes), length-sets before 0 (cased catalogue Upper (take m s)), ap length (part-tail s m), length-drop m s)
 
   pub capital-written : (mid after : List ℕ) (a b : ℕ) → WrittenAt (cased catalogue Upper (take m s)) before 0 mid a → WrittenAt (cased catalogue Lower (take (length s - m) (drop m s))) mid a after b → Written (inCase catalogue Capitalize s) after (a + b)
   capital-written mid after a b p q =
@@ -93,14 +88,14 @@ module _ (s before : List ℕ) (m : ℕ) (e : m ≡ firstSize catalogue s) (f : 
       let v = cased-le Lower (drop m s) in
       let d = length-drop m s in
       subst (λ (n : ℕ). Written (cased catalogue Upper (take n s) ++ cased catalogue Lower (drop n s)) after (a + b)) e
-      (two-written x y before mid after a b (omega (arith, front-length)) p (subst (λ (l : List ℕ). WrittenAt (cased catalogue Lower l) mid a after b) back-is q))
+      (two-written x y before mid after a b (omega (arith, length-take-le m s f)) p (subst (λ (l : List ℕ). WrittenAt (cased catalogue Lower l) mid a after b) (part-tail s m) q))
 
   -- so that no sum passes the machine's range
   pub count-small : (mid after : List ℕ) (a b : ℕ) → WrittenAt (cased catalogue Upper (take m s)) before 0 mid a → WrittenAt (cased catalogue Lower (take (length s - m) (drop m s))) mid a after b → a + b ≤ length s
   count-small mid after a b p q =
       let u = cased-le Upper (take m s) in
       let v = cased-le Lower (take (length s - m) (drop m s)) in
-      omega (arith, p .counted, q .counted, front-length, ap length back-is, length-drop m s)
+      omega (arith, p .counted, q .counted, length-take-le m s f, ap length (part-tail s m), length-drop m s)
 
 pub by-action : (w w′ : WordAction) (s after : List ℕ) (count : ℕ) → w ≡ w′ → Written (inCase catalogue w′ s) after count → Written (inCase catalogue w s) after count
 by-action w w′ s after count e q = subst (λ (x : WordAction). Written (inCase catalogue x s) after count) (sym e) q

@@ -10,8 +10,7 @@ use Rattle.unicode.proofs.Text.{text-valid}
 use Rattle.motion.specs.Trim.{skipWhitespace}
 use Rattle.motion.specs.declared.Found.{Found}
 use Rattle.motion.specs.declared.Found.the-variants.{At, Nothing}
-use Rattle.edit.specs.Plan.{nothing}
-use Rattle.edit.proofs.Suits.{PlanSuits, nothing-suits, nothing-cursor}
+use Rattle.edit.proofs.Suits.{PlanSuits, nothing-plan}
 use Rattle.edit_word.specs.declared.WordAction.{WordAction}
 use Rattle.places.specs.Places.{wordsOn}
 use Rattle.edit_word.specs.EditWord.{casedFrom, editWordPlan}
@@ -23,16 +22,13 @@ module _ (R : Repertoire) (t : List ℕ) (is : isText R t ≡ true) (pos : ℕ) 
   v : valid t ≡ true
   v = text-valid R t is
 
-  stay : PlanSuits R t (nothing pos)
-  stay = (nothing-suits R t pos, nothing-cursor R t pos i)
-
   case-end : Lawful R → (w : WordAction) (f : Found) → f ≡ skipWhitespace R t pos → PlanSuits R t (casedFrom R t w pos f)
   case-end law w (At p) e =
       let k = skip-in R t w pos (At p) e is i p refl in
       let q = words-on-place R t v p (k .2) (k .1) 1 in
       let j : In t p (wordsOn R t 1 p) = (q .0, q .1, k .2, q .2) in
       (case-suits R t is law w p (wordsOn R t 1 p) j, case-cursor R t is law w p (wordsOn R t 1 p) j)
-  case-end law w Nothing e = stay
+  case-end law w Nothing e = nothing-plan R t pos i
 
   pub edit-word-suits : Lawful R → (w : WordAction) → PlanSuits R t (editWordPlan R t w pos)
   edit-word-suits law w = case-end law w (skipWhitespace R t pos) refl

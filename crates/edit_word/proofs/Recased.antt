@@ -3,13 +3,14 @@ use Prim.Native.Nat.{ℕ, _+_}
 use mathlib.Core.Path.{_≡_, sym, ap, ap₂, subst, _∙_}
 use mathlib.Core.List.{List, [], _∷_}
 use lib.ListN.{length}
+use Rattle.lists.specs.Lists.{part}
 use Rattle.utf8.specs.Chars.{In}
 use Rattle.unicode.specs.Repertoire.{catalogue}
 use Rattle.unicode.proofs.Catalogue.{catalogue-lawful}
 use Rattle.unicode.proofs.Text.{text-valid}
 use Rattle.journal.specs.Layout.{narrow}
 use Rattle.edit.specs.declared.EditAnswer.{EditAnswer}
-use Rattle.edit.specs.Plan.{part, cutting, pasted, Plan, AllSuit, edited}
+use Rattle.edit.specs.Plan.{cutting, pasted, Plan, AllSuit, edited}
 use Rattle.edit.specs.Calls.{Lent, textOf, sizesOf, stateOf, Edited, Ready}
 use Rattle.edit.proofs.Made.{outcome-as}
 use Rattle.edit_word.specs.declared.WordAction.{WordAction}

@@ -1,15 +1,16 @@
--- The plan suits the text, and leaves the cursor between characters: over any repertoire. Assumes nothing.
+-- A word put in another case suits the text, and leaves the cursor between characters: over any repertoire. Assumes nothing.
 use Prim.Native.Nat.{ℕ}
 use mathlib.Core.Path.{_≡_}
 use mathlib.Core.Bool.{true}
 use mathlib.Core.List.{List, []}
+use Rattle.lists.specs.Lists.{part}
 use Rattle.utf8.specs.Chars.{In}
 use Rattle.unicode.specs.Repertoire.{Repertoire, Lawful}
 use Rattle.unicode.specs.Text.{isText}
 use Rattle.unicode.proofs.Text.{text-valid}
-use Rattle.edit.specs.Plan.{part, splice, textAfter, AllSuit}
-use Rattle.edit.proofs.Once.{part-text}
-use Rattle.edit.proofs.Pieces.{splice-start, splice-end}
+use Rattle.edit.specs.Plan.{splice, textAfter, AllSuit}
+use Rattle.edit.proofs.Parts.{part-text}
+use Rattle.edit.proofs.Splice.{splice-start, splice-end}
 use Rattle.edit_word.specs.declared.WordAction.{WordAction}
 use Rattle.edit_word.specs.EditWord.{inCase, casePlan}
 use Rattle.edit_word.proofs.Cased.{case-text}

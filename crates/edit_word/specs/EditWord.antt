@@ -5,27 +5,23 @@ use mathlib.Core.Bool.{true, false}
 use mathlib.Core.List.{List, [], _∷_, _++_}
 use lib.ListN.{length, take, drop, getD}
 use lib.Seq.{sets}
-use Rattle.lists.specs.Lists.{headOr}
+use Rattle.lists.specs.Lists.{part}
 use Rattle.unicode.specs.Repertoire.{Repertoire}
 use Rattle.unicode.specs.Case.{cased}
 use Rattle.unicode.specs.declared.Case.the-variants.{Upper, Lower}
-use Rattle.cluster.specs.Clusters.{clustersOf, bytes}
+use Rattle.cluster.specs.Clusters.{firstSize}
 use Rattle.motion.specs.Trim.{skipWhitespace}
 use Rattle.motion.specs.declared.Found.{Found}
 use Rattle.motion.specs.declared.Found.the-variants.{At, Nothing}
 use Rattle.places.specs.Places.{wordsOn}
 use Rattle.checks.specs.Checks.{ownTests}
 use Rattle.journal.specs.Layout.{Format}
-use Rattle.edit.specs.Plan.{part, pasted, cutting, Plan, nothing, Outcome}
+use Rattle.edit.specs.Plan.{pasted, cutting, Plan, nothing, Outcome}
 use Rattle.edit.specs.Calls.{Lent, textOf, editCall}
 use Rattle.edit_word.specs.declared.WordAction.{WordAction}
 use Rattle.edit_word.specs.declared.WordAction.the-variants.{Capitalize, Lowercase, Uppercase}
 use Rattle.edit_word.specs.declared.ActionCode.{ActionCode}
 use Rattle.edit_word.specs.declared.ActionCode.the-variants as code
-
--- the bytes of the first cluster
-abbrev pub firstSize : Repertoire → List ℕ → ℕ
-firstSize R s = bytes (headOr [] (clustersOf R s))
 
 abbrev pub inCase : Repertoire → WordAction → List ℕ → List ℕ
 inCase R Capitalize s = cased R Upper (take (firstSize R s) s) ++ cased R Lower (drop (firstSize R s) s)

@@ -1,4 +1,4 @@
-// The fields of a line that a program of cases reads: decimal numbers, and texts in hexadecimal.
+// The fields of a line that a program of cases reads: the call's name, decimal numbers, and texts in hexadecimal.
 ghost use mathlib.Core.Path.{_≡_};
 ghost use mathlib.Core.Bool.{true};
 ghost use Prim.Native.Nat.{_+_, _<_, _≤_, min};
@@ -349,6 +349,11 @@ pub fn least(a: usize, b: usize) -> usize
 pub fn is_of(name: &[u8], kind: &[u8]) -> bool {
     let end = place_of(name, 0, b'_');
     same(&name[0..end], kind)
+}
+
+// The key of a call where the name is its own, else 0.
+pub fn key_if(name: &[u8], call: &[u8], key: usize) -> usize {
+    if same(name, call) { key } else { 0 }
 }
 
 // Where the method's name begins, behind the name of the call's kind and '_'.

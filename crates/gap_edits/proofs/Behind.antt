@@ -3,9 +3,9 @@ use Prim.Native.Nat.{ℕ, _+_, _-_, _≤_, _<_}
 use native.Mathlib.Omega.{arith}
 use mathlib.Core.Path.{_≡_, refl, sym, ap, subst, _∙_}
 use mathlib.Core.Bool.{Bool, true, false}
-use mathlib.Core.List.{List, [], _∷_, _++_}
+use mathlib.Core.List.{List, [], _++_}
 use lib.ListN.{length, take, drop}
-use lib.Seq.{length-take-le}
+use Rattle.lists.specs.Lists.{part}
 use Rattle.utf8.specs.Chars.{In}
 use Rattle.unicode.specs.Repertoire.{catalogue}
 use Rattle.unicode.specs.Text.{isText}
@@ -22,32 +22,18 @@ use Rattle.changeset.specs.declared.Log.{Log}
 use Rattle.changeset.specs.declared.LogAnswer.{LogAnswer}
 use Rattle.changeset.specs.Calls as log
 use Rattle.edit.specs.declared.EditAnswer.{EditAnswer}
-use Rattle.edit.specs.Plan.{part, splice, Outcome, once, cutting, pasted, edited, blank, changeOut}
+use Rattle.edit.specs.Plan.{splice, Outcome, once, cutting, pasted, edited, blank, changeOut}
 use Rattle.edit.specs.Calls.{Lent, lent, logLent, textOf, sizesOf, stateOf, says, Edited, Ready}
-use Rattle.edit.proofs.Made.{too-long, unrecorded, no-room, made-in, raw-part, logged-as, outcome-as}
-use Rattle.edit.proofs.Once.{part-none, part-length, part-text, once-cut, once-paste}
+use Rattle.edit.proofs.Parts.{an-insert, part-length, part-text, raw-part}
+use Rattle.edit.proofs.Answers.{length-kept}
+use Rattle.edit.proofs.Made.{too-long, unrecorded, no-room, made-in, logged-as, outcome-as}
+use Rattle.edit.proofs.Once.{once-cut, once-paste}
+use Rattle.edit.proofs.Pieces.{blank-insert, blank-delete, put-blank, cut-blank}
 
 -- what stands behind the gap, as it is lent from the buffer
 pub part-behind : (len at : ℕ) (s : List ℕ) (a b : ℕ) → at ≤ a → at ≤ len → b ≤ len → len ≤ length s → take (b - a) (drop (a + (length s - len)) s) ≡ part (shut len at s) a b
 part-behind len at s a b h i j k =
     ap (take (b - a)) (sym (gapped-from len at a s h (omega arith))) ∙ ap (λ (x : List ℕ). part x a b) (sym (shut-text len at s i k)) ∙ raw-part (shut len at s) len a b j
-
--- ---- of no bytes nothing is recorded
-cut-blank : (p : ℕ) (o : List ℕ) → length o ≡ 0 → blank (delete p o) ≡ true
-cut-blank p [] e = refl
-cut-blank p (b ∷ o) e = absurd (omega arith)
-
-cut-some : (p : ℕ) (o : List ℕ) → 0 < length o → blank (delete p o) ≡ false
-cut-some p [] h = absurd (omega arith)
-cut-some p (b ∷ o) h = refl
-
-put-blank : (p : ℕ) (n : List ℕ) → length n ≡ 0 → blank (insert p n) ≡ true
-put-blank p [] e = refl
-put-blank p (b ∷ n) e = absurd (omega arith)
-
-put-some : (p : ℕ) (n : List ℕ) → 0 < length n → blank (insert p n) ≡ false
-put-some p [] h = absurd (omega arith)
-put-some p (b ∷ n) h = refl
 
 module _ (F : Format) (s rb tb : List ℕ) (line : Line) (g : Log) (at : ℕ) (h : Ready F (lent (shut (line .len) at s) rb tb line g)) where
   abbrev l : Lent
@@ -62,9 +48,6 @@ module _ (F : Format) (s rb tb : List ℕ) (line : Line) (g : Log) (at : ℕ) (h
   pub small : length s ≤ 4096
   small = let k = h .small in omega (arith, shut-length (line .len) at s)
 
-  long : length (textOf l) ≡ line .len
-  long = length-take-le (line .len) (shut (line .len) at s) (h .used)
-
   -- the answer as a function gave it, and the gap with the length that it says
   as-said : (o o′ : Outcome) (a a′ : EditAnswer) (t rn tn : List ℕ) → o ≡ o′ → a ≡ a′ → Edited F l o a′ (shut (a′ .line .len) at t) rn tn → Edited F l o′ a (shut (a .line .len) at t) rn tn
   as-said o o′ a a′ t rn tn e f q = subst (λ (x : EditAnswer). Edited F l o′ x (shut (x .line .len) at t) rn tn) (sym f) (outcome-as F l o o′ a′ (shut (a′ .line .len) at t) rn tn e q)
@@ -72,7 +55,7 @@ module _ (F : Format) (s rb tb : List ℕ) (line : Line) (g : Log) (at : ℕ) (h
   -- ---- the n bytes behind the gap cut out
   module _ (n : ℕ) (i : In (textOf l) at (at + n)) where
     pub cut-within : at + n ≤ line .len
-    cut-within = let k = i .1 in omega (arith, long)
+    cut-within = let k = i .1 in omega (arith, length-kept F l h)
 
     cut-text : textOf l ≡ gapped (line .len) at s
     cut-text = let w = cut-within in shut-text (line .len) at s (omega arith) used
@@ -111,7 +94,7 @@ module _ (F : Format) (s rb tb : List ℕ) (line : Line) (g : Log) (at : ℕ) (h
       same = once-cut catalogue F (sizesOf l) (length (l .text)) at (stateOf catalogue F l) at (at + n) j i (je ∙ ap (λ (x : List ℕ). isSingle catalogue (clustersOf catalogue x)) raw-old)
 
       some : blank (delete at old) ≡ false
-      some = cut-some at old (omega (arith, old-length))
+      some = blank-delete at old (omega (arith, old-length))
 
       logged : log.Logged F (logLent l) (recordOut F (sizesOf l) (note j (delete at old) (v .undo)) v) r rn tn
       logged = logged-as F l j 4 at [] raw old raw-old r rn tn q
@@ -137,13 +120,10 @@ module _ (F : Format) (s rb tb : List ℕ) (line : Line) (g : Log) (at : ℕ) (h
   -- ---- the text x put in behind the gap
   module _ (i : In (textOf l) at at) (x : List ℕ) where
     pub put-within : at ≤ line .len
-    put-within = let k = i .1 in omega (arith, long)
+    put-within = let k = i .1 in omega (arith, length-kept F l h)
 
     abbrev putOut : Outcome
     putOut = edited catalogue F (sizesOf l) (length (l .text)) (once (pasted at x) at) (stateOf catalogue F l)
-
-    numbered : log.Numbered (insert at x) 3 at (part (textOf l) at at) x
-    numbered = record { kind = refl; place = refl; old = sym (part-none (textOf l) at); new = refl }
 
     pasting : changeOut F (sizesOf l) (length (l .text)) false (insert at x) at (stateOf catalogue F l) ≡ putOut
     pasting = once-paste catalogue F (sizesOf l) (length (l .text)) at (stateOf catalogue F l) at x
@@ -152,7 +132,7 @@ module _ (F : Format) (s rb tb : List ℕ) (line : Line) (g : Log) (at : ℕ) (h
     pub put-long : length s - line .len < length x → (a : EditAnswer) → a ≡ says 9 line g → Edited F l putOut a (shut (a .line .len) at s) rb tb
     put-long e a f =
         as-said _ putOut a _ s rb tb pasting f
-        (too-long F l h false (insert at x) 3 at at x at numbered (omega arith) put-within (omega (arith, shut-length (line .len) at s)))
+        (too-long F l h false (insert at x) 3 at at x at (an-insert (textOf l) at x) (omega arith) put-within (omega (arith, shut-length (line .len) at s)))
 
     module _ (k : length x ≤ length s - line .len) where
       fits-text : length x ≤ length (l .text) - (line .len - (at - at))
@@ -160,12 +140,12 @@ module _ (F : Format) (s rb tb : List ℕ) (line : Line) (g : Log) (at : ℕ) (h
 
       -- none
       pub put-none : length x ≡ 0 → (a : EditAnswer) → a ≡ says 0 (record { len = line .len; cursor = at }) (record { undo = g .undo; redo = record { records = 0; texts = 0 }; level = g .level }) → Edited F l putOut a (shut (a .line .len) at s) rb tb
-      put-none e a f = as-said _ putOut a _ s rb tb pasting f (unrecorded F l h false (insert at x) 3 at at x at numbered (omega arith) put-within fits-text (put-blank at x e))
+      put-none e a f = as-said _ putOut a _ s rb tb pasting f (unrecorded F l h false (insert at x) 3 at at x at (an-insert (textOf l) at x) (omega arith) put-within fits-text (put-blank at x e))
 
       module _ (some : 0 < length x) (r : LogAnswer) (rn tn : List ℕ) (q : log.Logged F (logLent l) (recordOut F (sizesOf l) (note false (insert at x) (v .undo)) v) r rn tn) where
         -- 10
         pub put-refused : (r .number ≡ 0 → ⊥) → (a : EditAnswer) → a ≡ says 10 line g → Edited F l putOut a (shut (a .line .len) at s) rn tn
-        put-refused e a f = as-said _ putOut a _ s rn tn pasting f (no-room F l h false (insert at x) 3 at at x at numbered (omega arith) put-within fits-text (put-some at x some) r rn tn q e)
+        put-refused e a f = as-said _ putOut a _ s rn tn pasting f (no-room F l h false (insert at x) 3 at at x at (an-insert (textOf l) at x) (omega arith) put-within fits-text (blank-insert at x some) r rn tn q e)
 
         module _ (t : List ℕ) (w : t ≡ take (at + (length s - line .len) - length x) s ++ (x ++ drop (at + (length s - line .len) - length x + length x) s)) (lt : length t ≡ length s) where
           more-text : take (line .len + length x) (shut (line .len + length x) at t) ≡ splice (textOf l) at at x
@@ -181,4 +161,4 @@ module _ (F : Format) (s rb tb : List ℕ) (line : Line) (g : Log) (at : ℕ) (h
           pub put-made : r .number ≡ 0 → (a : EditAnswer) → a ≡ says 0 (record { len = line .len + length x; cursor = at }) (r .log) → Edited F l putOut a (shut (a .line .len) at t) rn tn
           put-made e a f =
               as-said _ putOut a _ t rn tn pasting f
-              (made-in F l h false (insert at x) 3 at at x at numbered (omega arith) put-within fits-text (put-some at x some) r rn tn q e (shut (line .len + length x) at t) (line .len + length x) (omega arith) more-text)
+              (made-in F l h false (insert at x) 3 at at x at (an-insert (textOf l) at x) (omega arith) put-within fits-text (blank-insert at x some) r rn tn q e (shut (line .len + length x) at t) (line .len + length x) (omega arith) more-text)

@@ -8,6 +8,7 @@ use lib.Dec.{eqb, ltb}
 use lib.ListN.{length, take, drop, length-replicate}
 use lib.Seq.{length-take-le, take-take}
 use borrow.Author.Tests.{eq-eqb, ne-eqb}
+use Rattle.lists.specs.Lists.{part}
 use Rattle.lists.proofs.Bools.{by-test}
 use Rattle.utf8.specs.Utf8.{within}
 use Rattle.utf8.specs.Chars.{In}
@@ -18,13 +19,14 @@ use Rattle.checks.specs.declared.Line.{Line}
 use Rattle.journal.specs.Layout.{narrow}
 use Rattle.journal.specs.Undo.{fits}
 use Rattle.buffer.specs.Gap.{gapped, shut}
-use Rattle.buffer.proofs.Gaps.{shut-length, gap-moved, gap-closed}
+use Rattle.buffer.proofs.Gaps.{shut-length, shut-kept, gap-moved, gap-closed}
 use Rattle.changeset.specs.declared.Log.{Log}
 use Rattle.edit.specs.declared.EditAnswer.{EditAnswer}
-use Rattle.edit.specs.Plan.{part, splice, Piece, pasted, once, Plan, AllSuit, tooLong, listAfter, edited}
+use Rattle.edit.specs.Plan.{splice, Piece, pasted, once, Plan, AllSuit, tooLong, listAfter, edited}
 use Rattle.edit.specs.Calls.{Lent, lent, textOf, sizesOf, stateOf, says, Edited, Ready}
+use Rattle.edit.proofs.Answers.{length-kept}
 use Rattle.edit.proofs.Made.{edited-as}
-use Rattle.edit.proofs.Splice.{splice-length}
+use Rattle.edit.proofs.Splice.{splice-length, drop-splice}
 use Rattle.edit.proofs.Left.{Left, begins, moved, moved-first, next-suits, goes-on, ends, text-now}
 use Rattle.gap_edits.proofs.Behind.{used}
 use Rattle.touched_lines.specs.Touched.{split}
@@ -32,7 +34,7 @@ use Rattle.touched_lines.proofs.Newlines.{split-some}
 use Rattle.indent_plans.specs.IndentPlans.{spaces, indentPieces, indentLines, indentCursor, indentPlan, pieceOf, indented}
 use Rattle.indent_plans.proofs.Suits.{piece-in, spaces-text}
 use Rattle.indent_plans.proofs.Counted.{space-member}
-use Rattle.indent_plans.proofs.FirstLine.{drop-splice, first-in, lines-last, lines-more, first-width}
+use Rattle.indent_plans.proofs.FirstLine.{first-in, lines-last, lines-more, first-width}
 use Rattle.indent_plans.proofs.Gap.{opened-length, opened-text}
 
 -- ---- spaces
@@ -162,11 +164,8 @@ module _ (l₀ : Lent) (m from to : ℕ) where
     abbrev t : List ℕ
     t = textOf l
 
-    long : length t ≡ l .line .len
-    long = length-take-le (l .line .len) (l .text) (k .rest .ready .used)
-
     fit : end ≤ length t
-    fit = let z = k .within in omega (arith, long)
+    fit = let z = k .within in omega (arith, length-kept narrow l (k .rest .ready))
 
     -- ---- the line is done
     module _ (none : left ≡ 0) (e : ℕ) (q : e ≡ endOfLine (take end (l .text)) (at + m)) where
@@ -304,14 +303,11 @@ module _ (l₁ : Lent) (m from to : ℕ) (s rb tb : List ℕ) (line : Line) (g :
   gap-at = let o = k .order in let w = k .within in (omega arith, used narrow s rb tb line g at (k .rest .ready))
 
   module _ (u : List ℕ) (lu : length u ≡ length s) where
-    pub gap-length : (len p : ℕ) → length (shut len p u) ≡ length (shut (line .len) at s)
-    gap-length len p = shut-length len p u ∙ lu ∙ sym (shut-length (line .len) at s)
-
     module _ (none : left ≡ 0) (e : ℕ) (q : e ≡ endOfLine (take end (shut (line .len) at s)) (at + m)) where
       pub indent-on : e < end → gapped (line .len) (e + 1) u ≡ gapped (line .len) at s → (c : ℕ) → c ≡ indented (e + 1) m cursor → Indenting l₁ m from to (lent (shut (line .len) (e + 1) u) rb tb line g) c (e + 1) end m
       indent-on h i c cq =
           let w = k .within in
-          indent-moved l₁ m from to l c (e + 1) end m (indent-next-line l₁ m from to l cursor at end left k none e q h c cq) (shut (line .len) (e + 1) u) (gap-length (line .len) (e + 1))
+          indent-moved l₁ m from to l c (e + 1) end m (indent-next-line l₁ m from to l cursor at end left k none e q h c cq) (shut (line .len) (e + 1) u) (shut-kept (line .len) at (line .len) (e + 1) s u lu)
           (gap-moved (line .len) s u (gap-at .1) lu at (e + 1) (gap-at .0) (omega arith) i)
 
       pub indent-done : e ≡ end → gapped (line .len) (line .len) u ≡ gapped (line .len) at s → (t : List ℕ) → length t ≡ length (l₁ .text) → take (l₁ .line .len) t ≡ textOf l₁ → (a : EditAnswer)

@@ -8,7 +8,7 @@ use lib.Dec.{eqb, ltb, T}
 use lib.ListN.{length, take, drop, length-append, length-drop, length-replicate, take-append-drop}
 use lib.Seq.{length-take-le}
 use borrow.Author.Tests.{eqb-true, eqb-false, ne-eqb, lt-ltb, le-ltb, ltb-true, ltb-false}
-use Rattle.lists.specs.Lists.{all, headOr}
+use Rattle.lists.specs.Lists.{all, headOr, part}
 use Rattle.lists.proofs.Bools.{by-test, by-less, never}
 use Rattle.lists.proofs.Every.{Every}
 use Rattle.lists.proofs.Tables.{at-each}
@@ -26,7 +26,7 @@ use Rattle.journal.specs.Recording.{isSingle, note, recordInsertStr, recordDele
 use Rattle.journal.specs.Undo.{undoRecords, undoTexts}
 use Rattle.journal.proofs.Undo.{records-size, texts-size}
 use Rattle.journal.proofs.Recording.{delete-none, delete-some, insert-some}
-use Rattle.edit.specs.Plan.{Piece, typed, pasted, cutting, swapping, part, splice, listAfter, tooLong}
+use Rattle.edit.specs.Plan.{Piece, typed, pasted, cutting, swapping, splice, listAfter, tooLong}
 use Rattle.touched_lines.specs.Touched.{leading, deleting, splits}
 use Rattle.touched_lines.specs.Counts.{cutsIn, bytesIn}
 use Rattle.indent_plans.specs.IndentPlans.{indentPieces, indentLine, indentLines, dedentLines, pieceOf}

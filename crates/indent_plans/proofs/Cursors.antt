@@ -13,7 +13,7 @@ use Rattle.unicode.specs.Repertoire.{Repertoire}
 use Rattle.unicode.specs.Text.{isText}
 use Rattle.keymap.specs.declared.Movement.{Movement}
 use Rattle.edit.specs.Plan.{Piece, splice, AllSuit, textAfter}
-use Rattle.edit.proofs.Pieces.{splice-stays, splice-moves, splice-start}
+use Rattle.edit.proofs.Splice.{splice-stays, splice-moves, splice-start}
 use Rattle.touched_lines.specs.Touched.{deleting, splits, touched}
 use Rattle.indent_plans.specs.IndentPlans.{spaces, indentPieces, indentLines, indentCursor, dedentLines, dedented, dedentCursor, linesIn, indentPlan, pieceOf, indented}
 use Rattle.indent_plans.proofs.Suits.{spaces-valid, piece-in, indent-suits}
@@ -92,6 +92,6 @@ module _ (R : Repertoire) (mem : R .member 0x20 ≡ true) (m : ℕ) (small : m �
   lines = linesIn t (touched R t pos mvt)
 
   pub plan-cursor : (dedent : Bool) → (dedent ≡ true → splits R m lines ≡ false)
-      → At (textAfter (indentPlan R m dedent pos (touched R t pos mvt .from) lines .pieces) t) (indentPlan R m dedent pos (touched R t pos mvt .from) lines .cursor)
-  plan-cursor true s = dedent-cursor R m lines (touched R t pos mvt .from) t pos (indent-suits R mem m small t pos v k h mvt true s) (omega arith, h, k, k)
-  plan-cursor false s = indent-cursor R m small lines (touched R t pos mvt .from) t pos (indent-suits R mem m small t pos v k h mvt false s) (omega arith, h, k, k)
+      → At (textAfter (indentPlan R m dedent pos (touched R t pos mvt .start) lines .pieces) t) (indentPlan R m dedent pos (touched R t pos mvt .start) lines .cursor)
+  plan-cursor true s = dedent-cursor R m lines (touched R t pos mvt .start) t pos (indent-suits R mem m small t pos v k h mvt true s) (omega arith, h, k, k)
+  plan-cursor false s = indent-cursor R m small lines (touched R t pos mvt .start) t pos (indent-suits R mem m small t pos v k h mvt false s) (omega arith, h, k, k)

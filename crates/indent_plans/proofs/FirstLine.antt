@@ -1,24 +1,16 @@
--- The lines of a part of a text by the first of them, and what stands behind a change of it. Assumes nothing.
+-- The lines of a part of a text by the first of them. Assumes nothing.
 use mathlib.Core.Path.{_≡_, sym, ap, ap₂, _∙_}
-use mathlib.Core.List.{List, [], _∷_, _++_}
+use mathlib.Core.List.{List, [], _∷_}
 use Prim.Native.Nat.{ℕ, _+_, _-_, _<_, _≤_}
 use native.Mathlib.Omega.{arith}
 use lib.ListN.{length, take, drop, length-drop}
-use lib.Seq.{drop-drop, drop-append-add, length-take-le, take-take}
+use lib.Seq.{length-take-le, take-take}
 use Rattle.lists.proofs.Parts.{drop-take}
+use Rattle.lists.specs.Lists.{part}
 use Rattle.lines.specs.Lines.{endOfLine}
 use Rattle.lines.proofs.Lines.{end-le}
-use Rattle.edit.specs.Plan.{part, splice}
 use Rattle.touched_lines.specs.Touched.{split}
 use Rattle.touched_lines.proofs.Newlines.{line-last, line-more}
-
--- ---- what stands behind a part that is replaced
-pub drop-splice : (t : List ℕ) (a b : ℕ) (s : List ℕ) (j : ℕ) → a ≤ length t → drop (a + length s + j) (splice t a b s) ≡ drop (b + j) t
-unfolding splice
-drop-splice t a b s j h =
-    let l = length-take-le a t h in
-    let e : a + length s + j ≡ length (take a t) + (length s + j) = omega arith in
-    ap (λ (n : ℕ). drop n (take a t ++ (s ++ drop b t))) e ∙ drop-append-add (take a t) (s ++ drop b t) (length s + j) ∙ drop-append-add s (drop b t) j ∙ drop-drop j b t
 
 -- ---- the lines from at up to end; the first ends at e
 module _ (t : List ℕ) (at end e : ℕ) (h : at ≤ end) (k : end ≤ length t) (q : e ≡ endOfLine (take end t) at) where

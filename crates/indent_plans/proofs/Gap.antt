@@ -4,6 +4,7 @@ use mathlib.Core.Path.{_≡_, sym, ap, _∙_}
 use mathlib.Core.List.{List}
 use Prim.Native.Nat.{ℕ, _+_, _-_, _≤_}
 use lib.ListN.{length, take, drop}
+use Rattle.lists.specs.Lists.{part}
 use Rattle.lists.proofs.Parts.{drop-take}
 use Rattle.unicode.specs.Repertoire.{catalogue}
 use Rattle.lines.specs.Lines.{endOfLine}
@@ -13,7 +14,6 @@ use Rattle.buffer.specs.Gap.{gapped, shut}
 use Rattle.buffer.proofs.Gaps.{shut-length, gap-opened}
 use Rattle.changeset.specs.declared.Log.{Log}
 use Rattle.edit.specs.Calls.{lent, Ready}
-use Rattle.edit.specs.Plan.{part}
 use Rattle.gap_edits.proofs.Behind.{part-behind}
 use Rattle.touched_lines.specs.Touched.{deleting}
 

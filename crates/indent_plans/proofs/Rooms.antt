@@ -7,8 +7,8 @@ use native.Mathlib.Nat.{mul-le-mul}
 use native.Mathlib.Omega.{arith}
 use lib.Dec.{leb, ltb}
 use lib.ListN.{length, take, drop, length-append, length-drop, take-append-drop}
-use lib.Seq.{length-take-le}
 use borrow.Author.Tests.{le-leb, lt-leb, lt-ltb, le-ltb}
+use Rattle.lists.specs.Lists.{part}
 use Rattle.lists.proofs.Bools.{by-less, by-test}
 use Rattle.lists.proofs.Every.{Every}
 use Rattle.utf8.specs.Chars.{valid, In}
@@ -18,10 +18,10 @@ use Rattle.journal.specs.Change.{Change}
 use Rattle.journal.specs.Layout.{narrow}
 use Rattle.journal.specs.Undo.{undoRecords, undoTexts, fits}
 use Rattle.changeset.proofs.Recorded.{good, records-used, texts-used}
-use Rattle.edit.specs.Plan.{part, Piece, AllSuit, tooLong, listAfter}
+use Rattle.edit.specs.Plan.{Piece, AllSuit, tooLong, listAfter}
 use Rattle.edit.specs.Calls.{Lent, logLent, textOf, sizesOf, stateOf, Ready}
-use Rattle.edit.proofs.Once.{part-between}
-use Rattle.edit.proofs.Made.{raw-part}
+use Rattle.edit.proofs.Answers.{length-kept}
+use Rattle.edit.proofs.Parts.{part-between, raw-part}
 use Rattle.edit.proofs.Steps.{room-is}
 use Rattle.touched_lines.specs.Touched.{split, deleting, splits}
 use Rattle.touched_lines.specs.Counts.{cutsIn, bytesIn}
@@ -54,9 +54,6 @@ module _ (l : Lent) (h : Ready narrow l) where
   pub log-within : (l .log .undo .records ≤ length (l .records)) × (l .log .undo .texts ≤ length (l .texts))
   log-within = let a = h .log .hold .room in let b = h .log .hold .space in omega arith
 
-  long : length (textOf l) ≡ l .line .len
-  long = length-take-le (l .line .len) (l .text) (h .used)
-
   abbrev u : List Change
   u = stateOf catalogue narrow l .log .undo
 
@@ -65,7 +62,7 @@ module _ (l : Lent) (h : Ready narrow l) where
       → length (undoRecords narrow (listAfter catalogue xs (textOf l) u)) ≡ length (undoRecords narrow u) + 5 * n → length (undoTexts (listAfter catalogue xs (textOf l) u)) ≡ length (undoTexts u) + b
       → fits narrow (sizesOf l) (listAfter catalogue xs (textOf l) u) ≡ (leb (l .log .undo .records + 5 * n) (length (l .records)) && leb (l .log .undo .texts + b) (length (l .texts)))
   room-by xs n b s k e f =
-      room-is catalogue narrow (length (l .text)) (omega (arith, h .small)) (sizesOf l) (omega (arith, h .log .texts)) xs (textOf l) u s (h .text) (omega (arith, long, h .used)) k (good narrow (logLent l) (h .log))
+      room-is catalogue narrow (length (l .text)) (omega (arith, h .small)) (sizesOf l) (omega (arith, h .log .texts)) xs (textOf l) u s (h .text) (omega (arith, length-kept narrow l h, h .used)) k (good narrow (logLent l) (h .log))
       ∙ ap₂ (λ (x y : ℕ). leb x (length (l .records)) && leb y (length (l .texts))) (e ∙ ap (λ (x : ℕ). x + 5 * n) (sym (records-used narrow (logLent l) (h .log)))) (f ∙ ap (λ (x : ℕ). x + b) (sym (texts-used narrow (logLent l) (h .log))))
 
   module _ (m from to : ℕ) (i : In (textOf l) from to) where
@@ -76,7 +73,7 @@ module _ (l : Lent) (h : Ready narrow l) where
     v = text-valid catalogue (textOf l) (h .text)
 
     pub to-within : to ≤ l .line .len
-    to-within = let k = i .1 in omega (arith, long)
+    to-within = let k = i .1 in omega (arith, length-kept narrow l h)
 
     pub raw-lines : split (take (to - from) (drop from (l .text))) ≡ lines
     raw-lines = ap split (sym (raw-part (l .text) (l .line .len) from to to-within))
@@ -86,7 +83,7 @@ module _ (l : Lent) (h : Ready narrow l) where
         let a = i .0 in
         let b = i .1 in
         let c = split-count (part (textOf l) from to) in
-        omega (arith, part-short (textOf l) from to, long, h .used, h .small)
+        omega (arith, part-short (textOf l) from to, length-kept narrow l h, h .used, h .small)
 
     -- ---- dedenting
     module _ (s : splits catalogue m lines ≡ false) where
@@ -94,7 +91,7 @@ module _ (l : Lent) (h : Ready narrow l) where
       dedent-suit = dedent-all (textOf l) from to v i catalogue m s
 
       pub dedent-fits-text : tooLong (length (l .text)) (dedentLines catalogue m from lines) (textOf l) ≡ false
-      dedent-fits-text = dedent-short catalogue m (length (l .text)) lines from (textOf l) (omega (arith, long, h .used))
+      dedent-fits-text = dedent-short catalogue m (length (l .text)) lines from (textOf l) (omega (arith, length-kept narrow l h, h .used))
 
       recorded-of : (ls : List (List ℕ)) → 0 < length ls → joined ls ≡ part (textOf l) from to → Every Valid ls → splits catalogue m ls ≡ false
           → (length (undoRecords narrow (listAfter catalogue (dedentLines catalogue m from ls) (textOf l) u)) ≡ length (undoRecords narrow u) + 5 * cutsIn catalogue m ls) × (length (undoTexts (listAfter catalogue (dedentLines catalogue m from ls) (textOf l) u)) ≡ length (undoTexts u) + bytesIn catalogue m ls)
@@ -131,8 +128,8 @@ module _ (l : Lent) (h : Ready narrow l) where
 
         long-sum : tooLong (length (l .text)) (indentLines m from lines) (textOf l) ≡ ltb (length (l .text)) (l .line .len + k * m)
         long-sum =
-            long-is (length (l .text)) (indentLines m from lines) (textOf l) (lines-pasting m small lines from) (omega (arith, long, h .used))
-            ∙ ap₂ (λ (x y : ℕ). ltb (length (l .text)) (x + y)) long (lines-total m small lines from ∙ ap (λ (x : ℕ). x * m) (sym e′))
+            long-is (length (l .text)) (indentLines m from lines) (textOf l) (lines-pasting m small lines from) (omega (arith, length-kept narrow l h, h .used))
+            ∙ ap₂ (λ (x y : ℕ). ltb (length (l .text)) (x + y)) (length-kept narrow l h) (lines-total m small lines from ∙ ap (λ (x : ℕ). x * m) (sym e′))
 
         pub indent-long : length (l .text) - l .line .len < k * m → tooLong (length (l .text)) (indentLines m from lines) (textOf l) ≡ true
         indent-long c = long-sum ∙ lt-ltb (length (l .text)) (l .line .len + k * m) (omega (arith, h .used))

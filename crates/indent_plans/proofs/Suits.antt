@@ -8,6 +8,7 @@ use lib.Dec.{eqb, ltb}
 use lib.ListN.{length, take, drop, length-append, length-drop, length-replicate, replicate-append-replicate}
 use lib.Seq.{length-take-le}
 use borrow.Author.Tests.{eqb-true, eqb-false, ltb-true, ltb-false, not-false}
+use Rattle.lists.specs.Lists.{part}
 use Rattle.lists.proofs.Bools.{by-test, or-none}
 use Rattle.lists.proofs.Every.{Every}
 use Rattle.utf8.specs.Utf8.{first, firstOf, one as oneByte}
@@ -18,12 +19,12 @@ use Rattle.unicode.specs.Repertoire.{Repertoire}
 use Rattle.unicode.specs.Text.{isText}
 use Rattle.unicode.proofs.Text.{text-nil, text-append, text-valid}
 use Rattle.keymap.specs.declared.Movement.{Movement}
-use Rattle.edit.specs.Plan.{part, Piece, cutting, made, splice, AllSuit}
-use Rattle.edit.proofs.Once.{part-between}
+use Rattle.edit.specs.Plan.{Piece, cutting, made, splice, AllSuit}
+use Rattle.edit.proofs.Parts.{part-between}
 use Rattle.touched_lines.specs.Touched.{split, deleting, splits, touched}
 use Rattle.indent_plans.specs.IndentPlans.{spaces, indentPieces, indentLines, dedentLines, linesIn, indentPlan, pieceOf}
 use Rattle.touched_lines.proofs.Newlines.{split-some}
-use Rattle.touched_lines.proofs.Ranges.{touched-in}
+use Rattle.touched_lines.proofs.Spans.{touched-in}
 use Rattle.touched_lines.proofs.White.{deleting-in}
 use Rattle.touched_lines.proofs.Walks.{newline-valid}
 use Rattle.indent_plans.proofs.Joined.{behind, joined, split-joined, Valid, split-valid, at-boundary, within, end-boundary, cut-is, put-is, next-line}
@@ -177,6 +178,6 @@ module _ (R : Repertoire) (mem : R .member 0x20 ≡ true) (m : ℕ) (small : m �
   abbrev lines : List (List ℕ)
   lines = linesIn t (touched R t pos mvt)
 
-  pub indent-suits : (dedent : Bool) → (dedent ≡ true → splits R m lines ≡ false) → AllSuit R (indentPlan R m dedent pos (touched R t pos mvt .from) lines .pieces) t
-  indent-suits true s = dedent-all t (touched R t pos mvt .from) (touched R t pos mvt .to) (text-valid R t v) (touched-in R t pos (text-valid R t v) k h mvt) R m (s refl)
-  indent-suits false s = indent-all t (touched R t pos mvt .from) (touched R t pos mvt .to) (text-valid R t v) (touched-in R t pos (text-valid R t v) k h mvt) R m mem small
+  pub indent-suits : (dedent : Bool) → (dedent ≡ true → splits R m lines ≡ false) → AllSuit R (indentPlan R m dedent pos (touched R t pos mvt .start) lines .pieces) t
+  indent-suits true s = dedent-all t (touched R t pos mvt .start) (touched R t pos mvt .end) (text-valid R t v) (touched-in R t pos (text-valid R t v) k h mvt) R m (s refl)
+  indent-suits false s = indent-all t (touched R t pos mvt .start) (touched R t pos mvt .end) (text-valid R t v) (touched-in R t pos (text-valid R t v) k h mvt) R m mem small

@@ -4,9 +4,10 @@ use mathlib.Core.Bool.{Bool, true, false, cond}
 use mathlib.Core.List.{List, [], _∷_, _++_}
 use lib.Dec.{eqb, ltb}
 use lib.ListN.{length, replicate}
+use Rattle.lists.specs.Lists.{part}
 use Rattle.unicode.specs.Repertoire.{Repertoire}
-use Rattle.edit.specs.Plan.{part, Piece, pasted, cutting, Plan}
-use Rattle.touched_lines.specs.declared.Span.{Span}
+use Rattle.edit.specs.Plan.{Piece, pasted, cutting, Plan}
+use Rattle.lines.specs.declared.Span.{Span}
 use Rattle.touched_lines.specs.Touched.{split, deleting}
 
 -- ---- indenting by m: spaces in pieces of at most 32, all at the line's place
@@ -20,7 +21,7 @@ pieceOf m = cond (ltb m 32) m 32
 -- at most k pieces
 unfoldable pub indentPieces : ℕ → ℕ → ℕ → List Piece
 indentPieces zero at m = []
-indentPieces (suc k) at m = cond (eqb m 0) [] (pasted at (spaces (cond (ltb m 32) m 32)) ∷ indentPieces k at (m - 32))
+indentPieces (suc k) at m = cond (eqb m 0) [] (pasted at (spaces (pieceOf m)) ∷ indentPieces k at (m - 32))
 
 -- m is below 256, so eight pieces are enough
 abbrev pub indentLine : ℕ → ℕ → List Piece
@@ -38,7 +39,7 @@ indented at m pos = cond (ltb pos at) pos (pos + m)
 -- the cursor moves by m for each line whose place is not behind it
 unfoldable pub indentCursor : ℕ → ℕ → List (List ℕ) → ℕ → ℕ
 indentCursor m at [] pos = pos
-indentCursor m at (x ∷ xs) pos = indentCursor m (at + m + length x + 1) xs (cond (ltb pos at) pos (pos + m))
+indentCursor m at (x ∷ xs) pos = indentCursor m (at + m + length x + 1) xs (indented at m pos)
 
 -- ---- dedenting by m: of each line what `deleting` says
 unfoldable pub dedentLines : Repertoire → ℕ → ℕ → List (List ℕ) → List Piece
@@ -60,4 +61,4 @@ indentPlan R m false pos at xs = record { pieces = indentLines m at xs; cursor =
 
 -- the lines of a text between two places, by what stands in them
 abbrev pub linesIn : List ℕ → Span → List (List ℕ)
-linesIn s r = split (part s (r .from) (r .to))
+linesIn s r = split (part s (r .start) (r .end))

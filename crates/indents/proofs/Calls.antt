@@ -6,26 +6,27 @@ use Prim.Native.Nat.{ℕ, _-_, _≤_}
 use native.Mathlib.Omega.{arith}
 use lib.ListN.{length, take, drop}
 use lib.Seq.{length-take-le}
+use Rattle.lists.specs.Lists.{part}
 use Rattle.utf8.specs.Chars.{valid, boundary, In}
 use Rattle.unicode.specs.Repertoire.{catalogue}
 use Rattle.unicode.proofs.Text.{text-valid}
 use Rattle.keymap.specs.declared.Movement.{Movement}
 use Rattle.checks.specs.Checks.{Tests, both, refusal, lineTests, ownTests}
 use Rattle.checks.specs.declared.Line.{Line}
-use Rattle.checks.proofs.Fit.{Fit, fit, fit-valid}
+use Rattle.checks.proofs.Fit.{Fit, fit, fit-valid, fit-within}
 use Rattle.copies.specs.Copy.{isForeign}
 use Rattle.journal.specs.Layout.{narrow}
 use Rattle.edit.specs.declared.EditAnswer.{EditAnswer}
-use Rattle.edit.specs.Plan.{part, edited}
+use Rattle.edit.specs.Plan.{edited}
 use Rattle.edit.specs.Calls.{Lent, textOf, sizesOf, stateOf, says, own, checked, Edited, Ready}
-use Rattle.edit.proofs.Made.{raw-part}
+use Rattle.edit.proofs.Parts.{raw-part}
 use Rattle.edit.proofs.Answers.{refused-by, passed-by}
 use Rattle.edit.proofs.Tests.{split-within, own-passed}
-use Rattle.touched_lines.specs.declared.Span.{Span}
+use Rattle.lines.specs.declared.Span.{Span}
 use Rattle.touched_lines.specs.Touched.{split, splits, touched}
 use Rattle.indent_plans.specs.IndentPlans.{linesIn, indentPlan}
 use Rattle.indents.specs.Indents.{indentTests, indentOf}
-use Rattle.touched_lines.proofs.Ranges.{Inside, touched-in}
+use Rattle.touched_lines.proofs.Spans.{Inside, touched-in}
 use Rattle.indent_plans.proofs.Suits.{part-valid}
 
 -- ---- check 6, of a text and a cursor that pass 2, 4, 5 and 6
@@ -47,22 +48,22 @@ module _ (text : List ℕ) (line : Line) (mvt : Movement) (amount : ℕ) where
     text-used = fits .used
 
     pub text-fit : (valid t ≡ true) × (boundary t (line .cursor) ≡ true) × (line .cursor ≤ length t)
-    text-fit = let w = fits .within in (fit-valid catalogue text line fits, fits .edge, omega (arith, length-take-le (line .len) text (fits .used)))
+    text-fit = (fit-valid catalogue text line fits, fits .edge, fit-within catalogue text line fits)
 
     module _ (r : Span) (e : r ≡ touched catalogue t (line .cursor) mvt) where
-      pub lines-in : In t (r .from) (r .to)
+      pub lines-in : In t (r .start) (r .end)
       lines-in = let v = text-fit in subst (Inside t) (sym e) (touched-in catalogue t (line .cursor) (v .0) (v .1) (v .2) mvt)
 
-      pub lines-end : r .to ≤ length text
+      pub lines-end : r .end ≤ length text
       lines-end = let i = lines-in in let j = i .1 in omega (arith, length-take-le (line .len) text (fits .used), fits .used)
 
-      raw : take (r .to - r .from) (drop (r .from) text) ≡ part t (r .from) (r .to)
-      raw = let i = lines-in in let j = i .1 in sym (raw-part text (line .len) (r .from) (r .to) (omega (arith, length-take-le (line .len) text (fits .used))))
+      raw : take (r .end - r .start) (drop (r .start) text) ≡ part t (r .start) (r .end)
+      raw = let i = lines-in in let j = i .1 in sym (raw-part text (line .len) (r .start) (r .end) (omega (arith, length-take-le (line .len) text (fits .used))))
 
-      pub raw-valid : valid (take (r .to - r .from) (drop (r .from) text)) ≡ true
-      raw-valid = ap valid raw ∙ part-valid t (r .from) (r .to) (text-fit .0) lines-in
+      pub raw-valid : valid (take (r .end - r .start) (drop (r .start) text)) ≡ true
+      raw-valid = ap valid raw ∙ part-valid t (r .start) (r .end) (text-fit .0) lines-in
 
-      pub tried : (b dedent : Bool) → dedent ≡ true → b ≡ splits catalogue amount (split (take (r .to - r .from) (drop (r .from) text))) → b ≡ cond dedent (splits catalogue amount (linesIn t (touched catalogue t (line .cursor) mvt))) false
+      pub tried : (b dedent : Bool) → dedent ≡ true → b ≡ splits catalogue amount (split (take (r .end - r .start) (drop (r .start) text))) → b ≡ cond dedent (splits catalogue amount (linesIn t (touched catalogue t (line .cursor) mvt))) false
       tried b dedent d f =
           f ∙ ap (λ (x : List ℕ). splits catalogue amount (split x)) raw ∙ ap (λ (q : Span). splits catalogue amount (linesIn t q)) e
           ∙ sym (ap (λ (c : Bool). cond c (splits catalogue amount (linesIn t (touched catalogue t (line .cursor) mvt))) false) d)
@@ -95,21 +96,21 @@ module _ (l : Lent) (mvt : Movement) (amount : ℕ) (dedent : Bool) where
     indent-refused h r q = refused-by narrow l k (checked catalogue narrow l tests) _ r number h q
 
     module _ (z : k ≡ 0) (h : Ready narrow l) (s : Span) (e : s ≡ touched catalogue (textOf l) (l .line .cursor) mvt) where
-      pub indent-in : In (textOf l) (s .from) (s .to)
+      pub indent-in : In (textOf l) (s .start) (s .end)
       indent-in =
           let v = ready-text l h in
           subst (Inside (textOf l)) (sym e) (touched-in catalogue (textOf l) (l .line .cursor) (v .0) (v .1) (v .2) mvt)
 
-      pub indent-whole : dedent ≡ true → splits catalogue amount (split (part (textOf l) (s .from) (s .to))) ≡ false
+      pub indent-whole : dedent ≡ true → splits catalogue amount (split (part (textOf l) (s .start) (s .end))) ≡ false
       indent-whole d =
           ap (λ (q : Span). splits catalogue amount (linesIn (textOf l) q)) e
           ∙ sym (ap (λ (c : Bool). cond c (splits catalogue amount (linesIn (textOf l) (touched catalogue (textOf l) (l .line .cursor) mvt))) false) d)
           ∙ own-passed catalogue narrow l tests (number ∙ z) .split
 
       pub indent-passed : (d : Bool) → dedent ≡ d → (r : EditAnswer) (tn rb tb : List ℕ)
-          → Edited narrow l (edited catalogue narrow (sizesOf l) (length (l .text)) (indentPlan catalogue amount d (l .line .cursor) (s .from) (split (part (textOf l) (s .from) (s .to)))) (stateOf catalogue narrow l)) r tn rb tb
+          → Edited narrow l (edited catalogue narrow (sizesOf l) (length (l .text)) (indentPlan catalogue amount d (l .line .cursor) (s .start) (split (part (textOf l) (s .start) (s .end)))) (stateOf catalogue narrow l)) r tn rb tb
           → Edited narrow l (indentOf catalogue narrow l amount dedent mvt) r tn rb tb
       indent-passed d y r tn rb tb q =
           passed-by narrow l k (checked catalogue narrow l tests) _ r tn rb tb number z
-          (subst (λ (c : Bool). Edited narrow l (edited catalogue narrow (sizesOf l) (length (l .text)) (indentPlan catalogue amount c (l .line .cursor) (touched catalogue (textOf l) (l .line .cursor) mvt .from) (linesIn (textOf l) (touched catalogue (textOf l) (l .line .cursor) mvt))) (stateOf catalogue narrow l)) r tn rb tb) (sym y)
-          (subst (λ (x : Span). Edited narrow l (edited catalogue narrow (sizesOf l) (length (l .text)) (indentPlan catalogue amount d (l .line .cursor) (x .from) (linesIn (textOf l) x)) (stateOf catalogue narrow l)) r tn rb tb) e q))
+          (subst (λ (c : Bool). Edited narrow l (edited catalogue narrow (sizesOf l) (length (l .text)) (indentPlan catalogue amount c (l .line .cursor) (touched catalogue (textOf l) (l .line .cursor) mvt .start) (linesIn (textOf l) (touched catalogue (textOf l) (l .line .cursor) mvt))) (stateOf catalogue narrow l)) r tn rb tb) (sym y)
+          (subst (λ (x : Span). Edited narrow l (edited catalogue narrow (sizesOf l) (length (l .text)) (indentPlan catalogue amount d (l .line .cursor) (x .start) (linesIn (textOf l) x)) (stateOf catalogue narrow l)) r tn rb tb) e q))

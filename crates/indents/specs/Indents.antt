@@ -32,7 +32,7 @@ module _ (R : Repertoire) (F : Format) (l : Lent) (amount : ℕ) (dedent : Bool)
   abbrev pub indentOf : Movement → Outcome
   indentOf mvt =
       editCall R F l (indentTests R (textOf l) (l .line .cursor) mvt amount dedent)
-      (indentPlan R amount dedent (l .line .cursor) (touched R (textOf l) (l .line .cursor) mvt .from) (linesIn (textOf l) (touched R (textOf l) (l .line .cursor) mvt)))
+      (indentPlan R amount dedent (l .line .cursor) (touched R (textOf l) (l .line .cursor) mvt .start) (linesIn (textOf l) (touched R (textOf l) (l .line .cursor) mvt)))
 
   abbrev pub indentBy : MovementCode → Outcome
   indentBy (code.Is mvt) = indentOf mvt

@@ -40,9 +40,9 @@ fn is_split(text: &[u8], line: Line, m: Movement, amount: usize, dedent: bool) -
     }
     let len = line.len;
     let r = touched(&text[..len], line.cursor, m);
-    let from = r.from;
-    let to = r.to;
-    splits(&text[from..to], amount)
+    let start = r.start;
+    let end = r.end;
+    splits(&text[start..end], amount)
 }
 
 // indent of a movement.
@@ -75,9 +75,9 @@ fn indent_movement(
     let len = line.len;
     let r = touched(&text[..len], line.cursor, m);
     if dedent {
-        return dedent_range(text, records, texts, line, log, amount, r.from, r.to);
+        return dedent_range(text, records, texts, line, log, amount, r.start, r.end);
     }
-    indent_range(text, records, texts, line, log, amount, r.from, r.to)
+    indent_range(text, records, texts, line, log, amount, r.start, r.end)
 }
 
 // Wrong answers ruled out: the lines ended at the next \n; a dedent that takes more than the white space.

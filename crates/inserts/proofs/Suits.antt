@@ -17,7 +17,7 @@ use Rattle.unicode.proofs.Text.{text-valid}
 use Rattle.unicode.proofs.Typed.{char-text}
 use Rattle.buffer.specs.Edit.{copies}
 use Rattle.edit.specs.Plan.{splice, AllSuit, textAfter}
-use Rattle.edit.proofs.Pieces.{splice-start, splice-end}
+use Rattle.edit.proofs.Splice.{splice-start, splice-end}
 use Rattle.inserts.specs.Inserts.{insertPlan, yankPlan, yankPopPlan, updatePlan}
 use Rattle.puts.proofs.Copied.{copies-text}
 

@@ -6,7 +6,6 @@ use mathlib.Core.Bool.{Bool, true, not}
 use mathlib.Core.List.{List, [], _∷_}
 use lib.Dec.{ltb}
 use lib.ListN.{length}
-use lib.Seq.{length-take-le}
 use borrow.Author.Tests.{not-false}
 use Rattle.utf8.specs.Chars.{valid, boundary}
 use Rattle.unicode.specs.Repertoire.{catalogue}
@@ -19,7 +18,7 @@ use Rattle.edit.specs.Plan.{Plan, cutting, pasted, AllSuit}
 use Rattle.edit.specs.Calls.{Lent, textOf, says, checked, Edited, Ready}
 use Rattle.edit.proofs.Tests.{split-as, own-split-as, own-passed, text-lent}
 use Rattle.inserts.specs.Inserts.{emptyIs, yankPopPlan, updatePlan, textTests, yankPopCall, updateCall}
-use Rattle.edit.proofs.Answers.{cursor-in}
+use Rattle.edit.proofs.Answers.{cursor-in, length-kept}
 use Rattle.puts.proofs.Puts.{carried}
 use Rattle.inserts.proofs.Calls.{by-check, by-plan, madeTests, as-text, text-passed}
 use Rattle.inserts.proofs.Suits.{yank-pop-suits, update-suits}
@@ -82,14 +81,11 @@ module _ (l : Lent) (s : List ℕ) (pos k : ℕ) (b y : Bool) (q : k ≡ checked
   update-refused h r f = by-check l newTests (updatePlan (textOf l) s pos) k r update-checked h f
 
   module _ (z : k ≡ 0) (h : Ready narrow l) where
-    whole : length (textOf l) ≡ l .line .len
-    whole = length-take-le (l .line .len) (l .text) (h .used)
-
     pub new-suits : AllSuit catalogue (cutting 0 (l .line .len) ∷ pasted 0 s ∷ []) (textOf l)
     new-suits =
-        subst (λ (i : ℕ). AllSuit catalogue (cutting 0 i ∷ pasted 0 s ∷ []) (textOf l)) whole
+        subst (λ (i : ℕ). AllSuit catalogue (cutting 0 i ∷ pasted 0 s ∷ []) (textOf l)) (length-kept narrow l h)
         (update-suits catalogue (textOf l) (h .text) s pos (text-passed l s (ltb (length s) pos) (not y) k b q e z .0))
 
     pub update-done : (r : EditAnswer) (t rb tb : List ℕ) → Edited narrow l (carried l (pair 0 (l .line .len) s pos 0)) r t rb tb → Edited narrow l (updateCall catalogue narrow l s pos) r t rb tb
     update-done r t rb tb p =
-        by-plan l newTests (updatePlan (textOf l) s pos) k r update-checked z (pair 0 (l .line .len) s pos 0) (ap (λ (i : ℕ). pair 0 i s pos 0) (sym whole)) t rb tb p
+        by-plan l newTests (updatePlan (textOf l) s pos) k r update-checked z (pair 0 (l .line .len) s pos 0) (ap (λ (i : ℕ). pair 0 i s pos 0) (sym (length-kept narrow l h))) t rb tb p

@@ -4,7 +4,6 @@ ghost use mathlib.Core.Path.{_≡_};
 ghost use Prim.Native.Nat.{_+_, _-_};
 ghost use Rattle.unicode.specs.Repertoire.{catalogue};
 ghost use Rattle.journal.specs.Layout.{narrow};
-ghost use Rattle.edit.specs.Plan.{typed};
 ghost use Rattle.edit.specs.Calls.{lent, Edited};
 ghost use Rattle.inserts.specs.Inserts.{emptyIs, insertCall, yankCall, yankPopCall, updateCall};
 use changeset::Log;

@@ -126,6 +126,14 @@ kind-is F k h =
     (λ d. by-test (KindIs F k) (eqb k (5 + F .offset)) (λ e. is-replace (eqb-true k (5 + F .offset) e))
     (λ f. let z = size-none F k (eqb-false k 1 a) (eqb-false k 2 b) (eqb-false k (3 + F .offset) c) (eqb-false k (4 + F .offset) d) (eqb-false k (5 + F .offset) f) in absurd (omega arith))))))
 
+-- a kind that is none of the others is that of a replacement
+pub is-replacement : (F : Format) (k : ℕ) → KindIs F k → 2 < k → (k ≡ 3 + F .offset → ⊥) → (k ≡ 4 + F .offset → ⊥) → k ≡ 5 + F .offset
+is-replacement F k (is-begin e) h f g = absurd (omega arith)
+is-replacement F k (is-end e) h f g = absurd (omega arith)
+is-replacement F k (is-insert e) h f g = absurd (f e)
+is-replacement F k (is-delete e) h f g = absurd (g e)
+is-replacement F k (is-replace e) h f g = e
+
 -- a Begin and an End have no body, an insertion and a deletion one of two numbers, a replacement one of three
 module _ (F : Format) (k : ℕ) where
   pub size-low : KindIs F k → k ≤ 2 → sizeOf F k ≡ 1

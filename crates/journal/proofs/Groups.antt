@@ -2,16 +2,17 @@
 use Prim.Native.Nat.{ℕ, zero, suc, _+_, _-_, _≤_}
 use native.Mathlib.Omega.{arith}
 use mathlib.Core.Path.{_≡_, refl, sym, ap, ap₂, _∙_}
-use mathlib.Core.List.{List, [], _∷_, _++_, reverse, reverse-cons, reverse-reverse, append-assoc, append-nil, map}
+use mathlib.Core.List.{List, [], _∷_, _++_, reverse, reverse-cons, reverse-reverse, append-assoc, append-nil}
 use mathlib.Core.Bool.{Bool, true, false, cond}
 use mathlib.Core.Option.{Option, some, none}
 use lib.ListN.{length, take, drop, replicate, length-append, length-reverse, length-replicate, drop-of-length-le}
-use lib.Seq.{take-all, drop-at}
+use lib.Seq.{take-all, drop-at, drop-append-le}
+use Rattle.lists.specs.Lists.{part}
 use Rattle.lists.proofs.Bools.{by-less}
 use lib.Dec.{ltb}
 use borrow.Author.Tests.{lt-ltb, le-ltb}
 use Rattle.unicode.specs.Repertoire.{Repertoire}
-use Rattle.journal.specs.Change.{insert, delete, replace, Change, begin, end, edit, turn}
+use Rattle.journal.specs.Change.{insert, delete, replace, Change, begin, end, edit}
 use Rattle.journal.specs.Layout.{Format, AllGood}
 use Rattle.journal.specs.Groups.{endAll, endsAny, isBegin, isEnd, passed, lastInsert}
 use Rattle.journal.specs.Undo.{undoRecords, undoTexts, Places, lastInsertAt}
@@ -174,18 +175,13 @@ ended-least level u m e =
     (λ h. let f : m ≡ level = e ∙ rw (le-ltb (run isBegin u) level h) in rw f (omega arith, omega arith, ended-some level u h))
 
 -- ---- truncate: the first len records, oldest first
-drop-end : (n : ℕ) (l : List Change) (c : Change) → n ≤ length l → drop n (l ++ (c ∷ [])) ≡ drop n l ++ (c ∷ [])
-drop-end zero l c h = refl
-drop-end (suc n) [] c h = absurd (omega arith)
-drop-end (suc n) (x ∷ l) c h = drop-end n l c (omega arith)
-
 kept-front : (n : ℕ) (us : List Change) → n ≤ length us → reverse (drop (length us - n) (reverse us)) ≡ take n us
 kept-front zero us h = ap reverse (drop-of-length-le (reverse us) {i = length us - 0} (omega (arith, length-reverse us)))
 kept-front (suc n) [] h = absurd (omega arith)
 kept-front (suc n) (c ∷ us) h =
     let e : suc (length us) - suc n ≡ length us - n = omega arith in
     ap₂ (λ (k : ℕ) (l : List Change). reverse (drop k l)) e (reverse-cons c us)
-    ∙ ap reverse (drop-end (length us - n) (reverse us) c (omega (arith, length-reverse us)))
+    ∙ ap reverse (drop-append-le (length us - n) (reverse us) (c ∷ []) (omega (arith, length-reverse us)))
     ∙ reverse-snoc (drop (length us - n) (reverse us)) c
     ∙ ap (λ (l : List Change). c ∷ l) (kept-front n us (omega arith))
 
@@ -208,14 +204,14 @@ ends-passed (edit x ∷ u) = (refl, refl)
 
 -- at its places stands its text
 abbrev pub between : List ℕ → Places → List ℕ
-between l p = take (p .1 - p .0) (drop (p .0) l)
+between l p = part l (p .0) (p .1)
 
 abbrev pub textAt : List ℕ → Option Places → Option (List ℕ)
 textAt l none = none
 textAt l (some p) = some (between l p)
 
-part : (a s : List ℕ) (i j : ℕ) → length a ≡ i → i + length s ≡ j → take (j - i) (drop i (a ++ s)) ≡ s
-part a s i j e f = rw (drop-at a s i e) (take-all (j - i) s (omega arith))
+part-behind-front : (a s : List ℕ) (i j : ℕ) → length a ≡ i → i + length s ≡ j → part (a ++ s) i j ≡ s
+part-behind-front a s i j e f = rw (drop-at a s i e) (take-all (j - i) s (omega arith))
 
 pub last-insert-at : (u : List Change) → textAt (undoTexts u) (lastInsertAt u) ≡ lastInsert u
 unfolding lastInsertAt lastInsert
@@ -225,20 +221,8 @@ last-insert-at (end ∷ u) = ap (λ (l : List ℕ). textAt l (lastInsertAt u)) (
 last-insert-at (edit (delete p s) ∷ u) = refl
 last-insert-at (edit (insert p s) ∷ u) =
     ap (λ (l : List ℕ). some (between l (length (undoTexts u), length (undoTexts u) + length s))) (texts-cons (edit (insert p s)) u)
-    ∙ ap some (part (undoTexts u) s (length (undoTexts u)) (length (undoTexts u) + length s) refl refl)
+    ∙ ap some (part-behind-front (undoTexts u) s (length (undoTexts u)) (length (undoTexts u) + length s) refl refl)
 last-insert-at (edit (replace p o n) ∷ u) =
     let i = length (undoTexts u) + length o in
     ap (λ (l : List ℕ). some (between l (i, i + length n))) (texts-cons (edit (replace p o n)) u ∙ sym (append-assoc (undoTexts u) o n))
-    ∙ ap some (part (undoTexts u ++ o) n i (i + length n) (length-append (undoTexts u) o) refl)
-
--- ---- a record turned round twice
-pub turn-turn : (c : Change) → turn (turn c) ≡ c
-turn-turn begin = refl
-turn-turn end = refl
-turn-turn (edit (insert p s)) = refl
-turn-turn (edit (delete p s)) = refl
-turn-turn (edit (replace p o n)) = refl
-
-pub turned-back : (r : List Change) → map turn (map turn r) ≡ r
-turned-back [] = refl
-turned-back (c ∷ r) = ap₂ (λ (x : Change) (l : List Change). x ∷ l) (turn-turn c) (turned-back r)
+    ∙ ap some (part-behind-front (undoTexts u ++ o) n i (i + length n) (length-append (undoTexts u) o) refl)

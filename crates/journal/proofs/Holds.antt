@@ -1,4 +1,4 @@
--- The two lists in the two buffers: each list by itself, a record put behind, the seam moved, the last record written over, the list cut. Assumes nothing.
+-- The two lists in the two buffers: each list by itself, a record put behind, the redo list dropped, the list cut, the seam moved. Assumes nothing.
 use Prim.Native.Nat.{ℕ, _+_, _-_, _≤_}
 use native.Mathlib.Omega.{arith}
 use mathlib.Core.Path.{_≡_, refl, sym, ap, ap₂, subst, _∙_}
@@ -214,59 +214,6 @@ module _ (R : Repertoire) (F : Format) where
 
       et : rt ≡ length c′
       et = omega (arith, sym (length-take-le (ut + rt) tb (h .space)) ∙ ap length whole′ ∙ length-append (a′ ++ b′) c′, front-end′)
-
-  -- ---- the last record of the undo list written over by another, the redo list dropped
-  -- the buffers begin with the records and the texts before it and with those of d
-  pub replaced-by : (rb tb : List ℕ) (ur ut rr rt : ℕ) (us rs : List Change) (c d : Change) → Holds R F rb tb ur ut rr rt (us ++ (c ∷ [])) rs → Good R (F .width) d
-      → (rb' tb' : List ℕ) (n m : ℕ) → n ≤ length rb' → m ≤ length tb' → take n rb' ≡ encodeRecords F us ++ recordOf F d → take m tb' ≡ encodeTexts us ++ textsOf d
-      → Holds R F rb' tb' n m 0 0 (us ++ (d ∷ [])) []
-  replaced-by rb tb ur ut rr rt us rs c d h g rb' tb' n m i j e f =
-      holds-alone rb' tb' n m (us ++ (d ∷ [])) i j
-      (record {
-        records = e ∙ sym (records-snoc F us d);
-        texts = f ∙ sym (texts-snoc us d);
-        good = good-append R (F .width) us (d ∷ []) (good-left R (F .width) us (c ∷ []) (good-left R (F .width) (us ++ (c ∷ [])) rs (h .both .good))) (g, tt);
-      })
-
-  -- what two lists begin with, in a buffer that holds the first behind a list p
-  shared-front : (l p a x y : List ℕ) (n at : ℕ) → take n l ≡ p ++ a → a ≡ x ++ y → at ≡ length p → n ≤ length l → take (at + length x) l ≡ p ++ x
-  shared-front l p a x y n at e f g h =
-      let k : n ≡ length p + (length x + length y) = sym (length-take-le n l h) ∙ ap length (e ∙ ap (λ (z : List ℕ). p ++ z) f) ∙ simp length-append in
-      sym (take-take (at + length x) n l (omega arith))
-      ∙ ap (take (at + length x)) (e ∙ ap (λ (z : List ℕ). p ++ z) f ∙ sym (append-assoc p x y))
-      ∙ take-at (p ++ x) y (at + length x) (simp length-append (omega arith))
-
-  -- behind what they begin with, v is stored
-  tail-stored : (l p a x y b v : List ℕ) (n at : ℕ) → take n l ≡ p ++ a → a ≡ x ++ y → b ≡ x ++ v → at ≡ length p → n ≤ length l → at + length b ≤ length l
-      → take (at + length b) (sets l (at + length x) v) ≡ p ++ b
-  tail-stored l p a x y b v n at e f g i h j =
-      let k : length b ≡ length x + length v = ap length g ∙ length-append x v in
-      let q : at + length b ≡ at + length x + length v = omega arith in
-      rw q
-      (take-sets l (at + length x) v (omega arith) ∙ ap (λ (z : List ℕ). z ++ v) (shared-front l p a x y n at e f i h) ∙ append-assoc p x v ∙ ap (λ (z : List ℕ). p ++ z) (sym g))
-
-  -- of the record only what comes behind p is stored anew, of the texts only what comes behind x: last and text are where the record and its texts begin
-  pub replaced-tail : (rb tb : List ℕ) (ur ut rr rt last text : ℕ) (us rs : List Change) (c d : Change) (p q v x y z : List ℕ) → Holds R F rb tb ur ut rr rt (us ++ (c ∷ [])) rs → Good R (F .width) d
-      → last ≡ length (encodeRecords F us) → text ≡ length (encodeTexts us)
-      → recordOf F c ≡ p ++ q → recordOf F d ≡ p ++ v → textsOf c ≡ x ++ y → textsOf d ≡ x ++ z
-      → last + length (recordOf F d) ≤ length rb → text + length (textsOf d) ≤ length tb
-      → Holds R F (sets rb (last + length p) v) (sets tb (text + length x) z) (last + length (recordOf F d)) (text + length (textsOf d)) 0 0 (us ++ (d ∷ [])) []
-  replaced-tail rb tb ur ut rr rt last text us rs c d p q v x y z h g i j ep ev ey ez k l =
-      let f = front rb tb ur ut rr rt (us ++ (c ∷ [])) rs h in
-      replaced-by rb tb ur ut rr rt us rs c d h g (sets rb (last + length p) v) (sets tb (text + length x) z) (last + length (recordOf F d)) (text + length (textsOf d))
-      (simp length-sets (omega arith)) (simp length-sets (omega arith))
-      (tail-stored rb (encodeRecords F us) (recordOf F c) p q (recordOf F d) v ur last (f .records ∙ records-snoc F us c) ep ev i (omega arith) k)
-      (tail-stored tb (encodeTexts us) (textsOf c) x y (textsOf d) z ut text (f .texts ∙ texts-snoc us c) ey ez j (omega arith) l)
-
-  -- the record is stored whole, of the texts what comes behind x
-  pub replaced-last : (rb tb : List ℕ) (ur ut rr rt last text : ℕ) (us rs : List Change) (c d : Change) (x y z : List ℕ) → Holds R F rb tb ur ut rr rt (us ++ (c ∷ [])) rs → Good R (F .width) d
-      → last ≡ length (encodeRecords F us) → text ≡ length (encodeTexts us) → textsOf c ≡ x ++ y → textsOf d ≡ x ++ z
-      → last + length (recordOf F d) ≤ length rb → text + length (textsOf d) ≤ length tb
-      → Holds R F (sets rb last (recordOf F d)) (sets tb (text + length x) z) (last + length (recordOf F d)) (text + length (textsOf d)) 0 0 (us ++ (d ∷ [])) []
-  replaced-last rb tb ur ut rr rt last text us rs c d x y z h g i j ey ez k l =
-      subst (λ (a : ℕ). Holds R F (sets rb a (recordOf F d)) (sets tb (text + length x) z) (last + length (recordOf F d)) (text + length (textsOf d)) 0 0 (us ++ (d ∷ [])) [])
-      (omega arith)
-      (replaced-tail rb tb ur ut rr rt last text us rs c d [] (recordOf F c) (recordOf F d) x y z h g i j refl refl ey ez k l)
 
 -- ---- the seam moved within the row of records: the bytes stay, only the lengths change
 module _ {R : Repertoire} {F : Format} {rb tb : List ℕ} {ur ut rr rt : ℕ} {us rs : List Change} (h : Holds R F rb tb ur ut rr rt us rs) (us′ rs′ : List Change) (row : us ++ rs ≡ us′ ++ rs′) {at t : ℕ} (e : at ≡ length (encodeRecords F us′)) (f : t ≡ length (encodeTexts us′)) where

@@ -1,8 +1,8 @@
--- Lists newest first: one change more, the bytes of a list turned round, and the newest changes passed. Assumes nothing.
-use mathlib.Core.Path.{_≡_, refl, ap}
+-- Lists newest first: one change more, the bytes of a list turned round, the newest changes passed, and a record turned round twice. Assumes nothing.
+use mathlib.Core.Path.{_≡_, refl, ap, ap₂}
 use mathlib.Core.Bool.{Bool, true, false}
-use mathlib.Core.List.{List, [], _∷_, _++_, reverse, reverse-append, reverse-reverse}
-use Rattle.journal.specs.Change.{Change}
+use mathlib.Core.List.{List, [], _∷_, _++_, map, reverse, reverse-append, reverse-reverse}
+use Rattle.journal.specs.Change.{insert, delete, replace, Change, begin, end, edit, turn}
 use Rattle.journal.specs.Layout.{Format, encodeRecords}
 use Rattle.journal.specs.Groups.{passed}
 use Rattle.journal.specs.Undo.{undoRecords}
@@ -30,3 +30,15 @@ module _ (f : Change → Bool) (c : Change) (u : List Change) where
   pub passed-up-to : f c ≡ false → passed f (c ∷ u) ≡ c ∷ u
   unfolding passed
   passed-up-to h = rw h
+
+-- ---- a record turned round twice
+pub turn-turn : (c : Change) → turn (turn c) ≡ c
+turn-turn begin = refl
+turn-turn end = refl
+turn-turn (edit (insert p s)) = refl
+turn-turn (edit (delete p s)) = refl
+turn-turn (edit (replace p o n)) = refl
+
+pub turned-back : (r : List Change) → map turn (map turn r) ≡ r
+turned-back [] = refl
+turned-back (c ∷ r) = ap₂ (λ (x : Change) (l : List Change). x ∷ l) (turn-turn c) (turned-back r)

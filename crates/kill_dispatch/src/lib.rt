@@ -1,16 +1,13 @@
-// The calls of `kills` by their names: what the programs of cases and of recorded answers share. The arguments stand in the order
-// of the call's parameters.
+// The calls of `kills` and `deletions` by their names: what the programs of cases and of recorded answers share. The arguments
+// stand in the order of the call's parameters.
 use changeset::Log;
 use check::same;
 use checks::Line;
 use edit::EditAnswer;
 use fields::code_of;
 use fields::count_of;
+use fields::key_if;
 use fields::value_at;
-
-fn key_if(name: &[u8], call: &[u8], key: usize) -> usize {
-    if same(name, call) { key } else { 0 }
-}
 
 fn plain_key(name: &[u8]) -> usize {
     if same(name, b"kill_line") {

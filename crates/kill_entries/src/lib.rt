@@ -1,4 +1,5 @@
-// The entries for C and Rust callers that cut text out by a movement: each is the call of the same name in `kills`.
+// The entries for C and Rust callers that cut text out by a movement: each is the call of the same name in `kills` or
+// `deletions`.
 ghost use Rattle.unicode.specs.Repertoire.{catalogue};
 ghost use Rattle.journal.specs.Layout.{narrow};
 ghost use Rattle.edit.specs.Calls as edits;

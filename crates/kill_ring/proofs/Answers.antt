@@ -4,7 +4,6 @@ use native.Mathlib.Omega.{arith}
 use mathlib.Core.Path.{_≡_, refl, sym, ap, ap₂, _∙_}
 use mathlib.Core.Bool.{Bool, cond}
 use lib.Dec.{eqb}
-use lib.ListN.{length}
 use Rattle.lists.proofs.Bools.{by-test}
 use Rattle.unicode.specs.Repertoire.{Repertoire}
 use Rattle.kill_ring.specs.declared.Ring.{Ring}

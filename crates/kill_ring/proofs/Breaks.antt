@@ -1,17 +1,12 @@
 -- Check 8 of a ring's record, one law for each way that the code goes. Assumes nothing.
 use Prim.Native.Nat.{_≤_, _<_}
 use native.Mathlib.Omega.{arith}
-use mathlib.Core.Path.{_≡_, refl}
-use mathlib.Core.Bool.{Bool, true, false, not, _||_, _&&_}
+use mathlib.Core.Path.{_≡_, sym}
+use mathlib.Core.Bool.{true, not, _&&_, or-false}
 use borrow.Author.Tests.{lt-ltb, le-ltb, eq-eqb, ne-eqb}
 use lib.Dec.{eqb, ltb}
 use Rattle.kill_ring.specs.declared.Ring.{Ring}
 use Rattle.kill_ring.specs.Calls.{actionBreaks}
-
--- what an alternative that is not met adds
-or-false : (b : Bool) → b ≡ (b || false)
-or-false true = refl
-or-false false = refl
 
 module _ (r : Ring) where
   -- a number that is no action
@@ -23,7 +18,7 @@ module _ (r : Ring) where
   pub action-yank : r .action ≡ 1 → ltb 4096 (r .yanked) ≡ actionBreaks r
   unfolding actionBreaks
   action-yank e =
-      rw (le-ltb 2 (r .action) (omega arith), eq-eqb (r .action) 1 e, ne-eqb (r .action) 0 (λ z. omega arith)) (or-false (ltb 4096 (r .yanked)))
+      rw (le-ltb 2 (r .action) (omega arith), eq-eqb (r .action) 1 e, ne-eqb (r .action) 0 (λ z. omega arith)) (sym (or-false (ltb 4096 (r .yanked))))
 
   module _ (h : r .action ≤ 2) (k : r .action ≡ 1 → ⊥) where
     -- a size without a yank

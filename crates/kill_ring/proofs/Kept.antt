@@ -1,4 +1,4 @@
--- Every call on a ring that its checks pass leaves a sound ring, whatever it answers; and what it leaves is what the next call finds. Assumes nothing.
+-- Every call on a ring that its checks pass leaves a sound ring, whatever it answers. Assumes nothing.
 use Prim.Native.Nat.{ℕ, zero, suc, _+_, _-_, _≤_, _<_}
 use native.Mathlib.Omega.{arith}
 use mathlib.Core.Path.{_≡_, refl, sym, subst, _∙_}

@@ -12,7 +12,7 @@ use Rattle.unicode.specs.Repertoire.{Repertoire}
 use Rattle.unicode.specs.Text.{isText}
 use Rattle.journal.specs.Layout.{le}
 use Rattle.buffer.specs.Edit.{inserted}
-use Rattle.recording.proofs.Put.{inserted-end}
+use Rattle.buffer.proofs.Inserted.{inserted-end}
 use Rattle.kill_ring.specs.declared.Ring.{Ring}
 use Rattle.kill_ring.specs.declared.Left.{Left}
 use Rattle.kill_ring.specs.declared.Action.{Action}

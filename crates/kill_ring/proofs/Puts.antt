@@ -11,8 +11,8 @@ use Rattle.lists.proofs.Bools.{by-less}
 use Rattle.journal.specs.Layout.{numAt, le}
 use Rattle.journal.proofs.Numbers.{num-le, num-take}
 use Rattle.buffer.specs.Edit.{inserted}
-use Rattle.buffer.proofs.Laws.{take-drop}
-use Rattle.recording.proofs.Put.{inserted-length}
+use Rattle.lists.proofs.Parts.{take-drop}
+use Rattle.buffer.proofs.Inserted.{inserted-length}
 use Rattle.kill_ring.specs.Ring.{putAt}
 use Rattle.kill_ring.specs.Calls.{lenAt, Held}
 use Rattle.kill_ring.specs.Killed.{Put}

@@ -82,15 +82,15 @@ killOut m text r =
     (answered 0 0 0 (stored (killIndex (r .action) r) (killText (r .action) m text r) r)))
 
 -- ---- yank: the slot where we are; 1 where there is none
+abbrev pub yanked : ℕ → KillRing → KillRing
+yanked i r = record { size = r .size; slots = r .slots; index = i; action = Yank (length (slotAt r i)) }
+
 unfoldable pub yankOut : KillRing → Outcome
-yankOut r = cond (isEmpty (r .slots)) (answered 1 0 0 r) (answered 0 (r .index) 0 (withAction r (Yank (length (slotAt r (r .index))))))
+yankOut r = cond (isEmpty (r .slots)) (answered 1 0 0 r) (answered 0 (r .index) 0 (yanked (r .index) r))
 
 -- ---- yank_pop: after a yank the slot before, round to the last, with the size of that yank; else 1
 abbrev pub previousIndex : KillRing → ℕ
 previousIndex r = cond (eqb (r .index) 0) (length (r .slots) - 1) (r .index - 1)
-
-abbrev pub yanked : ℕ → KillRing → KillRing
-yanked i r = record { size = r .size; slots = r .slots; index = i; action = Yank (length (slotAt r i)) }
 
 abbrev pub popOut : Action → KillRing → Outcome
 popOut Kill r = answered 1 0 0 r

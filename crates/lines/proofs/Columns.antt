@@ -8,21 +8,21 @@ use lib.Dec.{ltb, eqb, leb·suc-suc}
 use lib.ListN.{length, take, drop}
 use lib.Seq.{drop-drop}
 use borrow.Author.Tests.{eq-eqb, ne-eqb, lt-ltb, le-ltb}
-use Rattle.lists.specs.Lists.{sum, headOr}
+use Rattle.lists.specs.Lists.{sum, part}
 use Rattle.lists.proofs.Bools.{by-test}
 use Rattle.lists.proofs.Parts.{part-tail}
 use Rattle.utf8.proofs.Forms.{first-end}
 use Rattle.unicode.specs.Repertoire.{Repertoire}
-use Rattle.cluster.specs.Clusters.{clustersOf, bytes}
+use Rattle.cluster.specs.Clusters.{firstCluster, bytes, firstSize}
 use Rattle.cluster.specs.Facts.{facts}
 use Rattle.cluster.specs.declared.Cluster.{Cluster}
 use Rattle.cluster.proofs.Clusters.{clusters-none}
-use Rattle.cluster.proofs.Steps.{firstCluster, step-some, step-none}
+use Rattle.cluster.proofs.Steps.{step-some, step-none}
 use Rattle.layout.specs.Width.{width}
 use Rattle.motion.specs.Steps.{sizes}
 use Rattle.motion.specs.declared.Found.the-variants.{At, Nothing}
 use Rattle.lines.specs.Lines.{startOfLine, endOfLine}
-use Rattle.lines.specs.Columns.{part, nthCluster, offset, lineAbove, lineBelow, widthBefore, landUp, lineUp, landDown, columnOf, lineDown}
+use Rattle.lines.specs.Columns.{nthCluster, offset, lineAbove, lineBelow, widthBefore, landUp, lineUp, landDown, columnOf, lineDown}
 use Rattle.lines.specs.declared.Span.{Span}
 
 -- ---- part number n of parts of these sizes that stand from a on, other where there are no more than n
@@ -47,17 +47,13 @@ nth-on x l a (suc n) other e =
     rw (m, z, leb·suc-suc (suc n) (length l))
 
 module _ (R : Repertoire) where
-  -- the first cluster's size
-  abbrev firstSize : List ℕ → ℕ
-  firstSize u = bytes (firstCluster R u)
-
-  sizes-none : (u : List ℕ) → firstSize u ≡ 0 → sizes R u ≡ []
+  sizes-none : (u : List ℕ) → firstSize R u ≡ 0 → sizes R u ≡ []
   unfolding sizes
   sizes-none u z = ap (map bytes) (step-none R u z)
 
-  sizes-on : (u : List ℕ) → (firstSize u ≡ 0 → ⊥) → sizes R u ≡ firstSize u ∷ sizes R (drop (firstSize u) u)
+  sizes-on : (u : List ℕ) → (firstSize R u ≡ 0 → ⊥) → sizes R u ≡ firstSize R u ∷ sizes R (drop (firstSize R u) u)
   unfolding sizes
-  sizes-on u z = let p : 0 < firstSize u = omega (arith, z) in ap (map bytes) (step-some R u p)
+  sizes-on u z = let p : 0 < firstSize R u = omega (arith, z) in ap (map bytes) (step-some R u p)
 
   -- ---- a scan over the clusters of t, which starts at a, stands at a place and has some clusters left to pass
   pub nthFrom : List ℕ → ℕ → ℕ → ℕ → ℕ → ℕ
@@ -77,9 +73,9 @@ module _ (R : Repertoire) where
     nth-end h = rw (sizes-past h) (nth-none (a + at) left other)
 
     -- k is the first cluster at the place
-    module _ (k : Cluster) (q : k ≡ facts R (headOr [] (clustersOf R (take (length t - at) (drop at t))))) where
-      sized : k .len ≡ firstSize (drop at t)
-      sized = ap (λ (x : Cluster). x .len) q ∙ ap firstSize (part-tail t at)
+    module _ (k : Cluster) (q : k ≡ facts R (firstCluster R (take (length t - at) (drop at t)))) where
+      sized : k .len ≡ firstSize R (drop at t)
+      sized = ap (λ (x : Cluster). x .len) q ∙ ap (firstSize R) (part-tail t at)
 
       pub nth-stuck : k .len ≡ 0 → nthFrom t a other at left ≡ other
       unfolding nthFrom

@@ -7,7 +7,7 @@ use native.Mathlib.Omega.{arith}
 use lib.Dec.{eqb, ltb}
 use lib.ListN.{length, getD, take, drop, length-take}
 use borrow.Author.Tests.{eqb-false, ltb-true}
-use Rattle.lists.specs.Lists.{sum}
+use Rattle.lists.specs.Lists.{sum, part}
 use Rattle.lists.proofs.Bools.{by-less, by-test}
 use Rattle.utf8.specs.Utf8.{tail}
 use Rattle.utf8.specs.Chars.{valid, boundary, In}
@@ -15,16 +15,16 @@ use Rattle.utf8.proofs.Forms.{within-below, first-one, first-drop}
 use Rattle.utf8.proofs.Boundary.{boundary-test, boundary-zero, boundary-end, boundary-drop, boundary-take, boundary-next}
 use Rattle.unicode.specs.Repertoire.{Repertoire}
 use Rattle.motion.specs.Steps.{sizes}
-use Rattle.motion.proofs.Places.{sizes-place}
+use Rattle.motion.proofs.Places.{sizes-place, second-at}
 use Rattle.motion.specs.declared.Found.the-variants.{At, Nothing}
 use Rattle.lines.specs.Lines.{startOfLine, endOfLine, behindLine, linesUp, linesDown, nLinesUp, nLinesDown}
-use Rattle.lines.specs.Columns.{part, nthCluster, lineAbove, lineBelow, widthBefore, landUp, lineUp, landDown, columnOf, lineDown}
+use Rattle.lines.specs.Columns.{nthCluster, lineAbove, lineBelow, widthBefore, landUp, lineUp, landDown, columnOf, lineDown}
 use Rattle.lines.specs.declared.Range.the-variants.{Places, Nowhere}
 use Rattle.lines.specs.declared.Span.{Span}
 use Rattle.lines.proofs.Lines.{start-newline, start-le, end-le, end-newline}
 
 -- ---- a \n is a character of one byte: boundaries stand before it and behind it
-newline-place : (s : List ℕ) (i : ℕ) → valid s ≡ true → getD s i 256 ≡ 0x0A → (boundary s i ≡ true) × (boundary s (i + 1) ≡ true)
+pub newline-place : (s : List ℕ) (i : ℕ) → valid s ≡ true → getD s i 256 ≡ 0x0A → (boundary s i ≡ true) × (boundary s (i + 1) ≡ true)
 newline-place s i v e =
     let b : boundary s i ≡ true =
     boundary-test s i v ∙ ap (λ (x : ℕ). not (tail x)) e ∙ ap not (within-below 0x80 0xBF 0x0A (omega arith))
@@ -45,7 +45,7 @@ start-place s a v f =
     (subst (λ (x : ℕ). boundary s x ≡ true) z (boundary-zero s), subst (λ (x : ℕ). boundary s x ≡ true) y (boundary-zero s)))
 
 -- a place that ends a line
-end-place : (s : List ℕ) (e : ℕ) → valid s ≡ true → e ≤ length s → (e < length s → getD s e 256 ≡ 0x0A) → boundary s e ≡ true
+pub end-place : (s : List ℕ) (e : ℕ) → valid s ≡ true → e ≤ length s → (e < length s → getD s e 256 ≡ 0x0A) → boundary s e ≡ true
 end-place s e v h f =
     by-less _ e (length s) (λ l. newline-place s e v (f l) .0)
     (λ l. let q : length s ≡ e = omega arith in subst (λ (x : ℕ). boundary s x ≡ true) q (boundary-end s v))
@@ -171,10 +171,6 @@ below-place s (suc n) a e v h l b f =
     let g : e < length s = by-less _ e (length s) (λ x. x) (λ x. absurd (ne (omega arith))) in
     let r = end-le s (e + 1) (omega arith) in
     rw t (below-place s n (e + 1) (endOfLine s (e + 1)) v (r .0) (r .1) (newline-place s e v (f g) .1) (end-newline s (e + 1) (omega arith))))
-
-second-at : (t : Bool) (x p : ℕ) → cond t Nothing (At x) ≡ At p → (t ≡ false) × (x ≡ p)
-second-at true x p e = let z : _≡_ {A = ℕ} 0 1 = cc in absurd (omega arith)
-second-at false x p e = (refl, cc)
 
 first-at : (t : Bool) (x p : ℕ) → cond t (At x) Nothing ≡ At p → (t ≡ true) × (x ≡ p)
 first-at true x p e = (refl, cc)

@@ -4,8 +4,8 @@ use Prim.Native.Nat.{ℕ, zero, suc, _+_, _-_}
 use mathlib.Core.Bool.{cond}
 use mathlib.Core.List.{List}
 use lib.Dec.{eqb, ltb}
-use lib.ListN.{length, take, drop}
-use Rattle.lists.specs.Lists.{sum}
+use lib.ListN.{length, take}
+use Rattle.lists.specs.Lists.{sum, part}
 use Rattle.unicode.specs.Repertoire.{Repertoire}
 use Rattle.layout.specs.Width.{width}
 use Rattle.motion.specs.Steps.{sizes}
@@ -13,9 +13,6 @@ use Rattle.motion.specs.declared.Found.{Found}
 use Rattle.motion.specs.declared.Found.the-variants.{At, Nothing}
 use Rattle.lines.specs.declared.Span.{Span}
 use Rattle.lines.specs.Lines.{startOfLine, endOfLine, hasNewline}
-
-abbrev pub part : List ℕ → ℕ → ℕ → List ℕ
-part s a b = take (b - a) (drop a s)
 
 -- grapheme_indices().nth(n) of the part from a to b: where cluster number n starts, other where there are no more than n
 unfoldable pub nthCluster : Repertoire → List ℕ → ℕ → ℕ → ℕ → ℕ → ℕ

@@ -16,7 +16,7 @@ pub enum Range {
     Nowhere,
 }
 
-// A line, without its \n.
+// Two places of a text: those of a line, without its \n, or of some lines.
 pub struct Span {
     pub start: usize,
     pub end: usize,

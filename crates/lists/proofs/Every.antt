@@ -2,7 +2,7 @@
 use mathlib.Core.Path.{sym, subst}
 use mathlib.Core.List.{List, [], _∷_, _++_, reverse, reverse-cons}
 use Prim.Native.Nat.{ℕ, zero, suc}
-use lib.ListN.{take}
+use lib.ListN.{take, drop}
 
 module _ {A : Type 0} where
   abbrev pub Every : (A → Type 0) → List A → Type 0
@@ -21,6 +21,11 @@ module _ {A : Type 0} where
   every-take P zero l h = tt
   every-take P (suc n) [] h = tt
   every-take P (suc n) (x ∷ l) h = (h .0, every-take P n l (h .1))
+
+  pub every-drop : (P : A → Type 0) (n : ℕ) (l : List A) → Every P l → Every P (drop n l)
+  every-drop P zero l h = h
+  every-drop P (suc n) [] h = tt
+  every-drop P (suc n) (x ∷ l) h = every-drop P n l (h .1)
 
   pub every-reverse : (P : A → Type 0) (l : List A) → Every P l → Every P (reverse l)
   every-reverse P [] h = tt

@@ -1,7 +1,8 @@
 -- Functions on lists that several definitions use.
-use Prim.Native.Nat.{ℕ, _+_}
+use Prim.Native.Nat.{ℕ, _+_, _-_}
 use mathlib.Core.Bool.{Bool, true, false, _&&_, _||_}
 use mathlib.Core.List.{List, [], _∷_, _++_}
+use lib.ListN.{take, drop}
 
 abbrev pub all : (ℕ → Bool) → List ℕ → Bool
 all f [] = true
@@ -14,6 +15,10 @@ any f (x ∷ l) = f x || any f l
 abbrev pub sum : List ℕ → ℕ
 sum [] = 0
 sum (x ∷ l) = x + sum l
+
+-- the bytes of s from a up to b
+abbrev pub part : List ℕ → ℕ → ℕ → List ℕ
+part s a b = take (b - a) (drop a s)
 
 module _ {A : Type 0} where
   -- the lists, one behind the other

@@ -1,1 +1,1 @@
-pub mod Narrow
+pub mod Recorded

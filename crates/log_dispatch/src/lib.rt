@@ -7,11 +7,8 @@ use checks::Line;
 use edit::EditAnswer;
 use fields::code_of;
 use fields::count_of;
+use fields::key_if;
 use fields::value_at;
-
-fn key_if(name: &[u8], call: &[u8], key: usize) -> usize {
-    if same(name, call) { key } else { 0 }
-}
 
 fn plain_key(name: &[u8]) -> usize {
     if same(name, b"new") {

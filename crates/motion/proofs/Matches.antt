@@ -1,4 +1,4 @@
--- A place that a search finds is one at which the character stands, between two boundaries. Assumes nothing.
+-- A place that a search finds is a boundary, and so is the place behind the character sought. Assumes nothing.
 use mathlib.Core.Path.{_≡_, sym, ap, subst, _∙_}
 use mathlib.Core.Bool.{true}
 use mathlib.Core.List.{List, [], _∷_, _++_, append-assoc}
@@ -8,7 +8,6 @@ use borrow.Author.Tests.{eqb-true}
 use lib.Dec.{eqb}
 use lib.ListN.{length, take, drop, length-drop, drop-of-length-le}
 use lib.Seq.{length-take-le}
-use Rattle.lists.specs.Lists.{headOr}
 use Rattle.lists.proofs.Bools.{by-test, by-less}
 use Rattle.lists.proofs.Every.{Every, every-weaken, every-take, every-reverse}
 use Rattle.utf8.specs.Chars.{charsFrom, chars, valid, boundary}
@@ -16,7 +15,7 @@ use Rattle.utf8.specs.Encode.{size}
 use Rattle.utf8.proofs.Append.{valid-cut}
 use Rattle.utf8.proofs.Boundary.{boundary-take, boundary-drop}
 use Rattle.unicode.specs.Repertoire.{Repertoire}
-use Rattle.cluster.specs.Clusters.{clusters, clustersOf, bytes}
+use Rattle.cluster.specs.Clusters.{clusters, bytes, firstSize}
 use Rattle.cluster.proofs.Facts.{bytes-append}
 use Rattle.cluster.proofs.Parts.{cut-chars, first-cut}
 use Rattle.motion.specs.Search.{matches, lastFound, nthMatch, afterCluster, matchForward, matchBackward, FitsBehind}
@@ -56,7 +55,7 @@ unfolding nthMatch
 nth-found P n ps p h e =
     every-found P Nothing (take n ps) p (every-take P n ps h) e (λ s. let o : _≡_ {A = ℕ} 0 1 = cc in absurd (omega arith))
 
--- the bytes from a to b of s are the character c, and both are boundaries
+-- as many bytes as the character c has fit at p of s, and both their ends are boundaries
 pub record Stands (s : List ℕ) (c p : ℕ) : Type 0 where
   pub fits : p + size c ≤ length s
   pub edge : boundary s p ≡ true
@@ -106,11 +105,11 @@ after-place R s pos v b h =
     (λ g.
     let z = first-cut R (drop pos s) w g .cut in
     let f = z .fits in
-    (omega arith, omega arith, boundary-drop s pos (bytes (headOr [] (clustersOf R (drop pos s)))) b ∙ z .edge))
+    (omega arith, omega arith, boundary-drop s pos (firstSize R (drop pos s)) b ∙ z .edge))
     (λ g.
     let m : length s ≤ pos = omega arith in
     let n : drop pos s ≡ [] = drop-of-length-le s m in
-    let k : pos + bytes (headOr [] (clustersOf R (drop pos s))) ≡ pos = ap (λ (t : List ℕ). pos + bytes (headOr [] (clustersOf R t))) n ∙ omega arith in
+    let k : pos + firstSize R (drop pos s) ≡ pos = ap (λ (t : List ℕ). pos + firstSize R t) n ∙ omega arith in
     (omega arith, omega arith, ap (boundary s) k ∙ b))
 
 -- ---- forward: among the characters behind the cursor's cluster

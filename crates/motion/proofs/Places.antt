@@ -34,29 +34,29 @@ concat-cut (suc n) [] = refl
 concat-cut (suc n) (k ∷ ks) =
     ap (λ (l : List ℕ). k ++ l) (concat-cut n ks) ∙ sym (append-assoc k (concat (take n ks)) (concat (drop n ks)))
 
-sum-bytes : (n : ℕ) (ks : List (List ℕ)) → sum (take n (map bytes ks)) ≡ bytes (concat (take n ks))
-sum-bytes zero ks = refl
-sum-bytes (suc n) [] = refl
-sum-bytes (suc n) (k ∷ ks) = let r = sum-bytes n ks in let b = bytes-append k (concat (take n ks)) in omega arith
+sum-first : (n : ℕ) (ks : List (List ℕ)) → sum (take n (map bytes ks)) ≡ bytes (concat (take n ks))
+sum-first zero ks = refl
+sum-first (suc n) [] = refl
+sum-first (suc n) (k ∷ ks) = let r = sum-first n ks in let b = bytes-append k (concat (take n ks)) in omega arith
 
 pub sizes-place : (R : Repertoire) (t : List ℕ) (n : ℕ) → valid t ≡ true → (sum (take n (sizes R t)) ≤ length t) × (boundary t (sum (take n (sizes R t))) ≡ true)
 unfolding sizes
 sizes-place R t n v =
     let ks = clustersOf R t in
     let c = cut-chars t (concat (take n ks)) (concat (drop n ks)) v (sym (clusters-concat R (chars t)) ∙ concat-cut n ks) in
-    rw (sum-bytes n ks) (c .fits, c .edge)
+    rw (sum-first n ks) (c .fits, c .edge)
 
 -- ---- steps
-at-second : (t : Bool) (x p : ℕ) → cond t Nothing (At x) ≡ At p → x ≡ p
-at-second true x p e = let z : _≡_ {A = ℕ} 0 1 = cc in absurd (omega arith)
-at-second false x p e = cc
+pub second-at : (t : Bool) (x p : ℕ) → cond t Nothing (At x) ≡ At p → (t ≡ false) × (x ≡ p)
+second-at true x p e = let z : _≡_ {A = ℕ} 0 1 = cc in absurd (omega arith)
+second-at false x p e = (refl, cc)
 
 pub next-pos-place : (R : Repertoire) (s : List ℕ) (pos n p : ℕ) → valid s ≡ true → boundary s pos ≡ true → pos ≤ length s → nextPos R s pos n ≡ At p →
     (pos ≤ p) × (p ≤ length s) × (boundary s p ≡ true)
 unfolding nextPos
 next-pos-place R s pos n p v b h e =
     let j = sum (take n (sizes R (drop pos s))) in
-    let q : pos + j ≡ p = at-second (leb (length s) pos || eqb n 0) (pos + j) p e in
+    let q : pos + j ≡ p = second-at (leb (length s) pos || eqb n 0) (pos + j) p e .1 in
     let c = sizes-place R (drop pos s) n (sym (valid-cut s pos b) ∙ v) in
     let l : j ≤ length s - pos = rw length-drop at (c .0) in
     (omega arith, omega arith, ap (boundary s) (sym q) ∙ boundary-drop s pos j b ∙ c .1)
@@ -67,7 +67,7 @@ unfolding prevPos
 prev-pos-place R s pos n p v b h e =
     let t = take pos s in
     let k = length (sizes R t) - n in
-    let q : sum (take k (sizes R t)) ≡ p = at-second (eqb pos 0 || eqb n 0) (sum (take k (sizes R t))) p e in
+    let q : sum (take k (sizes R t)) ≡ p = second-at (eqb pos 0 || eqb n 0) (sum (take k (sizes R t))) p e .1 in
     let c : (p ≤ length t) × (boundary t p ≡ true) = subst (λ (i : ℕ). (i ≤ length t) × (boundary t i ≡ true)) q (sizes-place R t k b) in
     let l : p ≤ pos = rw (length-take-le pos s h) at (c .0) in
     (l, boundary-take s pos p l ∙ c .1)

@@ -1,32 +1,32 @@
 -- Steps over clusters, forward and backward, one at a time. Assumes nothing.
-use mathlib.Core.Path.{_≡_, refl, sym, ap, subst, _∙_}
+use mathlib.Core.Path.{_≡_, sym, ap, subst, _∙_}
 use mathlib.Core.Bool.{true, or-true}
-use mathlib.Core.List.{List, [], _∷_, _++_, map}
+use mathlib.Core.List.{List, [], _∷_, _++_, map, map-append}
 use Prim.Native.Nat.{ℕ, zero, suc, _+_, _-_, _<_, _≤_}
 use native.Mathlib.Omega.{arith}
 use borrow.Author.Tests.{le-leb, lt-leb, eq-eqb, ne-eqb}
 use lib.ListN.{length, take, drop, length-append}
-use lib.Seq.{drop-drop, take-append-le, take-all, length-take-le}
-use Rattle.lists.specs.Lists.{sum, concat}
+use lib.Seq.{drop-drop, take-nil, take-append-le, take-all, length-take-le}
+use Rattle.lists.specs.Lists.{sum}
 use Rattle.utf8.specs.Chars.{chars, charsFrom, boundary}
 use Rattle.unicode.specs.Repertoire.{Repertoire}
-use Rattle.cluster.specs.Clusters.{clustersOf, clusters, bytes}
+use Rattle.cluster.specs.Clusters.{clustersOf, clusters, firstCluster, bytes, firstSize}
 use Rattle.cluster.proofs.Clusters.{clusters-concat}
-use Rattle.cluster.proofs.Facts.{bytes-append}
+use Rattle.cluster.proofs.Facts.{sum-bytes}
 use Rattle.cluster.proofs.Parts.{bytes-all}
-use Rattle.cluster.proofs.Steps.{firstCluster, step-some, step-none, Before}
+use Rattle.cluster.proofs.Steps.{step-some, step-none, Before}
 use Rattle.motion.specs.Steps.{sizes, nextPos, prevPos}
 use Rattle.motion.specs.declared.Found.the-variants.{At, Nothing}
 
 module _ (R : Repertoire) (s : List ℕ) where
   -- ---- forward: n is the length of the first cluster from at on
-  pub forward-more : (at n left : ℕ) → n ≡ bytes (firstCluster R (drop at s)) → 0 < n → 0 < left →
+  pub forward-more : (at n left : ℕ) → n ≡ firstSize R (drop at s) → 0 < n → 0 < left →
       at + sum (take left (sizes R (drop at s))) ≡ at + n + sum (take (left - 1) (sizes R (drop (at + n) s)))
   unfolding sizes
   forward-more at n zero e p h = absurd (omega arith)
   forward-more at n (suc m) e p h =
       let q : suc m - 1 ≡ m = omega arith in
-      let f : 0 < bytes (firstCluster R (drop at s)) = subst (λ (x : ℕ). 0 < x) e p in
+      let f : 0 < firstSize R (drop at s) = subst (λ (x : ℕ). 0 < x) e p in
       let z : clustersOf R (drop at s) ≡ firstCluster R (drop at s) ∷ clustersOf R (drop (at + n) s) =
       step-some R (drop at s) f ∙ ap (λ (x : ℕ). firstCluster R (drop at s) ∷ clustersOf R (drop x (drop at s))) (sym e) ∙
       ap (λ (l : List ℕ). firstCluster R (drop at s) ∷ clustersOf R l) (drop-drop n at s)
@@ -36,16 +36,12 @@ module _ (R : Repertoire) (s : List ℕ) where
       in
       rw q (omega arith)
 
-  pub forward-end : (at n left : ℕ) → n ≡ bytes (firstCluster R (drop at s)) → n ≡ 0 → at + sum (take left (sizes R (drop at s))) ≡ at
+  pub forward-end : (at n left : ℕ) → n ≡ firstSize R (drop at s) → n ≡ 0 → at + sum (take left (sizes R (drop at s))) ≡ at
   unfolding sizes
   forward-end at n left e z =
       let q : clustersOf R (drop at s) ≡ [] = step-none R (drop at s) (sym e ∙ z) in
-      let t : sum (take left (map bytes (clustersOf R (drop at s)))) ≡ 0 = ap (λ (l : List (List ℕ)). sum (take left (map bytes l))) q ∙ nothing left in
+      let t : sum (take left (map bytes (clustersOf R (drop at s)))) ≡ 0 = ap (λ (l : List (List ℕ)). sum (take left (map bytes l))) q ∙ ap sum (take-nil left) in
       omega arith
-    where
-      nothing : (m : ℕ) → sum (take m []) ≡ 0
-      nothing zero = refl
-      nothing (suc m) = refl
 
   pub next-found : (pos n p : ℕ) → pos < length s → (n ≡ 0 → ⊥) → p ≡ pos + sum (take n (sizes R (drop pos s))) → At p ≡ nextPos R s pos n
   unfolding nextPos
@@ -63,13 +59,9 @@ module _ (R : Repertoire) (s : List ℕ) where
   abbrev back : ℕ → List ℕ
   back at = sizes R (take at s)
 
-  map-snoc : (ks : List (List ℕ)) (k : List ℕ) → map bytes (ks ++ (k ∷ [])) ≡ map bytes ks ++ (bytes k ∷ [])
-  map-snoc [] k = refl
-  map-snoc (j ∷ ks) k = ap (λ (l : List ℕ). bytes j ∷ l) (map-snoc ks k)
-
   back-split : (at n : ℕ) (k : List ℕ) → Before R s at n k → back at ≡ back (at - n) ++ (bytes k ∷ [])
   unfolding sizes
-  back-split at n k z = ap (map bytes) (z .split) ∙ map-snoc (clustersOf R (take (at - n) s)) k
+  back-split at n k z = ap (map bytes) (z .split) ∙ map-append bytes (clustersOf R (take (at - n) s)) (k ∷ [])
 
   pub backward-more : (at n left : ℕ) (k : List ℕ) → Before R s at n k → 0 < left →
       sum (take (length (back at) - left) (back at)) ≡ sum (take (length (back (at - n)) - (left - 1)) (back (at - n)))
@@ -80,24 +72,16 @@ module _ (R : Repertoire) (s : List ℕ) where
       ap (λ (x : ℕ). sum (take x (back at))) m ∙ ap (λ (x : List ℕ). sum (take (length (back (at - n)) - (left - 1)) x)) e ∙
       ap sum (take-append-le (length (back (at - n)) - (left - 1)) (back (at - n)) (bytes k ∷ []) (omega arith))
 
-  sum-sizes : (ks : List (List ℕ)) → sum (map bytes ks) ≡ bytes (concat ks)
-  sum-sizes [] = refl
-  sum-sizes (k ∷ ks) = let h = sum-sizes ks in let b = bytes-append k (concat ks) in omega arith
-
   pub backward-done : (at : ℕ) → boundary s at ≡ true → at ≤ length s → sum (take (length (back at) - 0) (back at)) ≡ at
   unfolding sizes
   backward-done at b h =
       let l : length (back at) - 0 ≡ length (back at) = omega arith in
       ap (λ (x : ℕ). sum (take x (back at))) l ∙ ap sum (take-all (length (back at)) (back at) (omega arith)) ∙
-      sum-sizes (clustersOf R (take at s)) ∙ ap bytes (clusters-concat R (chars (take at s))) ∙ bytes-all (take at s) b ∙ length-take-le at s h
+      sum-bytes (clustersOf R (take at s)) ∙ ap bytes (clusters-concat R (chars (take at s))) ∙ bytes-all (take at s) b ∙ length-take-le at s h
 
   pub backward-start : (left : ℕ) → sum (take (length (back 0) - left) (back 0)) ≡ 0
   unfolding sizes clusters charsFrom
-  backward-start left = nothing (0 - left)
-    where
-      nothing : (m : ℕ) → sum (take m []) ≡ 0
-      nothing zero = refl
-      nothing (suc m) = refl
+  backward-start left = ap sum (take-nil (0 - left))
 
   pub prev-found : (pos n p : ℕ) → (pos ≡ 0 → ⊥) → (n ≡ 0 → ⊥) → p ≡ sum (take (length (back pos) - n) (back pos)) → At p ≡ prevPos R s pos n
   unfolding prevPos

@@ -15,13 +15,13 @@ use Rattle.utf8.proofs.Chars.{size-pos}
 use Rattle.utf8.proofs.Forms.{first-end}
 use Rattle.utf8.proofs.Ends.{chars-before}
 use Rattle.unicode.specs.Repertoire.{Repertoire}
-use Rattle.cluster.specs.Clusters.{clustersOf, bytes}
+use Rattle.cluster.specs.Clusters.{clustersOf, firstCluster, bytes, firstSize}
 use Rattle.cluster.specs.Facts.{facts}
 use Rattle.cluster.specs.declared.Cluster.{Cluster}
 use Rattle.cluster.proofs.Parts.{bytes-all}
 use Rattle.cluster.proofs.Facts.{bytes-append}
 use Rattle.cluster.proofs.Clusters.{clusters-none}
-use Rattle.cluster.proofs.Steps.{firstCluster, step-some, step-none}
+use Rattle.cluster.proofs.Steps.{step-some, step-none}
 use Rattle.motion.specs.Trim.{trimmed, trimEnd, firstAlnum}
 use Rattle.motion.specs.declared.Found.{Found}
 use Rattle.motion.specs.declared.Found.the-variants.{At, Nothing}
@@ -67,8 +67,8 @@ module _ (R : Repertoire) where
     module _ (at : ℕ) (k : Cluster) (e : k ≡ facts R (firstCluster R (drop at s))) where
       step : 0 < k .len → clustersOf R (drop at s) ≡ firstCluster R (drop at s) ∷ clustersOf R (drop (at + k .len) s)
       step h =
-          let l : k .len ≡ bytes (firstCluster R (drop at s)) = ap (λ (x : Cluster). x .len) e in
-          let f : 0 < bytes (firstCluster R (drop at s)) = subst (λ (x : ℕ). 0 < x) l h in
+          let l : k .len ≡ firstSize R (drop at s) = ap (λ (x : Cluster). x .len) e in
+          let f : 0 < firstSize R (drop at s) = subst (λ (x : ℕ). 0 < x) l h in
           step-some R (drop at s) f ∙ ap (λ (x : ℕ). firstCluster R (drop at s) ∷ clustersOf R (drop x (drop at s))) (sym l) ∙
           ap (λ (x : List ℕ). firstCluster R (drop at s) ∷ clustersOf R x) (drop-drop (k .len) at s)
 
@@ -82,7 +82,7 @@ module _ (R : Repertoire) where
       unfolding firstAlnum
       alnum-later h w =
           let a = ap (λ (x : Cluster). x .alnum) e in
-          let l : k .len ≡ bytes (firstCluster R (drop at s)) = ap (λ (x : Cluster). x .len) e in
+          let l : k .len ≡ firstSize R (drop at s) = ap (λ (x : Cluster). x .len) e in
           ap (firstAlnum R at) (step h) ∙ rw (sym a ∙ w) (ap (λ (x : ℕ). firstAlnum R (at + x) (clustersOf R (drop (at + k .len) s))) (sym l))
 
       pub alnum-none : k .len ≡ 0 → alnumFrom at ≡ Nothing

@@ -4,11 +4,10 @@ use mathlib.Core.Bool.{cond}
 use mathlib.Core.List.{List, [], _∷_, reverse}
 use lib.Dec.{eqb}
 use lib.ListN.{take, drop}
-use Rattle.lists.specs.Lists.{headOr}
 use Rattle.utf8.specs.Chars.{chars, startBefore}
 use Rattle.utf8.specs.Encode.{size}
 use Rattle.unicode.specs.Repertoire.{Repertoire}
-use Rattle.cluster.specs.Clusters.{clustersOf, bytes}
+use Rattle.cluster.specs.Clusters.{firstSize}
 use Rattle.keymap.specs.declared.CharSearch.{CharSearch}
 use Rattle.keymap.specs.declared.CharSearch.the-variants.{Forward, ForwardBefore, Backward, BackwardAfter}
 use Rattle.motion.specs.declared.Found.{Found}
@@ -30,7 +29,7 @@ nthMatch n ps = lastFound Nothing (take n ps)
 
 -- behind the cluster at the cursor
 unfoldable pub afterCluster : Repertoire → List ℕ → ℕ → ℕ
-afterCluster R s pos = pos + bytes (headOr [] (clustersOf R (drop pos s)))
+afterCluster R s pos = pos + firstSize R (drop pos s)
 
 unfoldable pub matchForward : Repertoire → List ℕ → ℕ → ℕ → ℕ → Found
 matchForward R s pos c n = nthMatch n (matches c (afterCluster R s pos) (chars (drop (afterCluster R s pos) s)))

@@ -3,11 +3,9 @@ use mathlib.Core.Path.{_≡_, refl, sym, ap, _∙_}
 use mathlib.Core.Bool.{Bool, true, false, cond, _||_, not}
 use mathlib.Core.List.{List}
 use Prim.Native.Nat.{ℕ, zero, suc, _<_, _≤_}
-use native.Mathlib.Omega.{arith}
 use borrow.Author.Tests.{lt-ltb, le-ltb}
 use lib.Dec.{ltb}
-use lib.ListN.{length}
-use lib.Seq.{length-take-le}
+use Rattle.lists.proofs.Bools.{or-none}
 use Rattle.utf8.specs.Chars.{boundary}
 use Rattle.unicode.specs.Repertoire.{Repertoire}
 use Rattle.checks.specs.Checks.{Tests, noTests, both, refusal, lentText, lineTests, ownTests}
@@ -38,12 +36,6 @@ module _ (R : Repertoire) (buffer : List ℕ) (line : Line) where
   pub unnamed-refused : (foreign place : Bool) (r : ℕ) (a x : LineAnswer) → r ≡ refusal (both (lineTests R buffer line) (ownTests true foreign place)) → x ≡ says r line →
       x ≡ called R buffer line (ownTests true foreign place) a
   unnamed-refused foreign place r a x e q = refused (ownTests true foreign place) r e a x (λ z. code-refused R buffer line foreign place (sym e ∙ z)) q
-
-  pub fit-within : Fit R buffer line → line .cursor ≤ length (lentText buffer line)
-  fit-within f = let h = f .within in let l = length-take-le (line .len) buffer (f .used) in omega arith
-
-  pub fit-small : Fit R buffer line → length (lentText buffer line) ≤ 131072
-  fit-small f = let h = f .small in let u = f .used in let l = length-take-le (line .len) buffer (f .used) in omega arith
 
   -- ---- tests that come after those of the lent text
   abbrev chain : Bool → Bool → Bool → Bool → ℕ → ℕ
@@ -91,20 +83,16 @@ module _ (R : Repertoire) (buffer : List ℕ) (line : Line) where
     place-before h =
         e ∙ with-split (u .sizes) (u .foreign) (u .place) (lineTests R buffer line .split) (not (boundary (lentText buffer line) pos)) (λ z. h (e ∙ z))
 
-    or-first : (a : Bool) → a || false ≡ false → a ≡ false
-    or-first true h = h
-    or-first false h = refl
-
     pub place-split : r ≡ 0 → boundary (lentText buffer line) pos ≡ false → 6 ≡ refusal w
     unfolding refusal
     place-split z b =
         let p = refusal-passed u (sym e ∙ z) in
-        let s = or-first (lineTests R buffer line .split) (p .split) in
+        let s = or-none (lineTests R buffer line .split) false (p .split) .0 in
         rw (p .sizes, p .foreign, p .place, s, b)
 
     pub place-fits : r ≡ 0 → boundary (lentText buffer line) pos ≡ true → r ≡ refusal w
     unfolding refusal
     place-fits z b =
         let p = refusal-passed u (sym e ∙ z) in
-        let s = or-first (lineTests R buffer line .split) (p .split) in
+        let s = or-none (lineTests R buffer line .split) false (p .split) .0 in
         z ∙ rw (p .sizes, p .foreign, p .place, s, b)

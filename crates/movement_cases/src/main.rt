@@ -8,7 +8,6 @@
 // is a case that does not agree. The last line may lack its line feed.
 ghost use Prim.Native.Nat.{_<_, _≤_};
 ghost use lib.ListN.{length};
-use check::same;
 use checks::Line;
 use checks::LineAnswer;
 use fields::is_at;

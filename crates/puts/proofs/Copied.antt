@@ -1,10 +1,9 @@
--- Copies of a text written one behind the other, and the text that they are. Assumes nothing.
+-- Copies of a text are a text, and their length is a number of the program. Assumes nothing.
 use Prim.Native.Nat.{ℕ, zero, suc, _*_, _≤_}
 use native.Mathlib.Nat.{mul-le-mul}
 use mathlib.Core.Path.{_≡_, _∙_}
 use mathlib.Core.Bool.{true}
 use mathlib.Core.List.{List}
-use lib.ListN.{length}
 use Rattle.unicode.specs.Repertoire.{Repertoire}
 use Rattle.unicode.specs.Text.{isText}
 use Rattle.unicode.proofs.Text.{text-nil, text-append}

@@ -1,7 +1,7 @@
 -- Copies put in where they stand, and recorded from there. Assumes nothing.
 use Prim.Native.Nat.{ℕ, _+_, _-_, _*_, _≤_}
 use native.Mathlib.Omega.{arith}
-use mathlib.Core.Path.{_≡_, refl, sym, ap, ap₂, subst, _∙_}
+use mathlib.Core.Path.{_≡_, sym, ap, ap₂, subst, _∙_}
 use mathlib.Core.Bool.{true, false}
 use mathlib.Core.List.{List, [], _∷_, _++_}
 use lib.Dec.{eqb}
@@ -28,12 +28,14 @@ use Rattle.edit.specs.Plan.{pasted, made, recorded, once, listAfter, tooLong, b
 use Rattle.edit.specs.Calls.{Lent, logLent, textOf, sizesOf, stateOf, says, Edited, Ready}
 use Rattle.edit.specs.Room.{roomPut}
 use Rattle.edit.proofs.Answers.{cursor-in, length-kept, ten}
+use Rattle.edit.proofs.Parts.{an-insert, raw-part}
 use Rattle.edit.proofs.Made as made-laws
 use Rattle.edit.proofs.Once.{once-paste, noted-insert}
+use Rattle.edit.proofs.Pieces.{blank-insert}
 use Rattle.edit.proofs.Rooms.{Roomy, dry-now, dry-narrow, dry-put}
 use Rattle.edit.proofs.Splice.{splice-length}
 use Rattle.puts.proofs.Copied.{copies-text}
-use Rattle.puts.proofs.Puts.{an-insert, carried}
+use Rattle.puts.proofs.Puts.{carried}
 
 module _ (l : Lent) (h : Ready narrow l) (s : List ℕ) (is : isText catalogue s ≡ true) (n : ℕ) (room : length s * n ≤ length (l .text) - l .line .len) where
   abbrev pos : ℕ
@@ -82,14 +84,7 @@ module _ (l : Lent) (h : Ready narrow l) (s : List ℕ) (is : isText catalogue s
       -- ---- the copies in the text, and recorded from there
       module _ (fit : r₁ .fits ≡ true) (some : length s * n ≡ 0 → ⊥) (t′ : List ℕ) (et : take (l .line .len + length s * n) t′ ≡ inserted t pos x) where
         there : blank (insert pos x) ≡ false
-        there = not-blank x (omega-ne)
-          where
-            not-blank : (y : List ℕ) → (length y ≡ 0 → ⊥) → blank (insert pos y) ≡ false
-            not-blank [] k = absurd (k refl)
-            not-blank (b ∷ y) k = refl
-
-            omega-ne : length x ≡ 0 → ⊥
-            omega-ne z = some (sym size ∙ z)
+        there = blank-insert pos x (omega (arith, size, some))
 
         as-noted : recorded catalogue (pasted pos x) t u ≡ note false (insert pos x) u
         as-noted = noted-insert pos x u ∙ rw there
@@ -100,7 +95,7 @@ module _ (l : Lent) (h : Ready narrow l) (s : List ℕ) (is : isText catalogue s
         new-is =
             let k : length (take pos t) ≡ pos = length-take-le pos t (i .1) in
             let e : length x ≡ pos + length s * n - pos = omega (arith, size) in
-            sym (made-laws.raw-part t′ (l .line .len + length s * n) pos (pos + length s * n) (omega (arith, h .within)))
+            sym (raw-part t′ (l .line .len + length s * n) pos (pos + length s * n) (omega (arith, h .within)))
             ∙ ap (λ (y : List ℕ). take (pos + length s * n - pos) (drop pos y)) et
             ∙ ap (take (pos + length s * n - pos)) (drop-at (take pos t) (x ++ drop pos t) pos k)
             ∙ take-at x (drop pos t) (pos + length s * n - pos) e

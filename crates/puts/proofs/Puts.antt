@@ -1,25 +1,22 @@
 -- A text put in at the cursor, as the change that it is. Assumes nothing.
 use Prim.Native.Nat.{ℕ, _+_, _-_, _*_, _<_}
 use native.Mathlib.Omega.{arith}
-use mathlib.Core.Path.{_≡_, refl, sym, ap, ap₂, subst, _∙_}
+use mathlib.Core.Path.{_≡_, sym, ap, ap₂, subst, _∙_}
 use mathlib.Core.Bool.{Bool, false}
 use mathlib.Core.List.{List}
 use lib.ListN.{length}
 use Rattle.unicode.specs.Repertoire.{catalogue}
 use Rattle.journal.specs.Change.{insert}
 use Rattle.journal.specs.Layout.{narrow}
-use Rattle.changeset.specs.Calls.{Numbered}
 use Rattle.edit.specs.declared.EditAnswer.{EditAnswer}
-use Rattle.edit.specs.Plan.{Plan, Outcome, part, typed, pasted, once, edited, changeOut}
+use Rattle.edit.specs.Plan.{Plan, Outcome, typed, pasted, once, edited, changeOut}
 use Rattle.edit.specs.Calls.{Lent, textOf, sizesOf, stateOf, says, Edited, Ready}
+use Rattle.edit.proofs.Parts.{an-insert}
 use Rattle.edit.proofs.Made.{too-long, edited-as, outcome-as}
-use Rattle.edit.proofs.Once.{part-none, once-paste, once-typed}
+use Rattle.edit.proofs.Once.{once-paste, once-typed}
 use Rattle.utf8.specs.Encode.{encode}
 use Rattle.buffer.specs.Edit.{copies}
 use Rattle.buffer.proofs.Copies.{copies-length}
-
-pub an-insert : (t : List ℕ) (p : ℕ) (s : List ℕ) → Numbered (insert p s) 3 p (part t p p) s
-an-insert t p s = record { kind = refl; place = refl; old = rw (part-none t p); new = refl }
 
 -- a plan on what is lent
 abbrev pub carried : Lent → Plan → Outcome

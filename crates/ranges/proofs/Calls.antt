@@ -7,6 +7,7 @@ use mathlib.Core.List.{List}
 use lib.Dec.{ltb}
 use lib.ListN.{length}
 use borrow.Author.Tests.{ltb-false, not-false}
+use Rattle.lists.specs.Lists.{part}
 use Rattle.utf8.specs.Chars.{valid, boundary, In}
 use Rattle.unicode.specs.Repertoire.{catalogue}
 use Rattle.unicode.specs.Text.{isText}
@@ -15,11 +16,12 @@ use Rattle.checks.proofs.Fit.{Passed}
 use Rattle.journal.specs.Change.{replace, edit}
 use Rattle.journal.specs.Layout.{narrow, okChange}
 use Rattle.edit.specs.declared.EditAnswer.{EditAnswer}
-use Rattle.edit.specs.Plan.{part, cutting, once, edited, changeOut}
+use Rattle.edit.specs.Plan.{cutting, once, edited, changeOut}
 use Rattle.edit.specs.Calls.{Lent, textOf, sizesOf, stateOf, says, own, checked, Edited, Ready}
 use Rattle.edit.proofs.Answers.{refused-by, passed-by, length-kept}
 use Rattle.edit.proofs.Made.{outcome-as}
-use Rattle.edit.proofs.Once.{part-text, once-swap}
+use Rattle.edit.proofs.Parts.{part-text}
+use Rattle.edit.proofs.Once.{once-swap}
 use Rattle.edit.proofs.Tests.{split-as, own-passed, text-lent}
 use Rattle.ranges.specs.Ranges.{rangeTests, replaceTests, deleteRangeCall, replaceCall}
 use Rattle.ranges.proofs.Tests.{range-in}

@@ -2,7 +2,7 @@
 use Prim.Native.Nat.{ℕ, _+_, _≤_, _<_}
 use native.Mathlib.Omega.{arith}
 use mathlib.Core.Path.{_≡_, refl, sym, ap, ap₂, subst, _∙_}
-use mathlib.Core.Bool.{Bool, true, false, cond}
+use mathlib.Core.Bool.{Bool, false, cond}
 use mathlib.Core.List.{List, [], _∷_, _++_, reverse, reverse-reverse, append-nil}
 use lib.Dec.{leb, eqb}
 use lib.ListN.{length, getD, drop, length-append}
@@ -13,7 +13,7 @@ use Rattle.journal.specs.Change.{Edit, insert, delete, replace, Change, begin, 
 use Rattle.journal.specs.Layout.{Format, kindOf, recordOf, encodeRecords, encodeTexts, numAt, firstLen, secondLen, sizeOf, Layout}
 use Rattle.journal.specs.Hold.{Listed}
 use Rattle.journal.specs.Undo.{undoRecords, undoTexts}
-use Rattle.journal.proofs.Decode.{KindIs, is-begin, is-end, is-insert, is-delete, is-replace, NumbersAt, numbers-at, record-pos}
+use Rattle.journal.proofs.Decode.{NumbersAt, numbers-at, record-pos}
 use Rattle.journal.proofs.Holds.{records-snoc, good-right}
 use Rattle.journal.proofs.Walk.{reads-at, whole-at}
 use Rattle.journal.proofs.Newest.{reverse-snoc, undo-reverse}
@@ -43,14 +43,6 @@ module _ (F : Format) (r t k p a b : ℕ) where
 
   pub by-replace : 2 < k → (k ≡ 3 + F .offset → ⊥) → (k ≡ 4 + F .offset → ⊥) → tail r t 5 p a b ≡ tailBy F r t k p a b
   by-replace h f g = simp (lt-leb k 2 h, ne-eqb k (3 + F .offset) f, ne-eqb k (4 + F .offset) g)
-
--- a kind that is none of these is that of a replacement
-pub high : (F : Format) (k : ℕ) → KindIs F k → 2 < k → (k ≡ 3 + F .offset → ⊥) → (k ≡ 4 + F .offset → ⊥) → 4 + F .offset < k
-high F k (is-begin e) h f g = absurd (omega arith)
-high F k (is-end e) h f g = absurd (omega arith)
-high F k (is-insert e) h f g = absurd (f e)
-high F k (is-delete e) h f g = absurd (g e)
-high F k (is-replace e) h f g = omega arith
 
 -- what is read there is the newest change
 module _ (F : Format) (rs : List ℕ) (last r t : ℕ) (u : List Change) where

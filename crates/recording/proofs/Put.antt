@@ -5,13 +5,14 @@ use mathlib.Core.Path.{_≡_, refl, sym, ap, ap₂, subst, _∙_}
 use mathlib.Core.List.{List, [], _∷_, _++_, reverse, append-assoc, append-nil}
 use mathlib.Core.Bool.{Bool, true, false, cond}
 use lib.Dec.{eqb}
-use lib.ListN.{length, take, length-append, length-drop}
-use lib.Seq.{sets, length-sets, length-take-le, take-take, take-at, drop-at}
+use lib.ListN.{length, take, length-append}
+use lib.Seq.{sets, length-sets, take-take, take-at}
 use Rattle.lists.proofs.Stores.{take-sets}
 use Rattle.unicode.specs.Repertoire.{Repertoire}
 use Rattle.unicode.specs.Text.{isText}
 use Rattle.unicode.proofs.Text.{text-append}
 use Rattle.buffer.specs.Edit.{inserted}
+use Rattle.buffer.proofs.Inserted.{inserted-at, inserted-end, inserted-length}
 use Rattle.journal.specs.Change.{Edit, insert, delete, replace, Change, begin, end, edit, place, old, new}
 use Rattle.journal.specs.Layout.{Format, top, recordOf, encodeRecords, encodeTexts, okChange, AllGood, Layout}
 use Rattle.journal.specs.Recording.{apart, joinIf, onJoined, note}
@@ -39,18 +40,6 @@ pub record Put (F : Format) (x : Edit) (u u′ : List Change) (n : Noted) : Type
   pub at : n .at ≤ length (undoTexts u)
   pub texts : inserted (undoTexts u) (n .at) (old x) ++ new x ≡ undoTexts u′
   pub good : (R : Repertoire) (w : ℕ) → AllGood R w u → okChange R (edit x) ≡ true → (okChange R (edit head) ≡ true) × AllGood R w rest
-
--- ---- a text put in
-pub inserted-at : (a b x : List ℕ) (i : ℕ) → length a ≡ i → inserted (a ++ b) i x ≡ a ++ (x ++ b)
-unfolding inserted
-inserted-at a b x i e = rw (take-at a b i e, drop-at a b i e)
-
-pub inserted-end : (a x : List ℕ) (i : ℕ) → length a ≡ i → inserted a i x ≡ a ++ x
-inserted-end a x i e = ap (λ (l : List ℕ). inserted l i x) (sym (append-nil a)) ∙ inserted-at a [] x i e ∙ ap (λ (l : List ℕ). a ++ l) (append-nil x)
-
-pub inserted-length : (t : List ℕ) (i : ℕ) (x : List ℕ) → i ≤ length t → length (inserted t i x) ≡ length t + length x
-unfolding inserted
-inserted-length t i x h = simp (length-append, length-drop) (rw (length-take-le i t h) (omega arith))
 
 module _ (F : Format) where
   -- a record of its own

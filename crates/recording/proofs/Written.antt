@@ -5,7 +5,7 @@ use mathlib.Core.List.{List, _++_}
 use lib.ListN.{length, take}
 use lib.Seq.{length-take-le}
 use Rattle.buffer.specs.Edit.{inserted}
-use Rattle.recording.proofs.Put.{inserted-end}
+use Rattle.buffer.proofs.Inserted.{inserted-end}
 
 -- the old text put in, and then the new text behind all
 pub texts-written : (tb tb₁ tb₂ o n : List ℕ) (used at : ℕ) → used + length o ≤ length tb₁ → take (used + length o) tb₁ ≡ inserted (take used tb) at o

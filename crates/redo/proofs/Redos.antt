@@ -15,13 +15,13 @@ use Rattle.journal.specs.Layout.{Format}
 use Rattle.changeset.specs.declared.Log.{Log}
 use Rattle.edit.specs.declared.EditAnswer.{EditAnswer}
 use Rattle.edit.specs.Plan.{State, Outcome, refused, answered}
-use Rattle.edit.specs.Calls.{Lent, lent, stateOf, Edited, Ready}
+use Rattle.edit.specs.Calls.{Lent, lent, stateOf, says, Edited, Ready}
 use Rattle.retrace.specs.Retrace.{Trail, Tried, done, stops, undoing}
 use Rattle.undo.specs.Undo.{Waiting, owed, passing, settled, Walked, onTried, onSettled, walk, numberOf, trailOf, redoneState, redoWalk, behindNumber, redoOut}
 use Rattle.undo.specs.Steps.{stateAt, Redone}
 use Rattle.undo.proofs.Seams.{none-next}
 use Rattle.undo.proofs.Passes.{Numbered, numbered}
-use Rattle.undo.proofs.Walks.{outOf, answerBy, answers-as, Ends}
+use Rattle.undo.proofs.Walks.{outOf, answers-as, Ends}
 
 -- ---- the number that stops a walk is over 1
 abbrev Over : ℕ → Type 0
@@ -161,11 +161,11 @@ module _ {F : Format} {l₀ : Lent} {n : ℕ} {t : List ℕ} {a : Line} {g : Log
   l = lent t (l₀ .records) (l₀ .texts) a g
 
   -- none is left
-  pub redo-ended : (eqb left 0 || eqb (g .redo .records) 0) ≡ true → {r : EditAnswer} → r ≡ answerBy number a g → Edited F l₀ (redoOut (length (l₀ .text)) n (stateOf catalogue F l₀)) r t (l₀ .records) (l₀ .texts)
+  pub redo-ended : (eqb left 0 || eqb (g .redo .records) 0) ≡ true → {r : EditAnswer} → r ≡ says number a g → Edited F l₀ (redoOut (length (l₀ .text)) n (stateOf catalogue F l₀)) r t (l₀ .records) (l₀ .texts)
   redo-ended z {r} q =
       subst (λ (o : Outcome). Edited F l₀ o r t (l₀ .records) (l₀ .texts))
       (sym (k .same ∙ ap (behindNumber number) last ∙ behind-last number (stateOf catalogue F l) (k .low)))
-      (subst (λ (b : EditAnswer). Edited F l₀ (answered number 0 0 (stateOf catalogue F l)) b t (l₀ .records) (l₀ .texts)) (sym q) (answers-as F l₀ t (answerBy number a g) refl (k .ready)))
+      (subst (λ (b : EditAnswer). Edited F l₀ (answered number 0 0 (stateOf catalogue F l)) b t (l₀ .records) (l₀ .texts)) (sym q) (answers-as F l₀ t (says number a g) refl (k .ready)))
     where
       last : redoOut (length (l₀ .text)) left (stateOf catalogue F l) ≡ answered 1 0 0 (stateOf catalogue F l)
       last =
@@ -210,7 +210,7 @@ module _ {F : Format} {l₀ : Lent} {n : ℕ} {t : List ℕ} {a : Line} {g : Log
         }
 
     -- a stop ends them
-    pub redo-stopped : 1 < j → {r : EditAnswer} → r ≡ answerBy j (b .line) (b .log) → Edited F l₀ (redoOut (length (l₀ .text)) n (stateOf catalogue F l₀)) r t′ (l₀ .records) (l₀ .texts)
+    pub redo-stopped : 1 < j → {r : EditAnswer} → r ≡ says j (b .line) (b .log) → Edited F l₀ (redoOut (length (l₀ .text)) n (stateOf catalogue F l₀)) r t′ (l₀ .records) (l₀ .texts)
     redo-stopped y {r} q =
         subst (λ (o : Outcome). Edited F l₀ o r t′ (l₀ .records) (l₀ .texts))
         (sym
@@ -218,7 +218,7 @@ module _ {F : Format} {l₀ : Lent} {n : ℕ} {t : List ℕ} {a : Line} {g : Log
         ∙ ap (behindNumber number)
         (ap (λ (m : ℕ). redoOut (length (l₀ .text)) m (stateOf catalogue F l)) taken ∙ step-stop (length (l₀ .text)) (stateOf catalogue F l) (b .number) (stateOf catalogue F l′) one high (left - 1))
         ∙ ap (λ (m : ℕ). answered m 0 0 (stateOf catalogue F l′)) (sym e)))
-        (subst (λ (c : EditAnswer). Edited F l₀ (answered j 0 0 (stateOf catalogue F l′)) c t′ (l₀ .records) (l₀ .texts)) (sym q) (answers-as F l₀ t′ (answerBy j (b .line) (b .log)) refl (d .ready)))
+        (subst (λ (c : EditAnswer). Edited F l₀ (answered j 0 0 (stateOf catalogue F l′)) c t′ (l₀ .records) (l₀ .texts)) (sym q) (answers-as F l₀ t′ (says j (b .line) (b .log)) refl (d .ready)))
       where
         high : 1 < b .number
         high = by-test _ (eqb number 0 && eqb (b .number) 1) (λ f. absurd (omega (arith, rw f at e))) (λ f. omega (arith, rw f at e))

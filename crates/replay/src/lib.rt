@@ -1,4 +1,4 @@
-// Replays recorded answers: makes the call of each line of standard input, and prints of each call how many of its lines agree and
+// Replays recorded answers: makes the call of each line of a file, and prints of each call how many of its lines agree and
 // which do not. The comments at the head of a data file say what a line is. A line that begins with '#' is a comment; a line of any
 // other form is one that differs, and so is one with a text of over 65,536 bytes. The lines of one call stand together.
 ghost use Prim.Native.Nat.{_<_};

@@ -1,5 +1,5 @@
 -- The record at a place by its numbers: as the code reads them by the kind, as the change c that stands there has them. Assumes nothing.
-use Prim.Native.Nat.{ℕ, _+_, _-_, _≤_, _<_}
+use Prim.Native.Nat.{ℕ, _+_, _≤_, _<_}
 use native.Mathlib.Omega.{arith}
 use mathlib.Core.Path.{_≡_, refl, sym, ap, ap₂, _∙_}
 use mathlib.Core.List.{List}
@@ -7,7 +7,7 @@ use lib.ListN.{length, getD, drop, length-take, length-append}
 use borrow.Author.Tests.{eq-eqb, ne-eqb}
 use Rattle.journal.specs.Change.{Change, begin, end, edit, insert, delete, replace}
 use Rattle.journal.specs.Layout.{Format, numAt, firstLen, secondLen, textsOf, sizeOf}
-use Rattle.journal.proofs.Decode.{KindIs, is-begin, is-end, is-insert, is-delete, is-replace, kind-is, texts-insert, texts-delete, texts-replace, change-insert, change-delete, change-replace, Reads}
+use Rattle.journal.proofs.Decode.{KindIs, is-begin, is-end, is-insert, is-delete, is-replace, kind-is, is-replacement, texts-insert, texts-delete, texts-replace, change-insert, change-delete, change-replace, Reads}
 use Rattle.retrace.specs.declared.Record.{Record}
 use Rattle.retrace.specs.Records.{numbers, numbersOf, recordAt, Carries}
 
@@ -42,13 +42,6 @@ low F rs at k (is-insert e) h = absurd (omega arith)
 low F rs at k (is-delete e) h = absurd (omega arith)
 low F rs at k (is-replace e) h = absurd (omega arith)
 
-high : (F : Format) (k : ℕ) → KindIs F k → 2 < k → (k ≡ 3 + F .offset → ⊥) → (k ≡ 4 + F .offset → ⊥) → k ≡ 5 + F .offset
-high F k (is-begin e) h f g = absurd (omega arith)
-high F k (is-end e) h f g = absurd (omega arith)
-high F k (is-insert e) h f g = absurd (f e)
-high F k (is-delete e) h f g = absurd (g e)
-high F k (is-replace e) h f g = e
-
 module _ (F : Format) (rs : List ℕ) (at k : ℕ) (h : 0 < sizeOf F (getD rs at 0)) (e : k ≡ getD rs at 0) where
   -- Begin and End
   pub bare-read : k ≤ 2 → numbers k 0 0 0 ≡ recordAt F rs at (getD rs at 0)
@@ -63,7 +56,7 @@ module _ (F : Format) (rs : List ℕ) (at k : ℕ) (h : 0 < sizeOf F (getD rs at
 
   -- Replace: no other kind is left
   pub is-third : 2 < k → (k ≡ 3 + F .offset → ⊥) → (k ≡ 4 + F .offset → ⊥) → k ≡ 5 + F .offset
-  is-third l x y = e ∙ high F (getD rs at 0) (kind-is F (getD rs at 0) h) (omega arith) (λ z. x (e ∙ z)) (λ z. y (e ∙ z))
+  is-third l x y = e ∙ is-replacement F (getD rs at 0) (kind-is F (getD rs at 0) h) (omega arith) (λ z. x (e ∙ z)) (λ z. y (e ∙ z))
 
   pub replace-read : (p n m : ℕ) → k ≡ 5 + F .offset → p ≡ numAt (F .width) rs (at + 1) → n ≡ firstLen F rs at → m ≡ secondLen F rs at → numbers 5 p n m ≡ recordAt F rs at (getD rs at 0)
   replace-read p n m z f g i = rw (f, g, i) (sym (at-replace F rs at (getD rs at 0) (sym e ∙ z)))

@@ -2,13 +2,10 @@
 // order of the call's parameters.
 use check::same;
 use fields::code_of;
+use fields::key_if;
 use fields::value_at;
 use kill_ring::Left;
 use kill_ring::Ring;
-
-fn key_if(name: &[u8], call: &[u8], key: usize) -> usize {
-    if same(name, call) { key } else { 0 }
-}
 
 fn plain_key(name: &[u8]) -> usize {
     if same(name, b"reset") {

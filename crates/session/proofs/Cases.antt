@@ -1,7 +1,7 @@
 -- Document 01's cases marked P, in one table, computed from the definitions that the contracts cite. Assumes nothing.
 use mathlib.Core.Path.{_≡_, refl}
 use mathlib.Core.List.{List, [], _∷_, _++_}
-use Prim.Native.Nat.{ℕ, _-_}
+use Prim.Native.Nat.{ℕ}
 use Rattle.utf8.specs.Utf8.{within, one, two, lead3, three, lead4, four, firstOf, first}
 use Rattle.utf8.specs.Chars.{charsFrom, validFrom, startBefore}
 use Rattle.utf8.specs.Encode.{scalar, size, encode, encodeAll}

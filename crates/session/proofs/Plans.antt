@@ -23,7 +23,7 @@ use Rattle.journal.specs.Layout.{Format}
 use Rattle.edit.specs.Plan.{Plan, Outcome, once, nothing, cutting, swapping}
 use Rattle.edit.specs.Calls.{Lent, textOf, checked, editCall}
 use Rattle.edit.proofs.Tests.{own-passed}
-use Rattle.edit.proofs.Suits.{PlanSuits, nothing-suits, nothing-cursor, cutting-suits, cutting-cursor, swapping-suits, swapping-cursor}
+use Rattle.edit.proofs.Suits.{PlanSuits, nothing-plan, cutting-suits, cutting-cursor, swapping-suits, swapping-cursor}
 use Rattle.kills.specs.Kills.{killRange, cutPlan, killOf, killBy, placesPlan}
 use Rattle.kills.proofs.Suits.{kill-suits, kill-cursor, delete-suits, delete-cursor}
 use Rattle.ranges.specs.Ranges.{rangeTests, replaceTests}
@@ -66,7 +66,7 @@ module _ (R : Repertoire) (law : Lawful R) (space : R .member 0x20 ≡ true) (F 
 
   -- a code that names nothing
   unnamed : Planned R F l (editCall R F l (ownTests true false false) (nothing pos))
-  unnamed = by-plan (ownTests true false false) (nothing pos) (λ q. (nothing-suits R t pos, nothing-cursor R t pos i))
+  unnamed = by-plan (ownTests true false false) (nothing pos) (λ q. nothing-plan R t pos i)
 
   -- ---- the calls that cut by a movement
   -- kill of a movement, and the calls that are one
@@ -157,7 +157,7 @@ module _ (R : Repertoire) (law : Lawful R) (space : R .member 0x20 ≡ true) (F 
     -- indent of a movement
     indented : (dedent : Bool) (mvt : Movement) → Planned R F l (indentOf R F l amount dedent mvt)
     indented dedent mvt =
-        by-plan (indentTests R t pos mvt amount dedent) (indentPlan R amount dedent pos (touched R t pos mvt .from) (lines mvt))
+        by-plan (indentTests R t pos mvt amount dedent) (indentPlan R amount dedent pos (touched R t pos mvt .start) (lines mvt))
         (λ q.
         let s = whole mvt dedent (q .split) in
         (indent-suits R space amount (omega arith) t pos v (i .2) (i .1) mvt dedent s, plan-cursor R space amount (omega arith) t pos v (i .2) (i .1) mvt dedent s))

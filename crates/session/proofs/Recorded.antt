@@ -8,6 +8,7 @@ use lib.Dec.{eqb, ltb}
 use lib.ListN.{length, take, drop, length-append}
 use lib.Seq.{length-take-le}
 use borrow.Author.Tests.{eqb-true, ltb-false}
+use Rattle.lists.specs.Lists.{part}
 use Rattle.lists.proofs.Bools.{and-both, or-none, by-test}
 use Rattle.lists.proofs.Parts.{halves}
 use Rattle.utf8.specs.Chars.{In}
@@ -18,8 +19,8 @@ use Rattle.journal.specs.Change.{Edit, insert, delete, replace, Change, begin, 
 use Rattle.journal.specs.Layout.{Format}
 use Rattle.journal.specs.Recording.{Joined, apart, joined, joinIf, join, onJoined, note}
 use Rattle.journal.specs.Undo.{Sizes, allSmall, fits}
-use Rattle.edit.specs.Plan.{Piece, typed, pasted, cutting, swapping, Plan, State, Suits, AllSuit, part, splice, made, recorded, blank, notedOr, textAfter, listAfter, redoAfter, tooLong, planned, edited}
-use Rattle.edit.proofs.Once.{part-none, part-between, part-text}
+use Rattle.edit.specs.Plan.{Piece, typed, pasted, cutting, swapping, Plan, State, Suits, AllSuit, splice, made, recorded, blank, notedOr, textAfter, listAfter, redoAfter, tooLong, planned, edited}
+use Rattle.edit.proofs.Parts.{part-none, part-between, part-text}
 use Rattle.edit.proofs.Pieces.{editAt, joinsAt, recorded-as, suits-text, made-text, blank-texts}
 use Rattle.session.specs.Sessions.{leaves}
 use Rattle.session.proofs.Invariant.{Nest, Groups, Link, Chain, Here, Inv}

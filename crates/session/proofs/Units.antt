@@ -11,12 +11,12 @@ use Rattle.utf8.specs.Chars.{In}
 use Rattle.unicode.specs.Repertoire.{Repertoire}
 use Rattle.journal.specs.Change.{Change, begin, end, edit}
 use Rattle.journal.specs.Layout.{Format}
-use Rattle.edit.specs.Plan.{State, Outcome, refused, answered}
+use Rattle.edit.specs.Plan.{State, Outcome, refused, answered, numberIn}
 use Rattle.undo.specs.Undo.{owed, Walked, walk, numberOf, trailOf, undoneState, undoWalk, undoOut, redoWalk, redoneState, behindNumber, redoOut}
-use Rattle.session.specs.Sessions.{leaves, numberIn}
+use Rattle.session.specs.Sessions.{leaves}
 use Rattle.session.specs.Demand.{Units, SameTextAndLog}
 use Rattle.session.proofs.Invariant.{Nest, Open, Groups, Bound, Chain, Inv}
-use Rattle.session.proofs.Walks.{At, at-turned, Good, good, Retraced, retrace, more, further, walk-cap, walk-lt, forget, walk-hit}
+use Rattle.session.proofs.Walks.{At, at-turned, Good, good, WalkedBack, walk-back, more, further, walk-cap, walk-lt, forget, walk-undone}
 
 -- ---- groups
 -- with no mark, no group is open
@@ -174,7 +174,7 @@ module _ (R : Repertoire) (F : Format) (Q : List ℕ → Type 0) (t₀ : List �
       let w = undoWalk C n s in
       let e : n + m - 1 ≡ (n - 1) + suc (m - 1) = omega arith in
       rw (e, further R F Q C t₀ (v .goal) h (m - 1) (s .log .undo) (s .log .redo) (n - 1) 0 (trailOf s) (at s v))
-      (ap (λ (x : Walked). undoneState x (s .log .level)) (walk-hit C (w .from) (w .to) (m - 1) (owed 0) (w .trail .text) (w .trail .cursor) false (w .trail .undone)))
+      (ap (λ (x : Walked). undoneState x (s .log .level)) (walk-undone C (w .from) (w .to) (m - 1) (owed 0) (w .trail .text) (w .trail .cursor) false (w .trail .undone)))
 
   -- in any
   pub undo-sum : (C C′ C″ n m : ℕ) (s : State) → Bound Q C → Bound Q C′ → Bound Q C″ → Inv R F Q t₀ s [] → 1 ≤ n → 1 ≤ m
@@ -234,12 +234,12 @@ module _ (R : Repertoire) (F : Format) (Q : List ℕ → Type 0) (t₀ : List �
   -- a unit undone and redone, whatever the cursor between
   back-forth : (C : ℕ) (s : State) (u : List Change) → s .log .undo ≡ u → Bound Q C → Inv R F Q t₀ s [] → (s .log .undo ≡ [] → ⊥) → (c : ℕ)
       → (c′ : ℕ) × (afterOne C (withCursor (afterUndo C 1 s) c) ≡ withCursor s c′)
-  unfolding undoOut Retraced
+  unfolding undoOut WalkedBack
   back-forth C s [] q h v ne c = absurd (ne q)
   back-forth C s (x ∷ u) q h v ne c =
       let z = subst (λ (l : List Change). At R F Q t₀ (v .goal) 0 l (s .log .redo) (s .text)) q (at s v) in
       let e : 1 - 1 ≡ 0 = omega arith in
-      let b : Retraced C 0 (s .log .undo) (s .log .redo) (s .text) (undoWalk C 1 s) = rw (e, q) (retrace R F Q C t₀ (v .goal) h x u (s .log .redo) 0 (trailOf s) z) in
+      let b : WalkedBack C 0 (s .log .undo) (s .log .redo) (s .text) (undoWalk C 1 s) = rw (e, q) (walk-back R F Q C t₀ (v .goal) h x u (s .log .redo) 0 (trailOf s) z) in
       let r = b (record { text = []; cursor = c; undone = false }) in
       (r .0 .cursor, ap (λ (w : Walked). redoneState w (s .log .level)) (r .1))
 

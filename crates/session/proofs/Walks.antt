@@ -15,7 +15,7 @@ use Rattle.unicode.specs.Text.{isText}
 use Rattle.journal.specs.Change.{insert, delete, replace, Change, begin, end, edit, place, old, flipped, turn}
 use Rattle.journal.specs.Layout.{Format, top}
 use Rattle.journal.specs.Undo.{small, allSmall}
-use Rattle.journal.proofs.Groups.{turn-turn}
+use Rattle.journal.proofs.Newest.{turn-turn}
 use Rattle.retrace.specs.Retrace.{Trail, Tried, done, stops, undoing}
 use Rattle.undo.specs.Undo.{Waiting, owed, passing, settled, Walked, onTried, onSettled, walk}
 use Rattle.session.proofs.Invariant.{Nest, Bound, Chain}
@@ -74,17 +74,17 @@ goes-on C zero r u s = refl
 goes-on C (suc d) r u s = refl
 
 -- from where the walk w ended, a walk of one unit comes back to the place where w began, whatever the cursor between
-unfoldable pub Retraced : (C d : ℕ) (u r : List Change) (t : List ℕ) → Walked → Type 0
-Retraced C d u r t w = (c : Trail) → (c′ : Trail) × (walk C 0 (owed 0) (w .to) (w .from) (withText (w .trail .text) c) ≡ goesOn C d r u (withText t c′))
+unfoldable pub WalkedBack : (C d : ℕ) (u r : List Change) (t : List ℕ) → Walked → Type 0
+WalkedBack C d u r t w = (c : Trail) → (c′ : Trail) × (walk C 0 (owed 0) (w .to) (w .from) (withText (w .trail .text) c) ≡ goesOn C d r u (withText t c′))
 
--- what is retraced from behind a record is retraced from before it
-retraced : (C d d′ : ℕ) (x : Change) (u r : List Change) (t : List ℕ) (s : Trail)
+-- a walk back from behind a record is one from before it
+walked-back : (C d d′ : ℕ) (x : Change) (u r : List Change) (t : List ℕ) (s : Trail)
     → ((c : Trail) → (c′ : Trail) × (walk C 0 (owed d′) (turn x ∷ r) u (withText (s .text) c) ≡ goesOn C d r (x ∷ u) (withText t c′)))
-    → ((i : ℕ) → d′ ≡ suc i → Retraced C d′ u (turn x ∷ r) (s .text) (walk C 0 (owed d′) u (turn x ∷ r) s))
-    → Retraced C d (x ∷ u) r t (onSettled (settled (owed d′)) 0 (arrived u (turn x ∷ r) s) (λ i. walk C i (owed d′) u (turn x ∷ r) s))
-unfolding Retraced
-retraced C d zero x u r t s f g = f
-retraced C d (suc i) x u r t s f g = λ c. (f (g i refl c .0) .0, g i refl c .1 ∙ f (g i refl c .0) .1)
+    → ((i : ℕ) → d′ ≡ suc i → WalkedBack C d′ u (turn x ∷ r) (s .text) (walk C 0 (owed d′) u (turn x ∷ r) s))
+    → WalkedBack C d (x ∷ u) r t (onSettled (settled (owed d′)) 0 (arrived u (turn x ∷ r) s) (λ i. walk C i (owed d′) u (turn x ∷ r) s))
+unfolding WalkedBack
+walked-back C d zero x u r t s f g = f
+walked-back C d (suc i) x u r t s f g = λ c. (f (g i refl c .0) .0, g i refl c .1 ∙ f (g i refl c .0) .1)
 
 -- ---- walking on
 -- from where the walk w ended, k + 1 units more
@@ -222,17 +222,17 @@ module _ (R : Repertoire) (F : Format) (Q : List ℕ → Type 0) where
       (c′, rw (m .retried c .1, m .repassed, turn-turn x) (goes-on C d r (x ∷ u) (withText (s .text) c′)))
 
   -- a unit back and the same unit forth
-  pub retrace : (C : ℕ) (e e′ : List ℕ) → Bound Q C → (x : Change) (u r : List Change) (d : ℕ) (s : Trail) → At e e′ d (x ∷ u) r (s .text)
-      → Retraced C d (x ∷ u) r (s .text) (walk C 0 (owed d) (x ∷ u) r s)
+  pub walk-back : (C : ℕ) (e e′ : List ℕ) → Bound Q C → (x : Change) (u r : List Change) (d : ℕ) (s : Trail) → At e e′ d (x ∷ u) r (s .text)
+      → WalkedBack C d (x ∷ u) r (s .text) (walk C 0 (owed d) (x ∷ u) r s)
   unfolding walk
-  retrace C e e′ h x [] r d s z =
+  walk-back C e e′ h x [] r d s z =
       let m = move C e e′ d x [] r s h z in
       let n : m .depth ≡ 0 = m .at .nested in
-      rw (m .tried, m .passed) (retraced C d (m .depth) x [] r (s .text) (m .next) (forth C e e′ d x [] r s m) (λ i q. absurd (omega arith)))
-  retrace C e e′ h x (y ∷ u) r d s z =
+      rw (m .tried, m .passed) (walked-back C d (m .depth) x [] r (s .text) (m .next) (forth C e e′ d x [] r s m) (λ i q. absurd (omega arith)))
+  walk-back C e e′ h x (y ∷ u) r d s z =
       let m = move C e e′ d x (y ∷ u) r s h z in
       rw (m .tried, m .passed)
-      (retraced C d (m .depth) x (y ∷ u) r (s .text) (m .next) (forth C e e′ d x (y ∷ u) r s m) (λ i q. retrace C e e′ h y u (turn x ∷ r) (m .depth) (m .next) (m .at)))
+      (walked-back C d (m .depth) x (y ∷ u) r (s .text) (m .next) (forth C e e′ d x (y ∷ u) r s m) (λ i q. walk-back C e e′ h y u (turn x ∷ r) (m .depth) (m .next) (m .at)))
 
   -- ---- walking on: l + 1 units and then k + 1 are l + k + 2
   pub further : (C : ℕ) (e e′ : List ℕ) → Bound Q C → (k : ℕ) (u r : List Change) (l d : ℕ) (s : Trail) → At e e′ d u r (s .text)
@@ -300,10 +300,10 @@ forget-tried (done s) f f′ g h = refl
 forget-tried (stops k) f f′ g h = h k
 
 -- of a whole walk
-pub walk-hit : (C : ℕ) (u r : List Change) (l : ℕ) (w : Waiting) (t : List ℕ) (c : ℕ) (b b′ : Bool)
+pub walk-undone : (C : ℕ) (u r : List Change) (l : ℕ) (w : Waiting) (t : List ℕ) (c : ℕ) (b b′ : Bool)
     → forget (walk C l w u r (record { text = t; cursor = c; undone = b })) ≡ forget (walk C l w u r (record { text = t; cursor = c; undone = b′ }))
 unfolding walk undoing forget
-walk-hit C [] r l w t c b b′ = refl
-walk-hit C (begin ∷ u) r l w t c b b′ = forget-settled (settled (passing begin w)) l _ _ _ _ refl (λ i. walk-hit C u (end ∷ r) i (passing begin w) t c b b′)
-walk-hit C (end ∷ u) r l w t c b b′ = forget-settled (settled (passing end w)) l _ _ _ _ refl (λ i. walk-hit C u (begin ∷ r) i (passing end w) t c b b′)
-walk-hit C (edit x ∷ u) r l w t c b b′ = forget-tried (undoing C (edit x) (record { text = t; cursor = c; undone = b })) _ _ _ (λ i. refl)
+walk-undone C [] r l w t c b b′ = refl
+walk-undone C (begin ∷ u) r l w t c b b′ = forget-settled (settled (passing begin w)) l _ _ _ _ refl (λ i. walk-undone C u (end ∷ r) i (passing begin w) t c b b′)
+walk-undone C (end ∷ u) r l w t c b b′ = forget-settled (settled (passing end w)) l _ _ _ _ refl (λ i. walk-undone C u (begin ∷ r) i (passing end w) t c b b′)
+walk-undone C (edit x ∷ u) r l w t c b b′ = forget-tried (undoing C (edit x) (record { text = t; cursor = c; undone = b })) _ _ _ (λ i. refl)

@@ -8,7 +8,7 @@ use lib.ListN.{length}
 use Rattle.unicode.specs.Repertoire.{Repertoire}
 use Rattle.journal.specs.Layout.{Format}
 use Rattle.changeset.specs.Calls.{logOf}
-use Rattle.edit.specs.Plan.{State, Outcome, refused, answered}
+use Rattle.edit.specs.Plan.{State, Outcome, refused, answered, numberIn}
 use Rattle.edit.specs.Calls.{Lent, lent, Stored}
 use Rattle.session.specs.Calls.{Asked, edit, move, begin, end, lastInsert, undo, redo, cancel, outcomeOf}
 
@@ -52,10 +52,6 @@ step R F c s = outcomeOf R F (lentFor F s (c .buffers)) (c .asked)
 abbrev pub leaves : Outcome → State → State
 leaves (refused k) s = s
 leaves (answered k a b s′) s = s′
-
-abbrev pub numberIn : Outcome → ℕ
-numberIn (refused k) = k
-numberIn (answered k a b s) = k
 
 unfoldable pub run : Repertoire → Format → List Call → State → State
 run R F [] s = s

@@ -1,4 +1,4 @@
 pub mod Newlines
 pub mod White
-pub mod Ranges
+pub mod Spans
 pub mod Walks

@@ -1,6 +1,6 @@
 -- The \n of a text: the last one at or after a place, and the lines that they split a text into. Assumes nothing.
-use mathlib.Core.Path.{_≡_, refl, sym, ap, subst, _∙_}
-use mathlib.Core.Bool.{true, false, cond, not}
+use mathlib.Core.Path.{_≡_, refl, sym, ap, _∙_}
+use mathlib.Core.Bool.{true, false, cond}
 use mathlib.Core.List.{List, [], _∷_}
 use Prim.Native.Nat.{ℕ, suc, _+_, _-_, _<_, _≤_}
 use native.Mathlib.Omega.{arith}
@@ -8,17 +8,16 @@ use native.Mathlib.Numerals.{add-one}
 use lib.ListN.{length, getD, take, drop, length-drop, drop-of-length-le}
 use lib.Seq.{drop-cons, drop-drop, getD-drop, take-all}
 use borrow.Author.Tests.{eq-eqb, ne-eqb, eqb-true}
-use Rattle.lists.proofs.Bools.{by-less, by-test}
-use Rattle.utf8.specs.Utf8.{tail}
+use Rattle.lists.specs.Lists.{any}
+use Rattle.lists.proofs.Bools.{by-test}
 use Rattle.utf8.specs.Chars.{valid, boundary}
-use Rattle.utf8.proofs.Forms.{within-below}
-use Rattle.utf8.proofs.Boundary.{boundary-test, boundary-end}
 use Rattle.lines.specs.Lines.{newline, beforeNewline, endOfLine}
-use Rattle.touched_lines.specs.Touched.{hasAny, beforeLast, lastNewline, onFirst, split}
+use Rattle.lines.proofs.Places.{end-place}
+use Rattle.touched_lines.specs.Touched.{beforeLast, lastNewline, onFirst, split}
 
 -- ---- the last \n
-none-last : (x : List ℕ) → hasAny x ≡ false → beforeLast x ≡ length x
-unfolding hasAny beforeLast
+none-last : (x : List ℕ) → any newline x ≡ false → beforeLast x ≡ length x
+unfolding beforeLast
 none-last [] e = refl
 none-last (b ∷ s) e =
     by-test _ (newline b)
@@ -31,7 +30,7 @@ last-le [] = omega arith
 last-le (b ∷ s) =
     let r = last-le s in
     by-test _ (newline b)
-    (λ t. by-test _ (hasAny s) (λ u. rw (t, u) (omega arith)) (λ u. rw (t, u) (omega arith)))
+    (λ t. by-test _ (any newline s) (λ u. rw (t, u) (omega arith)) (λ u. rw (t, u) (omega arith)))
     (λ t. rw t (omega arith))
 
 last-there : (x : List ℕ) → beforeLast x < length x → getD x (beforeLast x) 256 ≡ 0x0A
@@ -39,7 +38,7 @@ unfolding beforeLast
 last-there [] h = absurd (omega arith)
 last-there (b ∷ s) h =
     by-test _ (newline b)
-    (λ t. by-test _ (hasAny s)
+    (λ t. by-test _ (any newline s)
     (λ u. let g : suc (beforeLast s) < suc (length s) = rw (t, u) at h in rw (t, u) (last-there s (omega arith)))
     (λ u. rw (t, u) (eqb-true b 0x0A t)))
     (λ t. let g : suc (beforeLast s) < suc (length s) = rw t at h in rw t (last-there s (omega arith)))
@@ -47,25 +46,25 @@ last-there (b ∷ s) h =
 module _ (s : List ℕ) where
   -- the last \n from i on, another place where there is none
   abbrev pub lastFrom : ℕ → ℕ → ℕ
-  lastFrom i last = cond (hasAny (drop i s)) (i + beforeLast (drop i s)) last
+  lastFrom i last = cond (any newline (drop i s)) (i + beforeLast (drop i s)) last
 
   pub last-all : (pos : ℕ) → pos ≤ length s → lastNewline s pos ≡ lastFrom pos (length s)
   last-all pos h =
-      by-test _ (hasAny (drop pos s)) (λ t. rw t) (λ t. rw t (let b = none-last (drop pos s) t in omega (arith, length-drop pos s)))
+      by-test _ (any newline (drop pos s)) (λ t. rw t) (λ t. rw t (let b = none-last (drop pos s) t in omega (arith, length-drop pos s)))
 
   here : (i last : ℕ) → i < length s → getD s i 256 ≡ 0x0A → lastFrom i last ≡ lastFrom (i + 1) i
-  unfolding hasAny beforeLast
+  unfolding beforeLast
   here i last h e =
-      ap (λ (x : List ℕ). cond (hasAny x) (i + beforeLast x) last) (drop-cons s i 256 h)
+      ap (λ (x : List ℕ). cond (any newline x) (i + beforeLast x) last) (drop-cons s i 256 h)
       ∙ rw (eq-eqb (getD s i 256) 0x0A e, add-one i)
-      (by-test _ (hasAny (drop (suc i) s)) (λ t. rw t (omega arith)) (λ t. rw t (omega arith)))
+      (by-test _ (any newline (drop (suc i) s)) (λ t. rw t (omega arith)) (λ t. rw t (omega arith)))
 
   on : (i last : ℕ) → i < length s → (getD s i 256 ≡ 0x0A → ⊥) → lastFrom i last ≡ lastFrom (i + 1) last
-  unfolding hasAny beforeLast
+  unfolding beforeLast
   on i last h e =
-      ap (λ (x : List ℕ). cond (hasAny x) (i + beforeLast x) last) (drop-cons s i 256 h)
+      ap (λ (x : List ℕ). cond (any newline x) (i + beforeLast x) last) (drop-cons s i 256 h)
       ∙ rw (ne-eqb (getD s i 256) 0x0A e, add-one i)
-      (by-test _ (hasAny (drop (suc i) s)) (λ t. rw t (omega arith)) (λ t. rw t))
+      (by-test _ (any newline (drop (suc i) s)) (λ t. rw t (omega arith)) (λ t. rw t))
 
   -- r is what the place becomes
   pub last-here : (i last r : ℕ) → i < length s → getD s i 256 ≡ 0x0A → r ≡ i → lastFrom i last ≡ lastFrom (i + 1) r
@@ -75,8 +74,7 @@ module _ (s : List ℕ) where
   last-on i last r h e q = on i last h e ∙ ap (lastFrom (i + 1)) (sym q)
 
   pub last-end : (i last : ℕ) → length s ≤ i → lastFrom i last ≡ last
-  unfolding hasAny
-  last-end i last h = ap (λ (x : List ℕ). cond (hasAny x) (i + beforeLast x) last) (drop-of-length-le s h)
+  last-end i last h = ap (λ (x : List ℕ). cond (any newline x) (i + beforeLast x) last) (drop-of-length-le s h)
 
   pub last-in : (pos : ℕ) → pos ≤ length s → (pos ≤ lastNewline s pos) × (lastNewline s pos ≤ length s)
   last-in pos h = let b = last-le (drop pos s) in omega (arith, length-drop pos s)
@@ -86,13 +84,7 @@ module _ (s : List ℕ) where
 
   -- a boundary
   pub last-place : (pos : ℕ) → valid s ≡ true → pos ≤ length s → boundary s (lastNewline s pos) ≡ true
-  last-place pos v h =
-      by-less _ (lastNewline s pos) (length s)
-      (λ l. boundary-test s (lastNewline s pos) v ∙ ap (λ (x : ℕ). not (tail x)) (last-newline pos h l) ∙ ap not (within-below 0x80 0xBF 0x0A (omega arith)))
-      (λ l.
-      let b = last-in pos h in
-      let q : length s ≡ lastNewline s pos = omega arith in
-      subst (λ (x : ℕ). boundary s x ≡ true) q (boundary-end s v))
+  last-place pos v h = end-place s (lastNewline s pos) v (last-in pos h .1) (last-newline pos h)
 
 -- ---- the lines of a text
 split-last : (x : List ℕ) → length x ≤ beforeNewline x → split x ≡ x ∷ []

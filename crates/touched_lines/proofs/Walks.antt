@@ -1,21 +1,21 @@
 -- The lines of a part, one at a time: the line that begins at i ends at e, and d of its bytes are cut. Assumes nothing.
-use mathlib.Core.Path.{_≡_, refl, sym, ap, _∙_}
+use mathlib.Core.Path.{_≡_, refl, sym, ap, subst, _∙_}
 use mathlib.Core.Bool.{Bool, true, false, cond, not, _||_}
-use mathlib.Core.List.{List, [], _∷_, _++_}
+use mathlib.Core.List.{List, [], _∷_}
 use Prim.Native.Nat.{ℕ, suc, _+_, _-_, _<_, _≤_}
 use native.Mathlib.Omega.{arith}
+use native.Mathlib.Numerals.{add-one}
 use lib.Dec.{ltb}
 use lib.ListN.{length, getD, take, drop, length-drop}
-use lib.Seq.{drop-cons, drop-drop, getD-drop, take-all, length-take-le}
+use lib.Seq.{drop-drop, getD-drop, take-all, length-take-le}
 use borrow.Author.Tests.{lt-ltb, le-ltb}
 use Rattle.lists.proofs.Bools.{by-less}
-use Rattle.utf8.specs.Utf8.{tail, first, firstOf, one as oneByte}
+use Rattle.utf8.specs.Utf8.{first, firstOf, one as oneByte}
 use Rattle.utf8.specs.Chars.{validFrom, valid, boundary}
-use Rattle.utf8.proofs.Forms.{within-below}
-use Rattle.utf8.proofs.Append.{valid-append, valid-cut}
-use Rattle.utf8.proofs.Boundary.{boundary-test}
+use Rattle.utf8.proofs.Append.{valid-cut}
 use Rattle.unicode.specs.Repertoire.{Repertoire}
 use Rattle.lines.specs.Lines.{endOfLine}
+use Rattle.lines.proofs.Places.{newline-place}
 use Rattle.lines.proofs.Lines.{end-le, end-newline}
 use Rattle.touched_lines.specs.Touched.{split, deleting, splits}
 use Rattle.touched_lines.specs.Counts.{cutsIn, bytesIn}
@@ -26,11 +26,10 @@ unfolding validFrom first firstOf oneByte
 newline-valid = refl
 
 -- a text cut before a \n, and behind it
-pub newline-cut : (x : List ℕ) (k : ℕ) → valid x ≡ true → k < length x → getD x k 256 ≡ 0x0A → (boundary x k ≡ true) × (valid (drop (suc k) x) ≡ true)
-newline-cut x k v h e =
-    let b : boundary x k ≡ true = boundary-test x k v ∙ ap (λ (y : ℕ). not (tail y)) e ∙ ap not (within-below 0x80 0xBF 0x0A (omega arith)) in
-    let d : drop k x ≡ (0x0A ∷ []) ++ drop (suc k) x = drop-cons x k 256 h ∙ ap (λ (y : ℕ). y ∷ drop (suc k) x) e in
-    (b, sym (valid-append (0x0A ∷ []) (drop (suc k) x) newline-valid) ∙ ap valid (sym d) ∙ sym (valid-cut x k b) ∙ v)
+newline-cut : (x : List ℕ) (k : ℕ) → valid x ≡ true → getD x k 256 ≡ 0x0A → (boundary x k ≡ true) × (valid (drop (suc k) x) ≡ true)
+newline-cut x k v e =
+    let p = newline-place x k v e in
+    (p .0, subst (λ (n : ℕ). valid (drop n x) ≡ true) (add-one k) (sym (valid-cut x (k + 1) (p .1)) ∙ v))
 
 module _ (p : List ℕ) (i e : ℕ) (h : i ≤ length p) (q : e ≡ endOfLine p i) where
   pub line-in : (i ≤ e) × (e ≤ length p)
@@ -49,14 +48,14 @@ module _ (p : List ℕ) (i e : ℕ) (h : i ≤ length p) (q : e ≡ endOfLine p 
   line-valid v =
       let z = line-in in
       by-less _ e (length p)
-      (λ l. newline-cut (drop i p) (e - i) v (omega (arith, length-drop i p)) (there l) .0)
+      (λ l. newline-cut (drop i p) (e - i) v (there l) .0)
       (λ l. ap valid (take-all (e - i) (drop i p) (omega (arith, length-drop i p))) ∙ v)
 
   pub rest-valid : valid (drop i p) ≡ true → e < length p → valid (drop (e + 1) p) ≡ true
   rest-valid v l =
       let z = line-in in
       let j : i + suc (e - i) ≡ e + 1 = omega arith in
-      ap valid (sym (drop-drop (suc (e - i)) i p ∙ ap (λ (k : ℕ). drop k p) j)) ∙ newline-cut (drop i p) (e - i) v (omega (arith, length-drop i p)) (there l) .1
+      ap valid (sym (drop-drop (suc (e - i)) i p ∙ ap (λ (k : ℕ). drop k p) j)) ∙ newline-cut (drop i p) (e - i) v (there l) .1
 
   module _ (R : Repertoire) (m d : ℕ) (f : d ≡ deleting R m (take (e - i) (drop i p))) where
     -- ---- check 6

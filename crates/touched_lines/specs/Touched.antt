@@ -1,9 +1,10 @@
--- The lines that a movement's range touches, and the white space that they begin with: line_buffer.rs, indent.
+-- The lines that a movement touches, and the white space that they begin with: line_buffer.rs, indent.
 use Prim.Native.Nat.{ℕ, suc, _+_}
 use mathlib.Core.Bool.{Bool, false, cond, not, _||_}
 use mathlib.Core.List.{List, [], _∷_}
 use lib.Dec.{ltb}
 use lib.ListN.{length, drop}
+use Rattle.lists.specs.Lists.{any}
 use Rattle.utf8.specs.Chars.{chars, boundary}
 use Rattle.utf8.specs.Encode.{size}
 use Rattle.unicode.specs.Repertoire.{Repertoire}
@@ -14,55 +15,50 @@ use Rattle.lines.specs.Lines.{newline, startOfLine, nLinesUp, nLinesDown}
 use Rattle.lines.specs.declared.Range.{Range}
 use Rattle.lines.specs.declared.Range.the-variants.{Places, Nowhere}
 use Rattle.copies.specs.Copy.{upTo, backTo}
-use Rattle.touched_lines.specs.declared.Span.{Span}
+use Rattle.lines.specs.declared.Span.{Span}
 
 -- ---- the lines
 abbrev pub span : ℕ → ℕ → Span
-span a b = record { from = a; to = b }
+span a b = record { start = a; end = b }
 
--- a range, the cursor twice where it is nowhere
+-- the span of a range, the cursor twice where it is nowhere
 abbrev pub orCursor : ℕ → Range → Span
 orCursor pos (Places a b) = span a b
 orCursor pos Nowhere = span pos pos
 
--- the range of a movement: for one that stays within a line it is the cursor
-abbrev pub rangeOf : Repertoire → List ℕ → ℕ → Movement → Span
-rangeOf R s pos m.WholeLine = span pos pos
-rangeOf R s pos m.BeginningOfLine = span pos pos
-rangeOf R s pos m.EndOfLine = span pos pos
-rangeOf R s pos (m.BackwardWord n w) = orCursor pos (backTo pos 0 (prevWordPos R s pos w n))
-rangeOf R s pos (m.ForwardWord n at w) = orCursor pos (upTo pos 0 (nextWordPos R s pos at w n))
-rangeOf R s pos (m.ViCharSearch n cs) = span pos pos
-rangeOf R s pos m.ViFirstPrint = span pos pos
-rangeOf R s pos (m.BackwardChar n) = span pos pos
-rangeOf R s pos (m.ForwardChar n) = span pos pos
-rangeOf R s pos (m.LineUp n) = orCursor pos (nLinesUp s pos n)
-rangeOf R s pos (m.LineDown n) = orCursor pos (nLinesDown s pos n)
-rangeOf R s pos m.WholeBuffer = span 0 (length s)
-rangeOf R s pos m.BeginningOfBuffer = span 0 pos
-rangeOf R s pos m.EndOfBuffer = span pos (length s)
-
--- is there a \n?
-unfoldable pub hasAny : List ℕ → Bool
-hasAny [] = false
-hasAny (b ∷ s) = newline b || hasAny s
+-- the span of a movement: for one that stays within a line it is the cursor
+abbrev pub spanOf : Repertoire → List ℕ → ℕ → Movement → Span
+spanOf R s pos m.WholeLine = span pos pos
+spanOf R s pos m.BeginningOfLine = span pos pos
+spanOf R s pos m.EndOfLine = span pos pos
+spanOf R s pos (m.BackwardWord n w) = orCursor pos (backTo pos 0 (prevWordPos R s pos w n))
+spanOf R s pos (m.ForwardWord n at w) = orCursor pos (upTo pos 0 (nextWordPos R s pos at w n))
+spanOf R s pos (m.ViCharSearch n cs) = span pos pos
+spanOf R s pos m.ViFirstPrint = span pos pos
+spanOf R s pos (m.BackwardChar n) = span pos pos
+spanOf R s pos (m.ForwardChar n) = span pos pos
+spanOf R s pos (m.LineUp n) = orCursor pos (nLinesUp s pos n)
+spanOf R s pos (m.LineDown n) = orCursor pos (nLinesDown s pos n)
+spanOf R s pos m.WholeBuffer = span 0 (length s)
+spanOf R s pos m.BeginningOfBuffer = span 0 pos
+spanOf R s pos m.EndOfBuffer = span pos (length s)
 
 -- the bytes before the last \n, all of them where there is none
 unfoldable pub beforeLast : List ℕ → ℕ
 beforeLast [] = 0
-beforeLast (b ∷ s) = cond (newline b) (cond (hasAny s) (suc (beforeLast s)) 0) (suc (beforeLast s))
+beforeLast (b ∷ s) = cond (newline b) (cond (any newline s) (suc (beforeLast s)) 0) (suc (beforeLast s))
 
 -- at the last \n of the text at or after a place, the text's end where there is none
 abbrev pub lastNewline : List ℕ → ℕ → ℕ
 lastNewline s pos = pos + beforeLast (drop pos s)
 
--- from the start of the line in which the range starts up to the last \n at or after its end
+-- from the start of the line in which the span starts up to the last \n at or after its end
 abbrev pub wholeLines : List ℕ → Span → Span
-wholeLines s r = span (startOfLine s (r .from)) (lastNewline s (r .to))
+wholeLines s r = span (startOfLine s (r .start)) (lastNewline s (r .end))
 
 -- the lines that a movement touches: where they begin and end in the text
 abbrev pub touched : Repertoire → List ℕ → ℕ → Movement → Span
-touched R s pos mvt = wholeLines s (rangeOf R s pos mvt)
+touched R s pos mvt = wholeLines s (spanOf R s pos mvt)
 
 -- a part's lines, split at each \n: there is always one
 abbrev pub onFirst : ℕ → List (List ℕ) → List (List ℕ)

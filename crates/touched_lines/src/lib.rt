@@ -6,10 +6,11 @@ ghost use Prim.Native.Nat.{_≤_};
 ghost use lib.ListN.{length};
 ghost use Rattle.utf8.specs.Chars.{valid, boundary};
 ghost use Rattle.unicode.specs.Repertoire.{catalogue};
-ghost use Rattle.touched_lines.specs.Touched.{orCursor, rangeOf, lastNewline, touched as Touched·touched, split, deleting as Touched·deleting, splits as Touched·splits};
+ghost use Rattle.touched_lines.specs.Touched.{orCursor, spanOf, lastNewline, touched as Touched·touched, split, deleting as Touched·deleting, splits as Touched·splits};
 ghost use Rattle.touched_lines.specs.Counts.{cutsIn, bytesIn};
 use keymap::Movement;
 use lines::Range;
+use lines::Span;
 use lines::end_of_line;
 use lines::n_lines_down;
 use lines::n_lines_up;
@@ -21,12 +22,6 @@ use utf8::decode_at;
 use utf8::is_boundary;
 use words::next_word_pos;
 use words::prev_word_pos;
-
-// Two places of a text.
-pub struct Span {
-    pub from: usize,
-    pub to: usize,
-}
 
 // At the last \n at or after a place, the text's end where there is none.
 fn last_newline(s: &[u8], pos: usize) -> usize
@@ -44,47 +39,71 @@ fn last_newline(s: &[u8], pos: usize) -> usize
     last
 }
 
-// A range, the cursor twice where it is nowhere.
+// The span of a range, the cursor twice where it is nowhere.
 fn or_cursor(pos: usize, r: Range) -> Span
     ensures { λ r0. ⌜ r0 ≡ orCursor pos r ⌝ }
 {
     match r {
-        Range::Places(a, b) => Span { from: a, to: b },
-        Range::Nowhere => Span { from: pos, to: pos },
+        Range::Places(a, b) => Span { start: a, end: b },
+        Range::Nowhere => Span {
+            start: pos,
+            end: pos,
+        },
     }
 }
 
-// The range of a movement.
-fn range_of(s: &[u8], pos: usize, m: Movement) -> Span
+// The span of a movement.
+fn span_of(s: &[u8], pos: usize, m: Movement) -> Span
     requires { ⌜ (valid (now s) ≡ true) × (boundary (now s) pos ≡ true) × (pos ≤ length (now s)) ⌝ }
-    ensures { λ r. ⌜ r ≡ rangeOf catalogue (now (s .entry)) pos m ⌝ }
+    ensures { λ r. ⌜ r ≡ spanOf catalogue (now (s .entry)) pos m ⌝ }
 {
     match m {
-        Movement::WholeLine => Span { from: pos, to: pos },
-        Movement::BeginningOfLine => Span { from: pos, to: pos },
-        Movement::EndOfLine => Span { from: pos, to: pos },
+        Movement::WholeLine => Span {
+            start: pos,
+            end: pos,
+        },
+        Movement::BeginningOfLine => Span {
+            start: pos,
+            end: pos,
+        },
+        Movement::EndOfLine => Span {
+            start: pos,
+            end: pos,
+        },
         Movement::BackwardWord(n, w) => Span {
-            from: or_stay(pos, prev_word_pos(s, pos, w, n)),
-            to: pos,
+            start: or_stay(pos, prev_word_pos(s, pos, w, n)),
+            end: pos,
         },
         Movement::ForwardWord(n, at, w) => Span {
-            from: pos,
-            to: or_stay(pos, next_word_pos(s, pos, at, w, n)),
+            start: pos,
+            end: or_stay(pos, next_word_pos(s, pos, at, w, n)),
         },
-        Movement::ViCharSearch(_, _) => Span { from: pos, to: pos },
-        Movement::ViFirstPrint => Span { from: pos, to: pos },
-        Movement::BackwardChar(_) => Span { from: pos, to: pos },
-        Movement::ForwardChar(_) => Span { from: pos, to: pos },
+        Movement::ViCharSearch(_, _) => Span {
+            start: pos,
+            end: pos,
+        },
+        Movement::ViFirstPrint => Span {
+            start: pos,
+            end: pos,
+        },
+        Movement::BackwardChar(_) => Span {
+            start: pos,
+            end: pos,
+        },
+        Movement::ForwardChar(_) => Span {
+            start: pos,
+            end: pos,
+        },
         Movement::LineUp(n) => or_cursor(pos, n_lines_up(s, pos, n)),
         Movement::LineDown(n) => or_cursor(pos, n_lines_down(s, pos, n)),
         Movement::WholeBuffer => Span {
-            from: 0,
-            to: s.len(),
+            start: 0,
+            end: s.len(),
         },
-        Movement::BeginningOfBuffer => Span { from: 0, to: pos },
+        Movement::BeginningOfBuffer => Span { start: 0, end: pos },
         Movement::EndOfBuffer => Span {
-            from: pos,
-            to: s.len(),
+            start: pos,
+            end: s.len(),
         },
     }
 }
@@ -94,12 +113,12 @@ pub fn touched(s: &[u8], pos: usize, m: Movement) -> Span
     requires { ⌜ (valid (now s) ≡ true) × (boundary (now s) pos ≡ true) × (pos ≤ length (now s)) ⌝ }
     ensures { λ r. ⌜ r ≡ Touched·touched catalogue (now (s .entry)) pos m ⌝ }
 {
-    let r = range_of(s, pos, m);
-    let from = r.from;
-    let to = r.to;
+    let r = span_of(s, pos, m);
+    let start = r.start;
+    let end = r.end;
     Span {
-        from: start_of_line(s, from),
-        to: last_newline(s, to),
+        start: start_of_line(s, start),
+        end: last_newline(s, end),
     }
 }
 

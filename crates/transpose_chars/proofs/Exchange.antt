@@ -4,14 +4,15 @@ use native.Mathlib.Omega.{arith}
 use mathlib.Core.Path.{_≡_, sym, ap, ap₂, subst, _∙_}
 use mathlib.Core.List.{List, [], _∷_}
 use lib.ListN.{length, take}
+use Rattle.lists.specs.Lists.{part}
 use Rattle.utf8.specs.Chars.{In}
 use Rattle.unicode.specs.Repertoire.{catalogue}
 use Rattle.unicode.proofs.Text.{text-valid}
 use Rattle.journal.specs.Layout.{narrow}
 use Rattle.edit.specs.declared.EditAnswer.{EditAnswer}
-use Rattle.edit.specs.Plan.{Piece, part, cutting, pasted, textAfter, AllSuit, edited}
+use Rattle.edit.specs.Plan.{Piece, cutting, pasted, textAfter, AllSuit, edited}
 use Rattle.edit.specs.Calls.{Lent, textOf, sizesOf, stateOf, says, Edited, Ready}
-use Rattle.edit.proofs.Once.{part-length}
+use Rattle.edit.proofs.Parts.{part-length}
 use Rattle.edit.proofs.Cursor.{cursor-kept, cursor-moved, text-there, used-there}
 use Rattle.edit.proofs.Made.{edited-as}
 use Rattle.places.specs.Places.{onFrom, backFrom}

@@ -1,6 +1,5 @@
 pub mod Starts
 pub mod Suits
-pub mod Copied
 pub mod Exchange
 pub mod Begins
 pub mod Plans

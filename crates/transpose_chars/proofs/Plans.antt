@@ -9,8 +9,7 @@ use Rattle.unicode.specs.Text.{isText}
 use Rattle.unicode.proofs.Text.{text-valid}
 use Rattle.motion.specs.declared.Found.{Found}
 use Rattle.motion.specs.declared.Found.the-variants.{At, Nothing}
-use Rattle.edit.specs.Plan.{nothing}
-use Rattle.edit.proofs.Suits.{PlanSuits, nothing-suits, nothing-cursor}
+use Rattle.edit.proofs.Suits.{PlanSuits, nothing-plan}
 use Rattle.transpose_chars.specs.TransposeChars.{startsAt, exchangeAt, transposeCharsPlan}
 use Rattle.transpose_chars.proofs.Suits.{exchange-suits, exchange-cursor}
 use Rattle.transpose_chars.proofs.Begins.{starts-in}
@@ -19,12 +18,9 @@ module _ (R : Repertoire) (t : List ℕ) (is : isText R t ≡ true) (pos : ℕ) 
   v : valid t ≡ true
   v = text-valid R t is
 
-  stay : PlanSuits R t (nothing pos)
-  stay = (nothing-suits R t pos, nothing-cursor R t pos i)
-
   chars-end : (f : Found) → f ≡ startsAt R t pos → PlanSuits R t (exchangeAt R t pos f)
   chars-end (At p) e = let k = starts-in R t v pos i (At p) p e refl in (exchange-suits R t is p k, exchange-cursor R t is p k)
-  chars-end Nothing e = stay
+  chars-end Nothing e = nothing-plan R t pos i
 
   pub transpose-chars-suits : PlanSuits R t (transposeCharsPlan R t pos)
   transpose-chars-suits = chars-end (startsAt R t pos) refl

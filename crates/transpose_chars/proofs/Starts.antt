@@ -10,10 +10,10 @@ use borrow.Author.Tests.{lt-leb, le-leb, le-ltb}
 use Rattle.lists.proofs.Bools.{by-less}
 use Rattle.utf8.specs.Chars.{valid}
 use Rattle.unicode.specs.Repertoire.{Repertoire}
-use Rattle.cluster.specs.Clusters.{clustersOf, bytes}
+use Rattle.cluster.specs.Clusters.{clustersOf, firstCluster, firstSize}
 use Rattle.cluster.specs.Facts.{facts}
 use Rattle.cluster.specs.declared.Cluster.{Cluster}
-use Rattle.cluster.proofs.Steps.{firstCluster, step-none, step-one, step-two}
+use Rattle.cluster.proofs.Steps.{step-none, step-one, step-two}
 use Rattle.motion.specs.declared.Found.the-variants.{At, Nothing}
 use Rattle.places.specs.Places.{backFrom}
 use Rattle.transpose_chars.specs.TransposeChars.{startsAt}
@@ -21,7 +21,7 @@ use Rattle.transpose_chars.specs.TransposeChars.{startsAt}
 -- ---- fewer than two clusters: the first one is the whole text
 module _ (R : Repertoire) (t : List ℕ) where
   abbrev m : ℕ
-  m = bytes (firstCluster R t)
+  m = firstSize R t
 
   none-two : m ≡ 0 → length t ≤ m → leb (length t) m ≡ ltb (length (clustersOf R t)) 2
   none-two z l = le-leb (length t) m l ∙ sym (ap (λ (ks : List (List ℕ)). ltb (length ks) 2) (step-none R t z))

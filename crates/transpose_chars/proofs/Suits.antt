@@ -1,17 +1,18 @@
--- The plan suits the text, and leaves the cursor between characters: over any repertoire. Assumes nothing.
+-- Two clusters exchanged suit the text, and leave the cursor between characters: over any repertoire. Assumes nothing.
 use Prim.Native.Nat.{ℕ, _+_}
 use native.Mathlib.Omega.{arith}
 use mathlib.Core.Path.{_≡_}
 use mathlib.Core.Bool.{true}
 use mathlib.Core.List.{List, []}
 use lib.ListN.{length}
+use Rattle.lists.specs.Lists.{part}
 use Rattle.utf8.specs.Chars.{valid, In}
 use Rattle.unicode.specs.Repertoire.{Repertoire}
 use Rattle.unicode.specs.Text.{isText}
 use Rattle.unicode.proofs.Text.{text-valid, text-nil}
-use Rattle.edit.specs.Plan.{part, splice, textAfter, AllSuit}
-use Rattle.edit.proofs.Once.{part-text}
-use Rattle.edit.proofs.Pieces.{splice-text, splice-stays, splice-end}
+use Rattle.edit.specs.Plan.{splice, textAfter, AllSuit}
+use Rattle.edit.proofs.Parts.{part-text}
+use Rattle.edit.proofs.Splice.{splice-text, splice-stays, splice-end}
 use Rattle.places.specs.Places.{onFrom, backFrom}
 use Rattle.transpose_chars.specs.TransposeChars.{transposed, exchange}
 use Rattle.places.proofs.Stays.{on-place, back-place}

@@ -4,6 +4,7 @@ use mathlib.Core.Bool.{false, cond, _||_}
 use mathlib.Core.List.{List, [], _∷_}
 use lib.Dec.{eqb, ltb}
 use lib.ListN.{length}
+use Rattle.lists.specs.Lists.{part}
 use Rattle.unicode.specs.Repertoire.{Repertoire}
 use Rattle.cluster.specs.Clusters.{clustersOf}
 use Rattle.motion.specs.declared.Found.{Found}
@@ -11,7 +12,7 @@ use Rattle.motion.specs.declared.Found.the-variants.{At, Nothing}
 use Rattle.places.specs.Places.{onFrom, backFrom}
 use Rattle.checks.specs.Checks.{ownTests}
 use Rattle.journal.specs.Layout.{Format}
-use Rattle.edit.specs.Plan.{part, splice, pasted, cutting, Plan, nothing, Outcome}
+use Rattle.edit.specs.Plan.{splice, pasted, cutting, Plan, nothing, Outcome}
 use Rattle.edit.specs.Calls.{Lent, textOf, editCall}
 
 -- the cluster from p on is cut, and put in before the one in front of it; the cursor goes behind both

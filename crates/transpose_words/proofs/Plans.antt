@@ -9,7 +9,7 @@ use Rattle.utf8.specs.Chars.{valid, In}
 use Rattle.unicode.specs.Repertoire.{Repertoire}
 use Rattle.unicode.specs.Text.{isText}
 use Rattle.unicode.proofs.Text.{text-valid}
-use Rattle.edit.proofs.Suits.{PlanSuits, nothing-suits, nothing-cursor}
+use Rattle.edit.proofs.Suits.{PlanSuits, nothing-plan}
 use Rattle.word_pairs.specs.WordPairs.{wordsAround}
 use Rattle.transpose_words.specs.TransposeWords.{isOne, transposeWordsPlan}
 use Rattle.word_pairs.proofs.Four.{end1-in, words-suit, words-cursor}
@@ -23,5 +23,5 @@ module _ (R : Repertoire) (t : List ℕ) (is : isText R t ≡ true) (pos : ℕ) 
   transpose-words-suits n =
       let w = wordsAround R t n pos in
       by-test (PlanSuits R t (transposeWordsPlan R t n pos)) (isOne (wordsAround R t n pos))
-      (λ e. let k = end1-in R t v n pos i in rw e (nothing-suits R t (w .end1), nothing-cursor R t (w .end1) (omega arith, k .1, k .2, k .2)))
+      (λ e. let k = end1-in R t v n pos i in rw e (nothing-plan R t (w .end1) (omega arith, k .1, k .2, k .2)))
       (λ e. let p = words-apart R t n pos (wordsAround R t n pos) refl v i e in rw e (words-suit R t is (wordsAround R t n pos) p, words-cursor R t is (wordsAround R t n pos) p))

@@ -10,13 +10,14 @@ use borrow.Author.Tests.{leb-true, not-false}
 use Rattle.lists.proofs.Bools.{and-both, by-test}
 use Rattle.unicode.specs.Repertoire.{Repertoire, catalogue}
 use Rattle.unicode.specs.Text.{isText}
-use Rattle.unicode.proofs.Text.{text-nil, text-valid}
+use Rattle.unicode.proofs.Text.{text-valid}
 use Rattle.utf8.specs.Chars.{boundary, In}
-use Rattle.journal.proofs.Groups.{turn-turn}
-use Rattle.journal.specs.Change.{Edit, insert, delete, replace, Change, begin, end, edit, place, old, new, turn}
+use Rattle.journal.proofs.Newest.{turn-turn}
+use Rattle.journal.specs.Change.{insert, delete, replace, Change, begin, end, edit, place, old, new, turn}
 use Rattle.journal.specs.Layout.{Format, okChange, Good, AllGood}
 use Rattle.journal.specs.Groups as groups
 use Rattle.journal.proofs.Holds.{good-right}
+use Rattle.recording.proofs.Numbers.{ok-texts}
 use Rattle.changeset.specs.declared.Log.{Log}
 use Rattle.changeset.specs.Calls as log
 use Rattle.changeset.proofs.Recorded.{good}
@@ -24,7 +25,7 @@ use Rattle.edit.specs.Plan.{splice}
 use Rattle.edit.specs.Calls.{Lent, lent, logLent, stateOf, Ready}
 use Rattle.edit.proofs.Answers.{cursor-in}
 use Rattle.edit.proofs.Held.{state-held, state-ready}
-use Rattle.edit.proofs.Pieces.{splice-text, splice-end}
+use Rattle.edit.proofs.Splice.{splice-text, splice-end}
 use Rattle.retrace.specs.declared.Step.{Step}
 use Rattle.retrace.specs.Retrace.{Trail, Tried, done, stops, misfit, exchanging, undoing}
 use Rattle.retrace.specs.Records.{stepTo, Retraced}
@@ -86,18 +87,12 @@ module _ (R : Repertoire) where
       fit : In t p (p + n) → (isText R (splice t p (p + n) s) ≡ true) × In (splice t p (p + n) s) (p + length s) (p + length s)
       fit i = (splice-text t p (p + n) s i R v e, splice-end t p (p + n) s i (text-valid R s e))
 
-  -- what is put back is of the repertoire
-  old-text : (x : Edit) → okChange R (edit x) ≡ true → isText R (old x) ≡ true
-  old-text (insert p s) e = text-nil R
-  old-text (delete p s) e = e
-  old-text (replace p o n) e = and-both (isText R o) (isText R n) e .0
-
   -- a record undone
   undone-fits : (C : ℕ) (x : Change) (s : Trail) → okChange R x ≡ true → isText R (s .text) ≡ true → In (s .text) (s .cursor) (s .cursor) → Fits R (undoing C x s)
   unfolding undoing
   undone-fits C begin s k v i = (v, i)
   undone-fits C end s k v i = (v, i)
-  undone-fits C (edit x) s k v i = exchange-fits C (place x) (length (new x)) (old x) (s .text) v (old-text x k)
+  undone-fits C (edit x) s k v i = exchange-fits C (place x) (length (new x)) (old x) (s .text) v (ok-texts R x k .0)
 
 -- ---- the record x, which leads to the log w
 pub record Fine (F : Format) (x : Change) (w : groups.Log) : Type 0 where

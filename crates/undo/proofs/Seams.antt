@@ -12,14 +12,15 @@ use Rattle.journal.specs.Groups as groups
 use Rattle.journal.specs.Hold.{Holds}
 use Rattle.journal.specs.Undo.{undoRecords, undoTexts}
 use Rattle.journal.proofs.Decode.{record-pos}
-use Rattle.journal.proofs.Groups.{turn-turn, turned-back}
+use Rattle.journal.proofs.Newest.{turn-turn}
 use Rattle.journal.proofs.Holds.{seam-within, texts-within, seam-moved}
 use Rattle.journal.proofs.Undo.{records-size, texts-size}
 use Rattle.changeset.specs.declared.Log.{Log}
 use Rattle.changeset.specs.Calls as log
 use Rattle.changeset.proofs.Answers.{state, held-state, held-bytes}
-use Rattle.changeset.proofs.Recorded.{holding, records-used, texts-used}
+use Rattle.changeset.proofs.Recorded.{records-used, texts-used}
 use Rattle.edit.specs.Calls.{Lent, logLent, stateOf, Ready}
+use Rattle.edit.proofs.Answers.{hold}
 use Rattle.retrace.specs.Records.{SizesOf}
 use Rattle.undo.specs.Steps.{fromOf, passLog}
 use Rattle.undo.proofs.Rows.{Stands, stands}
@@ -53,7 +54,7 @@ module _ {F : Format} {l : Lent} (h : Ready F l) where
 
   -- the lists that the bytes hold, in the buffers
   pub held : Holds catalogue F (l .records) (l .texts) ur ut rr rt (reverse (v .undo)) (map turn (v .redo))
-  held = subst (λ (rs : List Change). Holds catalogue F (l .records) (l .texts) ur ut rr rt (reverse (v .undo)) rs) (sym (turned-back (log.redos catalogue F (logLent l)))) (holding F (logLent l) (h .log))
+  held = hold F l h
 
   -- the seam between two lists that make the same row
   seam : (u r : List Change) → reverse (v .undo) ++ map turn (v .redo) ≡ reverse u ++ map turn r → {at t : ℕ} → at ≡ length (encodeRecords F (reverse u)) → t ≡ length (encodeTexts (reverse u))

@@ -13,7 +13,7 @@ use Rattle.journal.specs.Undo.{undoRecords, undoTexts}
 use Rattle.changeset.specs.declared.Log.{Log}
 use Rattle.changeset.proofs.Answers.{state}
 use Rattle.edit.specs.Calls.{Lent, stateOf, Ready}
-use Rattle.journal.proofs.Groups.{turn-turn}
+use Rattle.journal.proofs.Newest.{turn-turn}
 use Rattle.retrace.specs.declared.Record.{Record}
 use Rattle.retrace.specs.declared.Step.{Step}
 use Rattle.retrace.specs.Retrace.{undoing, facing}

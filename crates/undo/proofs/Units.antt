@@ -10,7 +10,7 @@ use Rattle.journal.specs.Change.{Change, turn}
 use Rattle.journal.specs.Layout.{Format}
 use Rattle.changeset.specs.declared.Log.{Log}
 use Rattle.edit.specs.Plan.{State}
-use Rattle.edit.specs.Calls.{Lent, lent, stateOf, Ready}
+use Rattle.edit.specs.Calls.{Lent, lent, stateOf, says, Ready}
 use Rattle.edit.specs.declared.EditAnswer.{EditAnswer}
 use Rattle.retrace.specs.declared.Step.{Step}
 use Rattle.retrace.specs.Retrace.{Trail, done, undoing}
@@ -19,7 +19,7 @@ use Rattle.undo.specs.Undo.{Waiting, owed, passing, Walked, walk, number
 use Rattle.undo.specs.Steps.{trailBy, lineOf, fromOf, toOf, PassesOne}
 use Rattle.undo.proofs.Seams.{usedOf}
 use Rattle.undo.proofs.Counts.{Waits, settles, unsettled}
-use Rattle.undo.proofs.Walks.{walked, walk-end, walk-stop, walk-on, walk-last, walk-next, Come, come-first, answerBy, Ends, ended, stopped-there, stop-ended, goes, come-next, falls, from-there, to-there, trail-there, tried-there}
+use Rattle.undo.proofs.Walks.{walked, walk-end, walk-stop, walk-on, walk-last, walk-next, Come, come-first, Ends, ended, stopped-there, stop-ended, goes, come-next, falls, from-there, to-there, trail-there, tried-there}
 
 -- ---- a walk that is to come to W: n units more are to be done after this one
 pub record Walking (F : Format) (l₀ : Lent) (back : Bool) (W : Walked) (t : List ℕ) (s : Step) (g : Log) (n ends begins : ℕ) : Type 0 where
@@ -52,12 +52,12 @@ module _ {F : Format} {l₀ : Lent} {back : Bool} {W : Walked} {t : List ℕ} {s
   now = stateOf catalogue F (lent t (l₀ .records) (l₀ .texts) (lineOf s) g)
 
   -- no record is left
-  pub walked-all : fromOf back (now .log) ≡ [] → {r : EditAnswer} → r ≡ answerBy (numberOf (s .number) (s .undone)) (lineOf s) g → Ends F l₀ back W r t
+  pub walked-all : fromOf back (now .log) ≡ [] → {r : EditAnswer} → r ≡ says (numberOf (s .number) (s .undone)) (lineOf s) g → Ends F l₀ back W r t
   walked-all e q =
       ended back (k .come) (s .undone) 0
       (sym (k .same) ∙ ap (λ (f : List Change). walk (length (l₀ .text)) n (k .waiting) f (toOf back (now .log)) (trailBy now (s .undone))) e ∙ walk-end (length (l₀ .text)) n (k .waiting) (toOf back (now .log)) (trailBy now (s .undone))
       ∙ ap (λ (f : List Change). walked f (toOf back (now .log)) (trailBy now (s .undone)) 0) (sym e))
-      (q ∙ ap (λ (i : ℕ). answerBy (numberOf i (s .undone)) (lineOf s) g) (k .come .number))
+      (q ∙ ap (λ (i : ℕ). says (numberOf i (s .undone)) (lineOf s) g) (k .come .number))
 
   module _ {x : Change} {f : List Change} (e : fromOf back (now .log) ≡ x ∷ f) (p : Passed) (t′ : List ℕ) (o : PassesOne F (lent t (l₀ .records) (l₀ .texts) (lineOf s) g) back (s .undone) p t′) where
     -- the walk is at that record
@@ -65,7 +65,7 @@ module _ {F : Format} {l₀ : Lent} {back : Bool} {W : Walked} {t : List ℕ} {s
     at-record = sym (k .same) ∙ ap (λ (a : List Change). walk (length (l₀ .text)) n (k .waiting) a (toOf back (now .log)) (trailBy now (s .undone))) e
 
     -- a record stops it
-    pub walked-stop : (p .step .number ≡ 0 → ⊥) → {r : EditAnswer} → r ≡ answerBy (numberOf (p .step .number) (p .step .undone)) (lineOf (p .step)) (p .log) → Ends F l₀ back W r t′
+    pub walked-stop : (p .step .number ≡ 0 → ⊥) → {r : EditAnswer} → r ≡ says (numberOf (p .step .number) (p .step .undone)) (lineOf (p .step)) (p .log) → Ends F l₀ back W r t′
     walked-stop z q =
         stop-ended back (k .come) e p t′ o z
         (at-record
@@ -126,7 +126,7 @@ module _ {F : Format} {l₀ : Lent} {back : Bool} {W : Walked} {t : List ℕ} {s
             }
 
         -- it is done, and was the last
-        pub walked-last : ends′ ≤ begins′ → n ≡ 0 → {r : EditAnswer} → r ≡ answerBy (numberOf (p .step .number) (p .step .undone)) (lineOf (p .step)) (p .log) → Ends F l₀ back W r t′
+        pub walked-last : ends′ ≤ begins′ → n ≡ 0 → {r : EditAnswer} → r ≡ says (numberOf (p .step .number) (p .step .undone)) (lineOf (p .step)) (p .log) → Ends F l₀ back W r t′
         walked-last u v q =
             ended back come (p .step .undone) 0
             (at-record ∙ ap (λ (a : ℕ). walk (length (l₀ .text)) a (k .waiting) (x ∷ f) (toOf back (now .log)) (trailBy now (s .undone))) v
@@ -134,4 +134,4 @@ module _ {F : Format} {l₀ : Lent} {back : Bool} {W : Walked} {t : List ℕ} {s
             ∙ sym
             (ap₂ (λ (a b : List Change). walked a b (trailBy next (p .step .undone)) 0) (from-there back (k .come) e p t′ o i z) (to-there back (k .come) e p t′ o i z)
             ∙ ap (λ (a : Trail). walked f (turn x ∷ toOf back (now .log)) a 0) (trail-there back (k .come) e p t′ o i z)))
-            (q ∙ ap (λ (a : ℕ). answerBy (numberOf a (p .step .undone)) (lineOf (p .step)) (p .log)) z)
+            (q ∙ ap (λ (a : ℕ). says (numberOf a (p .step .undone)) (lineOf (p .step)) (p .log)) z)

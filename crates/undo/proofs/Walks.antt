@@ -11,12 +11,11 @@ use Rattle.lists.proofs.Bools.{never, and-both}
 use Rattle.unicode.specs.Repertoire.{catalogue}
 use Rattle.journal.specs.Change.{Change, turn}
 use Rattle.journal.specs.Layout.{Format}
-use Rattle.checks.specs.declared.Line.{Line}
 use Rattle.journal.specs.Groups as groups
 use Rattle.changeset.specs.declared.Log.{Log}
 use Rattle.changeset.specs.Calls as log
 use Rattle.edit.specs.Plan.{State, Outcome, answered}
-use Rattle.edit.specs.Calls.{Lent, lent, stateOf, Edited, Ready}
+use Rattle.edit.specs.Calls.{Lent, lent, stateOf, says, Edited, Ready}
 use Rattle.edit.specs.declared.EditAnswer.{EditAnswer}
 use Rattle.edit.proofs.Answers.{log-kept, length-kept, state-kept}
 use Rattle.retrace.specs.declared.Step.{Step}
@@ -111,24 +110,20 @@ come-first h = record { ready = h; number = refl; text = refl; level = refl }
 abbrev pub outOf : Bool → Walked → ℕ → Outcome
 outOf back w level = answered (numberOf (w .stopped) (w .trail .undone)) 0 0 (stateAt (w .trail) (logBy back (w .from) (w .to) level))
 
--- a number, a line and a log
-abbrev pub answerBy : ℕ → Line → Log → EditAnswer
-answerBy n a g = record { number = n; from = 0; to = 0; line = a; log = g }
-
 -- a walk that was to come to W is at its end: its answer is r, and the text's buffer t
 pub record Ends (F : Format) (l₀ : Lent) (back : Bool) (W : Walked) (r : EditAnswer) (t : List ℕ) : Type 0 where
-  pub plain : r ≡ answerBy (r .number) (r .line) (r .log)
+  pub plain : r ≡ says (r .number) (r .line) (r .log)
   pub ready : Ready F (lent t (l₀ .records) (l₀ .texts) (r .line) (r .log))
   pub out : outOf back W (l₀ .log .level) ≡ answered (r .number) 0 0 (stateOf catalogue F (lent t (l₀ .records) (l₀ .texts) (r .line) (r .log)))
 
 -- the answer and the bytes of a text and a log that the checks pass
-pub answers-as : (F : Format) (l₀ : Lent) (t : List ℕ) (r : EditAnswer) → r ≡ answerBy (r .number) (r .line) (r .log) → Ready F (lent t (l₀ .records) (l₀ .texts) (r .line) (r .log))
+pub answers-as : (F : Format) (l₀ : Lent) (t : List ℕ) (r : EditAnswer) → r ≡ says (r .number) (r .line) (r .log) → Ready F (lent t (l₀ .records) (l₀ .texts) (r .line) (r .log))
     → Edited F l₀ (answered (r .number) 0 0 (stateOf catalogue F (lent t (l₀ .records) (l₀ .texts) (r .line) (r .log)))) r t (l₀ .records) (l₀ .texts)
 answers-as F l₀ t r q h =
     record {
       answer =
           q
-          ∙ ap₂ (λ (n : ℕ) (x : Log). answerBy (r .number) (record { len = n; cursor = r .line .cursor }) x) (sym (length-kept F (lent t (l₀ .records) (l₀ .texts) (r .line) (r .log)) h))
+          ∙ ap₂ (λ (n : ℕ) (x : Log). says (r .number) (record { len = n; cursor = r .line .cursor }) x) (sym (length-kept F (lent t (l₀ .records) (l₀ .texts) (r .line) (r .log)) h))
           (log-kept F (lent t (l₀ .records) (l₀ .texts) (r .line) (r .log)) h);
       bytes = state-kept F (lent t (l₀ .records) (l₀ .texts) (r .line) (r .log)) h (r .line .cursor);
     }
@@ -145,10 +140,10 @@ module _ (back : Bool) {F : Format} {l₀ : Lent} {t : List ℕ} {s : Step} {g :
   st = stateOf catalogue F l
 
   -- the walk is at its end: k is the number that stopped it, and b says whether a record of a text was undone
-  pub ended : (b : Bool) (k : ℕ) {W : Walked} {r : EditAnswer} → W ≡ walked (fromOf back (st .log)) (toOf back (st .log)) (trailBy st b) k → r ≡ answerBy (numberOf k b) (lineOf s) g → Ends F l₀ back W r t
+  pub ended : (b : Bool) (k : ℕ) {W : Walked} {r : EditAnswer} → W ≡ walked (fromOf back (st .log)) (toOf back (st .log)) (trailBy st b) k → r ≡ says (numberOf k b) (lineOf s) g → Ends F l₀ back W r t
   ended b k e q =
       record {
-        plain = q ∙ ap (λ (a : EditAnswer). answerBy (a .number) (a .line) (a .log)) (sym q);
+        plain = q ∙ ap (λ (a : EditAnswer). says (a .number) (a .line) (a .log)) (sym q);
         ready = subst (λ (a : EditAnswer). Ready F (lent t (l₀ .records) (l₀ .texts) (a .line) (a .log))) (sym q) (c .ready);
         out =
             ap (λ (w : Walked). outOf back w (l₀ .log .level)) e
@@ -170,14 +165,14 @@ module _ (back : Bool) {F : Format} {l₀ : Lent} {t : List ℕ} {s : Step} {g :
       stopped-there = ap (λ (n : ℕ). undoing n x (trailBy st (s .undone))) (sym (c .text)) ∙ is-stopped z .tried
 
       -- the walk ends before it
-      pub stop-ended : {W : Walked} {r : EditAnswer} → W ≡ walked (x ∷ f) (toOf back (st .log)) (trailBy st (s .undone)) (q .step .number) → r ≡ answerBy (numberOf (q .step .number) (q .step .undone)) (lineOf (q .step)) (q .log)
+      pub stop-ended : {W : Walked} {r : EditAnswer} → W ≡ walked (x ∷ f) (toOf back (st .log)) (trailBy st (s .undone)) (q .step .number) → r ≡ says (numberOf (q .step .number) (q .step .undone)) (lineOf (q .step)) (q .log)
           → Ends F l₀ back W r t′
       stop-ended {W} {r} y k =
           let i = is-stopped z in
           subst (Ends F l₀ back W r) (sym (i .text))
           (ended (s .undone) (q .step .number) (y ∙ ap (λ (a : List Change). walked a (toOf back (st .log)) (trailBy st (s .undone)) (q .step .number)) (sym e))
-          (k ∙ ap (λ (a : ℕ). answerBy a (lineOf (q .step)) (q .log)) (stop-number (q .step .number) (q .step .undone) (s .undone) z)
-          ∙ ap₂ (answerBy (numberOf (q .step .number) (s .undone))) (i .line) (i .log)))
+          (k ∙ ap (λ (a : ℕ). says a (lineOf (q .step)) (q .log)) (stop-number (q .step .number) (q .step .undone) (s .undone) z)
+          ∙ ap₂ (says (numberOf (q .step .number) (s .undone))) (i .line) (i .log)))
 
     module _ (i : length t′ ≡ length t) (z : q .step .number ≡ 0) where
       pub goes : Went F l (s .undone) x w (q .step) (q .log) t′

@@ -1,7 +1,7 @@
 -- Laws of upper and lower case, over any repertoire. Assumes nothing.
 use mathlib.Core.Path.{_≡_, refl, ap, _∙_}
 use mathlib.Core.Bool.{true}
-use mathlib.Core.List.{List, [], _∷_, _++_, append-nil}
+use mathlib.Core.List.{List, [], _∷_, _++_}
 use Prim.Native.Nat.{ℕ, _≤_}
 use native.Mathlib.Omega.{arith}
 use lib.ListN.{length, drop, length-append, length-drop}
@@ -10,7 +10,7 @@ use Rattle.lists.proofs.Bools.{and-both}
 use Rattle.lists.proofs.Alls.{all-append, all-weaken}
 use Rattle.utf8.specs.Utf8.{char, bad, first}
 use Rattle.utf8.specs.Chars.{chars}
-use Rattle.utf8.specs.Encode.{scalar, size, encode, encodeAll}
+use Rattle.utf8.specs.Encode.{scalar, size, encodeAll}
 use Rattle.utf8.proofs.Chars.{first-within, chars-step, chars-bad}
 use Rattle.utf8.proofs.Append.{by-chars}
 use Rattle.utf8.proofs.Encode.{first-scalar, encodeAll-append, chars-encode, valid-encode}
@@ -20,10 +20,6 @@ use Rattle.unicode.specs.declared.Case.the-variants.{Upper, Lower}
 use Rattle.unicode.specs.Case.{caseOf, caseAll, cased}
 use Rattle.unicode.specs.Text.{isText}
 use Rattle.unicode.proofs.Text.{text-members}
-
-pub encode-single : (c : ℕ) → encodeAll (c ∷ []) ≡ encode c
-unfolding encodeAll
-encode-single c = append-nil (encode c)
 
 -- no mapping is longer in bytes than its character, and each has a form in UTF-8
 abbrev pub Shrinks : Repertoire → Type 0

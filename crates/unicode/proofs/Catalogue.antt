@@ -13,13 +13,13 @@ use Rattle.lists.proofs.Tables.{at-each}
 use Rattle.utf8.specs.Utf8.{within}
 use Rattle.utf8.specs.Encode.{scalar, size, encode, encodeAll}
 use Rattle.utf8.proofs.Forms.{within-below, within-above}
-use Rattle.utf8.proofs.Encode.{scalar-low, size-encode}
+use Rattle.utf8.proofs.Encode.{scalar-low, size-encode, encode-single}
 use Rattle.unicode.specs.Repertoire.{Lawful, catalogue, isMember, isSmall, isCapital, upperOf, lowerOf}
 use Rattle.unicode.specs.declared.Case.{Case}
 use Rattle.unicode.specs.declared.Case.the-variants.{Upper, Lower}
 use Rattle.unicode.specs.Case.{caseOf, cased}
 use Rattle.unicode.proofs.Plain.{not-or}
-use Rattle.unicode.proofs.Cased.{encode-single, Shrinks, case-le}
+use Rattle.unicode.proofs.Cased.{Shrinks, case-le}
 
 pub member-below : (c : ℕ) → catalogue .member c ≡ true → c < 0x400
 unfolding isMember

@@ -2,43 +2,30 @@
 use Prim.Native.Nat.{ℕ, _+_, _≤_}
 use native.Mathlib.Omega.{arith}
 use mathlib.Core.Path.{_≡_, sym, ap, ap₂, _∙_}
-use mathlib.Core.Bool.{true, cond}
-use mathlib.Core.List.{List, [], _∷_, append-nil}
-use lib.Dec.{leb}
+use mathlib.Core.Bool.{true}
+use mathlib.Core.List.{List, [], _∷_}
 use lib.ListN.{length, take}
 use lib.Seq.{length-sets, sets}
 use borrow.Author.Tests.{le-leb}
 use Rattle.lists.specs.Lists.{all}
-use Rattle.lists.proofs.Bools.{and-both, by-test}
+use Rattle.lists.proofs.Bools.{and-both}
 use Rattle.lists.proofs.Stores.{take-sets}
 use Rattle.utf8.specs.Chars.{chars, valid}
-use Rattle.utf8.specs.Encode.{scalar, size, encode, encodeAll, fitting, EncodedAt}
-use Rattle.utf8.proofs.Encode.{size-encode, chars-encode, valid-encode}
+use Rattle.utf8.specs.Encode.{scalar, size, encode, fitting, EncodedAt}
+use Rattle.utf8.proofs.Encode.{size-encode, size-max, encode-single, chars-encode, valid-encode}
 use Rattle.unicode.specs.Repertoire.{Repertoire, catalogue}
 use Rattle.unicode.specs.Text.{isText, isChar}
 
 -- ---- a character's bytes are a text
 pub char-text : (R : Repertoire) (c : ℕ) → isChar R c ≡ true → isText R (encode c) ≡ true
-unfolding isChar isText encodeAll
+unfolding isChar isText
 char-text R c e =
     let s = and-both (scalar c) (R .member c) e in
     let one : all scalar (c ∷ []) ≡ true = rw (s .0) in
-    let flat : encodeAll (c ∷ []) ≡ encode c = append-nil (encode c) in
-    let v = ap valid (sym flat) ∙ valid-encode (c ∷ []) one in
-    let k : chars (encode c) ≡ c ∷ [] = ap chars (sym flat) ∙ chars-encode (c ∷ []) one in
+    let v = ap valid (sym (encode-single c)) ∙ valid-encode (c ∷ []) one in
+    let k : chars (encode c) ≡ c ∷ [] = ap chars (sym (encode-single c)) ∙ chars-encode (c ∷ []) one in
     let m : all (R .member) (c ∷ []) ≡ true = rw (s .1) in
     rw (v, k) m
-
-size-max : (c : ℕ) → size c ≤ 4
-unfolding size
-size-max c =
-    by-test (cond (leb c 0x7F) 1 (cond (leb c 0x7FF) 2 (cond (leb c 0xFFFF) 3 4)) ≤ 4) (leb c 0x7F) (λ e. rw e (omega arith))
-    (λ e. by-test (cond (leb c 0x7F) 1 (cond (leb c 0x7FF) 2 (cond (leb c 0xFFFF) 3 4)) ≤ 4) (leb c 0x7FF) (λ f. rw (e, f) (omega arith))
-    (λ f. by-test (cond (leb c 0x7F) 1 (cond (leb c 0x7FF) 2 (cond (leb c 0xFFFF) 3 4)) ≤ 4) (leb c 0xFFFF) (λ g. rw (e, f, g) (omega arith)) (λ g. rw (e, f, g) (omega arith))))
-
--- four bytes at most
-pub encode-max : (c : ℕ) → length (encode c) ≤ 4
-encode-max c = omega (arith, size-encode c, size-max c)
 
 module _ (c : ℕ) (is : isChar catalogue c ≡ true) where
   pub typed-text : isText catalogue (encode c) ≡ true

@@ -11,14 +11,14 @@ use Rattle.lists.proofs.Bools.{and-both}
 use Rattle.lists.proofs.Stores.{sets-append}
 use Rattle.utf8.specs.Utf8.{char, bad, first}
 use Rattle.utf8.specs.Encode.{scalar, size, encode, encodeAll, fitting, EncodedAt}
-use Rattle.utf8.proofs.Encode.{size-encode, first-scalar}
+use Rattle.utf8.proofs.Encode.{size-encode, encode-single, first-scalar}
 use Rattle.unicode.specs.Repertoire.{Repertoire, catalogue}
 use Rattle.unicode.specs.declared.Case.{Case}
 use Rattle.unicode.specs.declared.Mapped.{Mapped}
 use Rattle.unicode.specs.declared.Mapped.the-variants.{One, Two}
 use Rattle.unicode.specs.Case.{caseOf, asChars, cased, casedInto, MappedFits, MappedAt, CasedInto}
 use Rattle.unicode.proofs.Text.{within-at}
-use Rattle.unicode.proofs.Cased.{encode-single, Shrinks, case-step, case-none}
+use Rattle.unicode.proofs.Cased.{Shrinks, case-step, case-none}
 
 -- ---- a mapping
 -- a character that has a form and for which there is room is written whole

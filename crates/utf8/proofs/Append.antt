@@ -2,18 +2,14 @@
 use mathlib.Core.Path.{_≡_, refl, sym, ap, subst, _∙_}
 use mathlib.Core.Bool.{true}
 use mathlib.Core.List.{List, [], _∷_, _++_}
-use mathlib.Core.Logic.{⊎-elim, _⊎_, inl, inr}
+use mathlib.Core.Logic.{⊎-elim}
 use Prim.Native.Nat.{ℕ, zero, suc, pred, _<_, _≤_}
 use native.Mathlib.Omega.{arith}
 use lib.Dec.{T}
 use lib.ListN.{length, getD, take, drop, take-append-drop, List·getD-append, length-drop}
 use Rattle.utf8.specs.Utf8.{First, char, bad, one, two, three, four, orElse, firstOf, first}
 use Rattle.utf8.specs.Chars.{charsFrom, validFrom, chars, valid, boundary}
-use Rattle.utf8.proofs.Chars.{first-within, form-one, form-two, form-three, form-four}
-
-pub or-split : (f g : First) (cp m : ℕ) → orElse f g ≡ char cp m → (f ≡ char cp m) ⊎ ((f ≡ bad) × (g ≡ char cp m))
-or-split (char c n) g cp m e = inl e
-or-split bad g cp m e = inr (refl, e)
+use Rattle.utf8.proofs.Chars.{or-split, first-within, form-one, form-two, form-three, form-four}
 
 -- a character is read from its own n bytes
 pub same-first : (t u : List ℕ) (cp n : ℕ) → first t ≡ char cp n → ((k : ℕ) → k < n → getD u k 256 ≡ getD t k 256) → first u ≡ char cp n

@@ -14,8 +14,8 @@ use borrow.Author.Tests.{leb-true}
 use Rattle.utf8.specs.Utf8.{char, bad, within, tail, one, two, lead3, three, lead4, four, orElse, firstOf, first}
 use Rattle.utf8.specs.Chars.{validFrom, valid, boundary, startBefore, EndsAt}
 use Rattle.utf8.proofs.Forms.{within-in, within-below, within-above}
-use Rattle.utf8.proofs.Chars.{first-within, lead3-in, lead4-in, within-true, cond-char, valid-step, valid-bad}
-use Rattle.utf8.proofs.Append.{or-split, by-first, same-first, first-append, valid-append, valid-cut}
+use Rattle.utf8.proofs.Chars.{or-split, first-within, lead3-in, lead4-in, within-true, cond-char, valid-step, valid-bad}
+use Rattle.utf8.proofs.Append.{by-first, same-first, first-append, valid-append, valid-cut}
 
 -- the first byte of a character is no continuation byte, and each later one is
 record Bytes (t : List ℕ) (n : ℕ) : Type 0 where

@@ -22,9 +22,9 @@ pub cond-char : (t : Bool) (v n cp m : ℕ) → cond t (char v n) bad ≡ char c
 cond-char true v n cp m e = (refl, cc, cc)
 cond-char false v n cp m e = let z : _≡_ {A = ℕ} 0 1 = cc in absurd (omega arith)
 
-orElse-char : (f g : First) (cp m : ℕ) → orElse f g ≡ char cp m → (f ≡ char cp m) ⊎ (g ≡ char cp m)
-orElse-char (char c n) g cp m e = inl e
-orElse-char bad g cp m e = inr e
+pub or-split : (f g : First) (cp m : ℕ) → orElse f g ≡ char cp m → (f ≡ char cp m) ⊎ ((f ≡ bad) × (g ≡ char cp m))
+or-split (char c n) g cp m e = inl e
+or-split bad g cp m e = inr (refl, e)
 
 pub there : (s : List ℕ) (k : ℕ) → getD s k 256 < 256 → k < length s
 there [] k h = absurd (omega arith)
@@ -139,12 +139,12 @@ first-within t cp n e =
     let c = getD t 2 256 in
     let d = getD t 3 256 in
     ⊎-elim (λ p. from-form t cp n 0 (form-one a cp n p))
-    (λ e2. ⊎-elim (λ p. from-form t cp n 1 (form-two a b cp n p))
-    (λ e3. ⊎-elim (λ p. from-form t cp n 2 (form-three a b c cp n p))
-    (λ p. from-form t cp n 3 (form-four a b c d cp n p))
-    (orElse-char (three a b c) (four a b c d) cp n e3))
-    (orElse-char (two a b) (orElse (three a b c) (four a b c d)) cp n e2))
-    (orElse-char (one a) (orElse (two a b) (orElse (three a b c) (four a b c d))) cp n e)
+    (λ q. ⊎-elim (λ p. from-form t cp n 1 (form-two a b cp n p))
+    (λ q2. ⊎-elim (λ p. from-form t cp n 2 (form-three a b c cp n p))
+    (λ q3. from-form t cp n 3 (form-four a b c d cp n (q3 .1)))
+    (or-split (three a b c) (four a b c d) cp n (q2 .1)))
+    (or-split (two a b) (orElse (three a b c) (four a b c d)) cp n (q .1)))
+    (or-split (one a) (orElse (two a b) (orElse (three a b c) (four a b c d))) cp n e)
 
 -- ---- the characters, one at a time
 skip-chars : (k : ℕ) (s : List ℕ) → charsFrom k s ≡ chars (drop k s)

@@ -1,7 +1,7 @@
 -- Laws of the bytes of a code point: they are read back as it, and every character has the bytes of its code point. Assumes nothing.
 use mathlib.Core.Path.{_≡_, refl, sym, ap, _∙_}
 use mathlib.Core.Bool.{true, false, _&&_, not, and-false}
-use mathlib.Core.List.{List, [], _∷_, _++_, append-assoc}
+use mathlib.Core.List.{List, [], _∷_, _++_, append-assoc, append-nil}
 use mathlib.Core.Logic.{⊎-elim, _⊎_, inl, inr}
 use Prim.Native.Nat.{ℕ, suc, _+_, _*_, _/_, _%_, _<_, _≤_}
 use native.Mathlib.Omega.{arith}
@@ -15,8 +15,8 @@ use Rattle.utf8.specs.Utf8.{char, bad, within, tail, one, two, lead3, th
 use Rattle.utf8.specs.Chars.{chars, valid, charsFrom, validFrom}
 use Rattle.utf8.specs.Encode.{scalar, size, oneByte, twoBytes, threeBytes, fourBytes, encode, encodeAll, fitting, EncodedAt}
 use Rattle.utf8.proofs.Forms.{within-in, within-below, within-above, first-one, first-two, first-three, first-four}
-use Rattle.utf8.proofs.Chars.{first-within, lead3-in, lead4-in, within-true, cond-char, chars-step, valid-step, valid-bad, chars-bad}
-use Rattle.utf8.proofs.Append.{or-split, by-chars}
+use Rattle.utf8.proofs.Chars.{or-split, first-within, lead3-in, lead4-in, within-true, cond-char, chars-step, valid-step, valid-bad, chars-bad}
+use Rattle.utf8.proofs.Append.{by-chars}
 
 -- ---- a code point by its size
 -- n bytes l, in the range of code points that the table gives them
@@ -59,6 +59,20 @@ size-encode c =
     (λ l h. let r = row-two c l h in ap length (r .bytes) ∙ sym (r .sized))
     (λ l h. let r = row-three c l h in ap length (r .bytes) ∙ sym (r .sized))
     (λ l. let r = row-four c l in ap length (r .bytes) ∙ sym (r .sized))
+
+-- four bytes at most
+pub size-max : (c : ℕ) → size c ≤ 4
+size-max c =
+    by-row _ c (λ h. omega (arith, row-one c h .sized)) (λ l h. omega (arith, row-two c l h .sized)) (λ l h. omega (arith, row-three c l h .sized))
+    (λ l. omega (arith, row-four c l .sized))
+
+pub encode-max : (c : ℕ) → length (encode c) ≤ 4
+encode-max c = omega (arith, size-encode c, size-max c)
+
+-- the bytes of one character
+pub encode-single : (c : ℕ) → encodeAll (c ∷ []) ≡ encode c
+unfolding encodeAll
+encode-single c = append-nil (encode c)
 
 -- the range of a size
 pub size-1 : (c n : ℕ) → n ≡ size c → n ≡ 1 → c ≤ 0x7F

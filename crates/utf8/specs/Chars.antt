@@ -11,22 +11,22 @@ abbrev pub push : First → List ℕ → List ℕ
 push (char c n) cs = c ∷ cs
 push bad cs = []
 
-abbrev pub isChar : First → Bool
-isChar (char c n) = true
-isChar bad = false
+abbrev pub isFound : First → Bool
+isFound (char c n) = true
+isFound bad = false
 
-abbrev pub width : First → ℕ
-width (char c n) = n
-width bad = 1
+abbrev pub octets : First → ℕ
+octets (char c n) = n
+octets bad = 1
 
 unfoldable pub charsFrom : ℕ → List ℕ → List ℕ
 charsFrom k [] = []
-charsFrom zero (b ∷ s) = push (first (b ∷ s)) (charsFrom (pred (width (first (b ∷ s)))) s)
+charsFrom zero (b ∷ s) = push (first (b ∷ s)) (charsFrom (pred (octets (first (b ∷ s)))) s)
 charsFrom (suc k) (b ∷ s) = charsFrom k s
 
 unfoldable pub validFrom : ℕ → List ℕ → Bool
 validFrom k [] = true
-validFrom zero (b ∷ s) = isChar (first (b ∷ s)) && validFrom (pred (width (first (b ∷ s)))) s
+validFrom zero (b ∷ s) = isFound (first (b ∷ s)) && validFrom (pred (octets (first (b ∷ s)))) s
 validFrom (suc k) (b ∷ s) = validFrom k s
 
 -- the code points of s, up to the first byte that begins no character

@@ -1,37 +1,24 @@
 -- Two words put in for each other: the four changes suit the text, what 9 says of them, and where the cursor is. Over any repertoire. Assumes nothing.
 use Prim.Native.Nat.{ℕ, _+_, _-_, _≤_, _<_}
 use native.Mathlib.Omega.{arith}
-use mathlib.Core.Path.{_≡_, refl, sym, ap, ap₂, subst, _∙_}
-use mathlib.Core.Bool.{Bool, true, false, _||_}
-use mathlib.Core.List.{List, [], _++_}
+use mathlib.Core.Path.{_≡_, sym, ap, ap₂, subst, _∙_}
+use mathlib.Core.Bool.{Bool, true, false, or-false}
+use mathlib.Core.List.{List, []}
 use lib.Dec.{ltb}
-use lib.ListN.{length, take, drop}
-use lib.Seq.{length-take-le, take-at, take-take}
+use lib.ListN.{length}
 use borrow.Author.Tests.{lt-ltb, le-ltb}
-use Rattle.lists.proofs.Parts.{drop-take}
+use Rattle.lists.specs.Lists.{part}
 use Rattle.utf8.specs.Chars.{valid, boundary, In}
 use Rattle.unicode.specs.Repertoire.{Repertoire}
 use Rattle.unicode.specs.Text.{isText}
 use Rattle.unicode.proofs.Text.{text-valid, text-nil}
-use Rattle.edit.specs.Plan.{part, splice, textAfter, AllSuit, tooLong}
-use Rattle.edit.proofs.Once.{part-text, part-length}
-use Rattle.edit.proofs.Pieces.{splice-text, splice-before, splice-behind, splice-start}
-use Rattle.edit.proofs.Splice.{splice-length}
+use Rattle.edit.specs.Plan.{splice, textAfter, AllSuit, tooLong}
+use Rattle.edit.proofs.Parts.{part-text, part-length}
+use Rattle.edit.proofs.Splice.{splice-length, part-before, splice-text, splice-before, splice-behind, splice-start}
 use Rattle.word_pairs.specs.declared.Words.{Words}
 use Rattle.places.specs.Places.{wordsOn, wordsBack}
 use Rattle.word_pairs.specs.WordPairs.{wordsAround, wordsPlan, Apart}
 use Rattle.places.proofs.Stays.{words-on-place, words-back-place}
-
--- a part before the bytes that are replaced
-pub part-before : (t : List ℕ) (c d : ℕ) (s : List ℕ) (a b : ℕ) → a ≤ b → b ≤ c → c ≤ length t → part (splice t c d s) a b ≡ part t a b
-unfolding splice
-part-before t c d s a b h k l =
-    let x = take c t ++ (s ++ drop d t) in
-    let front : take c x ≡ take c t = take-at (take c t) (s ++ drop d t) c (length-take-le c t l) in
-    sym (cut x) ∙ ap (λ (y : List ℕ). take (b - a) (drop a y)) front ∙ cut t
-  where
-    cut : (y : List ℕ) → take (b - a) (drop a (take c y)) ≡ take (b - a) (drop a y)
-    cut y = ap (take (b - a)) (drop-take a c y) ∙ take-take (b - a) (c - a) (drop a y) (omega arith)
 
 module _ (R : Repertoire) (t : List ℕ) (is : isText R t ≡ true) (w : Words) (p : Apart t w) where
   abbrev a : ℕ
@@ -132,11 +119,7 @@ module _ (R : Repertoire) (t : List ℕ) (is : isText R t ≡ true) (w : Words) 
     long-is : (e : Bool) → ltb C (length m2) ≡ e → tooLong C (wordsPlan t w .pieces) t ≡ e
     unfolding tooLong
     long-is e f =
-        rw (le-ltb C (length m1) (omega (arith, long1)), f, le-ltb C (length m3) (omega (arith, long3)), le-ltb C (length m4) (omega (arith, long4))) (or-second e)
-      where
-        or-second : (x : Bool) → (false || (x || (false || (false || false)))) ≡ x
-        or-second true = refl
-        or-second false = refl
+        rw (le-ltb C (length m1) (omega (arith, long1)), f, le-ltb C (length m3) (omega (arith, long3)), le-ltb C (length m4) (omega (arith, long4))) (or-false e)
 
     pub words-long : C < length t - (d - c) + (b - a) → tooLong C (wordsPlan t w .pieces) t ≡ true
     words-long k = long-is true (lt-ltb C (length m2) (omega (arith, long2)))

@@ -5,6 +5,7 @@ use mathlib.Core.Path.{_≡_, sym, ap, subst, _∙_}
 use mathlib.Core.Bool.{Bool, true, false}
 use mathlib.Core.List.{List, [], _∷_}
 use lib.ListN.{length}
+use Rattle.lists.specs.Lists.{part}
 use Rattle.lists.proofs.Bools.{by-less, never}
 use Rattle.utf8.specs.Chars.{In}
 use Rattle.unicode.specs.Repertoire.{catalogue}
@@ -17,7 +18,7 @@ use Rattle.journal.specs.Undo.{fits}
 use Rattle.recording.specs.Tails.{tailOf, Narrow}
 use Rattle.edit.specs.declared.EditAnswer.{EditAnswer}
 use Rattle.edit.specs.declared.Room.{Room}
-use Rattle.edit.specs.Plan.{part, cutting, pasted, recorded, Plan, once, listAfter, tooLong, edited}
+use Rattle.edit.specs.Plan.{cutting, pasted, recorded, Plan, once, listAfter, tooLong, edited}
 use Rattle.edit.specs.Calls.{Lent, lent, textOf, sizesOf, stateOf, Edited, Ready}
 use Rattle.edit.specs.Room.{roomCut, roomPut}
 use Rattle.edit.proofs.Answers.{length-kept}

@@ -1,9 +1,10 @@
 -- Two words of a text put in for each other: line_buffer.rs, transpose_words.
 use Prim.Native.Nat.{ℕ, _≤_}
 use mathlib.Core.List.{List, [], _∷_}
+use Rattle.lists.specs.Lists.{part}
 use Rattle.utf8.specs.Chars.{In}
 use Rattle.unicode.specs.Repertoire.{Repertoire}
-use Rattle.edit.specs.Plan.{part, pasted, cutting, Plan}
+use Rattle.edit.specs.Plan.{pasted, cutting, Plan}
 use Rattle.places.specs.Places.{wordsOn, wordsBack}
 use Rattle.word_pairs.specs.declared.Words.{Words}
 

@@ -2,36 +2,27 @@
 -- r is what a call answers of the cluster there. Assumes nothing.
 use mathlib.Core.Path.{_≡_, refl, sym, ap, subst, _∙_}
 use mathlib.Core.Bool.{true}
-use mathlib.Core.List.{List, [], _∷_, _++_, reverse, reverse-append}
+use mathlib.Core.List.{List, [], _∷_, _++_, map, reverse, reverse-append}
 use Prim.Native.Nat.{ℕ, _+_, _-_, _<_, _≤_}
 use native.Mathlib.Omega.{arith}
 use lib.ListN.{length, take, drop}
 use lib.Seq.{drop-drop, length-take-le}
-use Rattle.lists.specs.Lists.{headOr, lastOr, concat}
+use Rattle.lists.specs.Lists.{lastOr, sum}
 use Rattle.lists.proofs.Bools.{by-less}
 use Rattle.utf8.specs.Chars.{chars, charsFrom, boundary}
 use Rattle.unicode.specs.Repertoire.{Repertoire}
-use Rattle.cluster.specs.Clusters.{clusters, clustersOf, bytes}
+use Rattle.cluster.specs.Clusters.{clusters, clustersOf, firstCluster, lastCluster, bytes, firstSize}
 use Rattle.cluster.specs.Facts.{facts}
 use Rattle.cluster.specs.declared.Cluster.{Cluster}
 use Rattle.cluster.proofs.Clusters.{clusters-concat}
-use Rattle.cluster.proofs.Facts.{bytes-append}
+use Rattle.cluster.proofs.Facts.{sum-bytes}
 use Rattle.cluster.proofs.Parts.{bytes-all}
-use Rattle.cluster.proofs.Steps.{firstCluster, lastCluster, step-some, step-none, next-told, prev-some, prev-none}
+use Rattle.cluster.proofs.Steps.{step-some, step-none, next-told, prev-some, prev-none}
 use Rattle.words.specs.Walk.{Mark, marks, graphemeIndices}
 
 -- the cluster that starts at a place
 abbrev pub mark : ℕ → Cluster → Mark
 mark at k = record { start = at; is = k }
-
--- the bytes of some clusters
-abbrev bytesOf : List (List ℕ) → ℕ
-bytesOf [] = 0
-bytesOf (k ∷ ks) = bytes k + bytesOf ks
-
-bytes-concat : (ks : List (List ℕ)) → bytes (concat ks) ≡ bytesOf ks
-bytes-concat [] = refl
-bytes-concat (k ∷ ks) = bytes-append k (concat ks) ∙ ap (λ (x : ℕ). bytes k + x) (bytes-concat ks)
 
 module _ (R : Repertoire) where
   -- ---- forward
@@ -40,7 +31,7 @@ module _ (R : Repertoire) where
 
   -- the facts of the first cluster of a part
   abbrev pub firstOf : List ℕ → Cluster
-  firstOf t = facts R (headOr [] (clustersOf R t))
+  firstOf t = facts R (firstCluster R t)
 
   -- what `next_cluster(&t[at..])` answers
   pub record Told (t : List ℕ) (at : ℕ) (r : Cluster) : Type 0 where
@@ -72,7 +63,7 @@ module _ (R : Repertoire) where
   marks-all t = refl
 
   -- those behind the first cluster, of k bytes
-  pub marks-passed : (t : List ℕ) (k : ℕ) → k ≡ bytes (headOr [] (clustersOf R t)) → drop 1 (graphemeIndices R t) ≡ marksAt t k
+  pub marks-passed : (t : List ℕ) (k : ℕ) → k ≡ firstSize R t → drop 1 (graphemeIndices R t) ≡ marksAt t k
   marks-passed t k e =
       let r = firstOf t in
       by-less _ 0 k
@@ -90,13 +81,13 @@ module _ (R : Repertoire) where
   marksBack t rest = reverse (graphemeIndices R (take rest t))
 
   abbrev pub lastOf : List ℕ → Cluster
-  lastOf t = facts R (lastOr [] (clustersOf R t))
+  lastOf t = facts R (lastCluster R t)
 
-  marks-snoc : (at : ℕ) (ks : List (List ℕ)) (k : List ℕ) → marks R at (ks ++ (k ∷ [])) ≡ marks R at ks ++ (mark (at + bytesOf ks) (facts R k) ∷ [])
+  marks-snoc : (at : ℕ) (ks : List (List ℕ)) (k : List ℕ) → marks R at (ks ++ (k ∷ [])) ≡ marks R at ks ++ (mark (at + sum (map bytes ks)) (facts R k) ∷ [])
   unfolding marks
   marks-snoc at [] k = let z : at ≡ at + 0 = omega arith in ap (λ (x : ℕ). mark x (facts R k) ∷ []) z
   marks-snoc at (l ∷ ks) k =
-      let z : at + bytes l + bytesOf ks ≡ at + (bytes l + bytesOf ks) = omega arith in
+      let z : at + bytes l + sum (map bytes ks) ≡ at + (bytes l + sum (map bytes ks)) = omega arith in
       ap (λ (m : List Mark). mark at (facts R l) ∷ m) (marks-snoc (at + bytes l) ks k ∙
       ap (λ (x : ℕ). marks R (at + bytes l) ks ++ (mark x (facts R k) ∷ [])) z)
 
@@ -127,13 +118,13 @@ module _ (R : Repertoire) where
         let z = prev-some R t rest r b l (some h) e in
         let f = z .fits in
         let u = take (rest - r .len) t in
-        let w : bytesOf (clustersOf R u) ≡ rest - r .len =
-        sym (bytes-concat (clustersOf R u)) ∙ ap bytes (clusters-concat R (chars u)) ∙ bytes-all u (z .edge) ∙
+        let w : sum (map bytes (clustersOf R u)) ≡ rest - r .len =
+        sum-bytes (clustersOf R u) ∙ ap bytes (clusters-concat R (chars u)) ∙ bytes-all u (z .edge) ∙
         length-take-le (rest - r .len) t (omega arith)
         in
         let s : marks R 0 (clustersOf R (take rest t)) ≡ marks R 0 (clustersOf R u) ++ (mark (rest - r .len) (facts R k) ∷ []) =
         ap (marks R 0) (z .split) ∙ marks-snoc 0 (clustersOf R u) k ∙
-        ap (λ (x : ℕ). marks R 0 (clustersOf R u) ++ (mark x (facts R k) ∷ [])) (let q : 0 + bytesOf (clustersOf R u) ≡ rest - r .len = omega arith in q)
+        ap (λ (x : ℕ). marks R 0 (clustersOf R u) ++ (mark x (facts R k) ∷ [])) (let q : 0 + sum (map bytes (clustersOf R u)) ≡ rest - r .len = omega arith in q)
         in
         record {
           fits = f;

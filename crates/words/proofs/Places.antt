@@ -2,7 +2,7 @@
 -- and a landing is such a place, or 0. Assumes nothing.
 use mathlib.Core.Path.{_≡_, refl, sym, ap, subst, _∙_}
 use mathlib.Core.Bool.{Bool, true, false, cond}
-use mathlib.Core.List.{List, [], _∷_, _++_, reverse, reverseAux, append-assoc}
+use mathlib.Core.List.{List, [], _∷_, _++_, reverse, append-assoc}
 use Prim.Native.Nat.{ℕ, zero, suc, _+_, _-_, _≤_}
 use native.Mathlib.Omega.{arith}
 use lib.Dec.{eqb}
@@ -11,6 +11,7 @@ use lib.Seq.{length-take-le}
 use Rattle.lists.specs.Lists.{concat}
 use Rattle.lists.proofs.Bools.{by-test}
 use Rattle.lists.proofs.Parts.{part-tail}
+use Rattle.lists.proofs.Every.{Every, every-drop, every-reverse}
 use Rattle.utf8.specs.Chars.{chars, valid, boundary}
 use Rattle.utf8.specs.Encode.{size}
 use Rattle.utf8.proofs.Chars.{first-within, chars-cons}
@@ -32,18 +33,8 @@ use Rattle.words.specs.Words.{stops, isStart, landsOn, lands, passed, ne
 
 -- ---- what holds at the start of each mark holds of a landing
 module _ (P : ℕ → Type 0) where
-  abbrev Each : List Mark → Type 0
-  Each [] = Unit {0}
-  Each (m ∷ ms) = P (m .start) × Each ms
-
-  each-drop : (k : ℕ) (ms : List Mark) → Each ms → Each (drop k ms)
-  each-drop zero ms e = e
-  each-drop (suc k) [] e = e
-  each-drop (suc k) (m ∷ ms) e = each-drop k ms (e .1)
-
-  each-reverse : (ms ns : List Mark) → Each ms → Each ns → Each (reverseAux ms ns)
-  each-reverse [] ns e f = f
-  each-reverse (m ∷ ms) ns e f = each-reverse ms (m ∷ ns) (e .1) (e .0, f)
+  abbrev Start : Mark → Type 0
+  Start m = P (m .start)
 
   -- of both places of a landing
   abbrev Both : Landing → Type 0
@@ -51,20 +42,20 @@ module _ (P : ℕ → Type 0) where
 
   module _ (stops : Mark → Mark → Bool) (lands : Mark → Mark → ℕ) (h : (x y : Mark) → P (x .start) → P (y .start) → P (lands x y)) (z : P 0) where
     abbrev Scanned : Scan → Type 0
-    Scanned (hit p ms) = P p × Each ms
+    Scanned (hit p ms) = P p × Every Start ms
     Scanned (out l) = P l
 
-    scan-each : (x : Mark) (ms : List Mark) → P (x .start) → Each ms → Scanned (scan stops lands x ms)
+    scan-each : (x : Mark) (ms : List Mark) → P (x .start) → Every Start ms → Scanned (scan stops lands x ms)
     unfolding scan
     scan-each x [] p e = p
     scan-each x (y ∷ ms) p e =
         by-test _ (stops x y) (λ t. rw t (h x y p (e .0), e .1)) (λ t. rw t (scan-each y ms (e .0) (e .1)))
 
-    onward-each : (f : List Mark → ℕ → Landing) → ((ms : List Mark) (p : ℕ) → Each ms → P p → Both (f ms p)) → (s : Scan) → Scanned s → Both (onward stops lands f s)
+    onward-each : (f : List Mark → ℕ → Landing) → ((ms : List Mark) (p : ℕ) → Every Start ms → P p → Both (f ms p)) → (s : Scan) → Scanned s → Both (onward stops lands f s)
     onward-each f g (hit p ms) e = g ms p (e .1) (e .0)
     onward-each f g (out l) e = (z, e)
 
-    walk-each : (n : ℕ) (ms : List Mark) (p : ℕ) → Each ms → P p → Both (walk stops lands n ms p)
+    walk-each : (n : ℕ) (ms : List Mark) (p : ℕ) → Every Start ms → P p → Both (walk stops lands n ms p)
     unfolding walk
     walk-each zero ms p e q = (q, z)
     walk-each (suc n) [] p e q = (z, z)
@@ -72,15 +63,15 @@ module _ (P : ℕ → Type 0) where
 
   -- what holds behind any of the first characters of a part holds at each of its marks
   module _ (R : Repertoire) (t : List ℕ) (h : (us vs : List ℕ) → chars t ≡ us ++ vs → P (bytes us)) where
-    marks-each : (us : List ℕ) (ks : List (List ℕ)) → chars t ≡ us ++ concat ks → Each (marks R (bytes us) ks)
+    marks-each : (us : List ℕ) (ks : List (List ℕ)) → chars t ≡ us ++ concat ks → Every Start (marks R (bytes us) ks)
     unfolding marks
     marks-each us [] e = tt
     marks-each us (k ∷ ks) e = (
       h us (k ++ concat ks) e,
-      subst (λ (i : ℕ). Each (marks R i ks)) (bytes-append us k) (marks-each (us ++ k) ks (e ∙ sym (append-assoc us k (concat ks)))),
+      subst (λ (i : ℕ). Every Start (marks R i ks)) (bytes-append us k) (marks-each (us ++ k) ks (e ∙ sym (append-assoc us k (concat ks)))),
     )
 
-    indices-each : Each (graphemeIndices R t)
+    indices-each : Every Start (graphemeIndices R t)
     unfolding graphemeIndices
     indices-each = marks-each [] (clustersOf R t) (sym (clusters-concat R (chars t)))
 
@@ -94,14 +85,14 @@ module _ (P : ℕ → Type 0) where
     next-each at w n =
         let z = h [] (chars t) refl in
         walk-each (stops at w) (lands at w) (lands-each at w) z n (drop (passed at) (graphemeIndices R t)) 0
-        (each-drop (passed at) (graphemeIndices R t) indices-each) z
+        (every-drop Start (passed at) (graphemeIndices R t) indices-each) z
 
     prev-each : (w : Word) (n : ℕ) → P (prevWord R t w n)
     unfolding prevWord
     prev-each w n =
         let z = h [] (chars t) refl in
         walk-each (startsBack w) landsBack (λ x y p q. p) z n (reverse (graphemeIndices R t)) 0
-        (each-reverse (graphemeIndices R t) [] indices-each tt) z .0
+        (every-reverse Start (graphemeIndices R t) indices-each) z .0
 
 -- ---- of any part, a landing lies in it
 bytes-fit : (us vs t : List ℕ) → chars t ≡ us ++ vs → bytes us ≤ length t

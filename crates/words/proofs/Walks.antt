@@ -6,10 +6,9 @@ use Prim.Native.Nat.{ℕ, zero, suc, _+_, _-_, _<_, _≤_}
 use native.Mathlib.Omega.{arith}
 use lib.ListN.{length, take, drop}
 use lib.Seq.{take-length}
-use Rattle.lists.specs.Lists.{headOr}
 use Rattle.utf8.specs.Chars.{boundary}
 use Rattle.unicode.specs.Repertoire.{Repertoire}
-use Rattle.cluster.specs.Clusters.{clustersOf, bytes}
+use Rattle.cluster.specs.Clusters.{firstSize}
 use Rattle.cluster.specs.declared.Cluster.{Cluster}
 use Rattle.keymap.specs.declared.Word.{Word}
 use Rattle.keymap.specs.declared.At.{At}
@@ -101,7 +100,7 @@ module _ (R : Repertoire) (t : List ℕ) (at : At) (w : Word) where
         ap (λ (l : List Mark). walk (stops at w) (lands at w) n l 0) (marks-all R t)
 
     -- BeforeEnd passes the first cluster, of k bytes
-    pub first-passed : (k : ℕ) → isBeforeEnd at ≡ true → k ≡ bytes (headOr [] (clustersOf R t)) → nextWord R t at w n ≡ rounds n k 0
+    pub first-passed : (k : ℕ) → isBeforeEnd at ≡ true → k ≡ firstSize R t → nextWord R t at w n ≡ rounds n k 0
     unfolding nextWord
     first-passed k e f =
         ap (λ (b : Bool). walk (stops at w) (lands at w) n (drop (cond b 1 0) (graphemeIndices R t)) 0) e ∙

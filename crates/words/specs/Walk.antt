@@ -1,7 +1,7 @@
 -- Going over the clusters of a part, n times as far as the next stop: the two loops that next_word_pos and prev_word_pos of line_buffer.rs share.
 -- The forward motion goes over grapheme_indices, the backward one over the same list reversed.
 use Prim.Native.Nat.{ℕ, zero, suc, _+_}
-use mathlib.Core.Bool.{Bool, true, false}
+use mathlib.Core.Bool.{Bool, cond}
 use mathlib.Core.List.{List, [], _∷_}
 use Rattle.unicode.specs.Repertoire.{Repertoire}
 use Rattle.cluster.specs.Clusters.{clustersOf, bytes}
@@ -26,15 +26,11 @@ pub data Scan : Type 0 where
   hit : ℕ → List Mark → Scan
   out : ℕ → Scan
 
-abbrev pub pick : Bool → Scan → Scan → Scan
-pick true a b = a
-pick false a b = b
-
 module _ (stops : Mark → Mark → Bool) (lands : Mark → Mark → ℕ) where
   -- the inner loop, with x read
   unfoldable pub scan : Mark → List Mark → Scan
   scan x [] = out (x .start)
-  scan x (y ∷ gs) = pick (stops x y) (hit (lands x y) gs) (scan y gs)
+  scan x (y ∷ gs) = cond (stops x y) (hit (lands x y) gs) (scan y gs)
 
   abbrev pub onward : (List Mark → ℕ → Landing) → Scan → Landing
   onward f (hit p gs) = f gs p

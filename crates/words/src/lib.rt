@@ -4,11 +4,9 @@ ghost use mathlib.Core.Path.{_≡_};
 ghost use mathlib.Core.Bool.{true};
 ghost use Prim.Native.Nat.{_+_, _≤_, _<_};
 ghost use lib.ListN.{length};
-ghost use mathlib.Core.List.{[]};
-ghost use Rattle.lists.specs.Lists.{headOr};
 ghost use Rattle.utf8.specs.Chars.{valid, boundary};
 ghost use Rattle.unicode.specs.Repertoire.{catalogue};
-ghost use Rattle.cluster.specs.Clusters.{bytes, clustersOf};
+ghost use Rattle.cluster.specs.Clusters.{firstSize};
 ghost use Rattle.words.specs.Rules.{isWordChar, isOtherChar, isStartOfWord, stopsAt, isAfterEnd, landsBehind};
 ghost use Rattle.words.specs.Words.{landsOn, isBeforeEnd, nextWord, nextWordPos, prevWord, prevWordPos};
 use cluster::Cluster;
@@ -151,7 +149,7 @@ fn next_word(t: &[u8], at: At, word: Word, n: RepeatCount) -> Landing
 
 // The length of the first cluster.
 fn first_len(t: &[u8]) -> usize
-    ensures { λ r. ⌜ (r ≡ bytes (headOr [] (clustersOf catalogue (now (t .entry))))) × (r ≤ length (now (t .entry))) ⌝ }
+    ensures { λ r. ⌜ (r ≡ firstSize catalogue (now (t .entry))) × (r ≤ length (now (t .entry))) ⌝ }
 {
     let k = next_cluster(t);
     k.len

@@ -6,7 +6,7 @@ use native.Mathlib.Omega.{arith}
 use borrow.Author.Needs.{needs}
 use lib.ListN.{length, length-set, set, getD, drop, take}
 use lib.Seq.{paste, paste-zero}
-use Rattle.buffer.proofs.Laws.{cut-step, cut-law, cut-none}
+use Rattle.buffer.proofs.Shifts.{cut-step, cut-law, cut-none}
 use Rattle.buffer.proofs.cut_bytes.Statement.{statement}
 use Rattle.buffer.proofs.cut_bytes.Tie as tie
 

@@ -4,7 +4,7 @@ use Prim.Native.Nat.{ℕ, _≤_, _-_}
 use lib.ListN.{length, length-set, replicate}
 use lib.Seq.{sets}
 use denote.Ref.{now}
-use Rattle.buffer.proofs.Laws.{fill-more}
+use Rattle.buffer.proofs.Shifts.{fill-more}
 use Rattle.buffer.proofs.fill.Statement.{statement}
 use Rattle.buffer.proofs.fill.Tie as tie
 

@@ -1,7 +1,7 @@
 -- `insert_bytes` meets its contract: the tail from `at` on is lent to `shift_and_write`. Assumes nothing.
 use borrow.Author.Needs.{needs}
 use native.Mathlib.Omega.{arith}
-use Rattle.buffer.proofs.Laws.{back-law, insert-none}
+use Rattle.buffer.proofs.Shifts.{back-law, insert-none}
 use Rattle.buffer.proofs.insert_bytes.Statement.{statement}
 use Rattle.buffer.proofs.insert_bytes.Tie as tie
 

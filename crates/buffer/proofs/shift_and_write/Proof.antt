@@ -1,6 +1,6 @@
--- `shift::shift_and_write` meets its contract: a move up, then a write over the front. Assumes nothing.
+-- `buffer::shift_and_write` meets its contract: a move up, then a write over the front. Assumes nothing.
 use borrow.Author.Needs.{needs}
-use Rattle.buffer.proofs.Laws.{write-law}
+use Rattle.buffer.proofs.Shifts.{write-law}
 use Rattle.buffer.proofs.shift_and_write.Statement.{statement}
 use Rattle.buffer.proofs.shift_and_write.Tie as tie
 

@@ -1,4 +1,4 @@
--- `shift::shift_up` meets its contract. The invariant: the bytes from `i` on have moved. The measure is `i`.
+-- `buffer::shift_up` meets its contract. The invariant: the bytes from `i` on have moved. The measure is `i`.
 -- Assumes nothing.
 use mathlib.Core.Path.{_≡_, refl, ap, _∙_}
 use mathlib.Core.List.{List}
@@ -7,7 +7,7 @@ use native.Mathlib.Omega.{arith}
 use borrow.Author.Needs.{needs}
 use lib.ListN.{length, length-set, set, getD}
 use Rattle.buffer.specs.Edit.{shifted}
-use Rattle.buffer.proofs.Laws.{shift-step, shift-none}
+use Rattle.buffer.proofs.Shifts.{shift-step, shift-none}
 use Rattle.buffer.proofs.shift_up.Statement.{statement}
 use Rattle.buffer.proofs.shift_up.Tie as tie
 

@@ -1,4 +1,4 @@
--- `shift::write_front` meets its contract. The invariant: `j` bytes of `src` stand at the front. Assumes nothing.
+-- `buffer::write_front` meets its contract. The invariant: `j` bytes of `src` stand at the front. Assumes nothing.
 use mathlib.Core.Path.{_≡_, refl, sym, ap, _∙_}
 use mathlib.Core.List.{List, _++_}
 use Prim.Native.Nat.{ℕ, _+_, _-_, _≤_}

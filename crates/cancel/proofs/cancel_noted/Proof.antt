@@ -11,9 +11,9 @@ use Rattle.retrace.specs.Records.{SizesOf}
 use Rattle.undo.specs.Steps.{lineOf, lentBy}
 use Rattle.undo.proofs.Seams.{newest-some}
 use Rattle.undo.proofs.Walks.{sizes-next}
-use Rattle.buffer.proofs.Gaps.{shut-end}
-use Rattle.undo.proofs.Gaps.{shut-kept, plain-kept, plain-used, closed}
-use Rattle.cancel.proofs.Cancels.{Cancelling, cancel-answered, mark-within, cancelling-first, cancel-more, cancel-stop, cancelling-next, cancel-ended}
+use Rattle.buffer.proofs.Gaps.{shut-kept, plain-kept, plain-used, shut-end}
+use Rattle.undo.proofs.Gaps.{closed}
+use Rattle.cancel.proofs.Cancels.{Cancelling, cancel-not-refused, mark-within, cancelling-first, cancel-more, cancel-stop, cancelling-next, cancel-ended}
 use Rattle.cancel.proofs.cancel_noted.Statement.{statement}
 use Rattle.cancel.proofs.cancel_noted.Tie as tie
 
@@ -62,7 +62,7 @@ returns c =
     let h = c .before .before .before .before .before .before .before .before .before .before .before .before .loop-test .taken in
     let u = c .before .before .before .before .before .before .before .before .before .before .undo-record in
     let e = c .before .before .close in
-    closed (e .ensures .0) (u .result .gap) (u .last .1 .0) (u .ensures .1 .0) (u .ensures .1 .1) (e .last .0) (e .kept .0) (e .ensures .1) (cancel-answered _ _ _)
+    closed (e .ensures .0) (u .result .gap) (u .last .1 .0) (u .ensures .1 .0) (u .ensures .1 .1) (e .last .0) (e .kept .0) (e .ensures .1) (cancel-not-refused _ _ _)
     (cancel-stop k (g .1 .0) h (cancel-more k h .2) (u .result) (shut (u .result .step .len) (u .result .gap) (u .last .1 .0)) (u .ensures .0) (c .before .before .before .before .if1 .taken) (e .ensures .0))
 
 sub-left-2 : tie.Need-sub-left-2 Inv-loop μ-loop
@@ -108,7 +108,7 @@ returns-2 c =
     let k = b .inv .0 in
     let e = c .before .before .before .before .before .move-gap in
     let q = c .says .ensures ∙ ap (says 0 (lineOf (b .s))) (c .before .cancel .ensures) in
-    closed q (b .gap) (b .text) (b .inv .2) (plain-used (b .s .len) (b .gap) (b .text) (k .come .ready .used)) (e .last .0) (e .kept .0) (e .ensures) (cancel-answered _ _ _)
+    closed q (b .gap) (b .text) (b .inv .2) (plain-used (b .s .len) (b .gap) (b .text) (k .come .ready .used)) (e .last .0) (e .kept .0) (e .ensures) (cancel-not-refused _ _ _)
     (cancel-ended k (g .1 .0) (c .before .before .before .before .before .before .before .loop-test .left) (g .1 .1) q)
 
 pub cancel-noted-spec : {M : Type 1} → statement M

@@ -4,8 +4,8 @@ use borrow.Author.Needs.{needs}
 use Rattle.cluster_tests.proofs.point_at.Statement.{statement}
 use Rattle.cluster_tests.proofs.point_at.Tie as tie
 
-is-space-requires : tie.Need-is-space-requires
-is-space-requires c κs = search needs
+is-at-requires : tie.Need-is-at-requires
+is-at-requires c κs = search needs
 
 returns : tie.Need-returns
 returns c = search needs
@@ -14,10 +14,10 @@ add-number-at : tie.Need-add-number-at
 add-number-at c = search needs
 
 number-at-requires : tie.Need-number-at-requires
-number-at-requires c κs = omega (arith, c .before .is-space .ensures (not-false _ (c .if1 .left)))
+number-at-requires c κs = omega (arith, c .before .is-at .ensures (not-false _ (c .if1 .left)))
 
-is-space-requires-2 : tie.Need-is-space-requires-2
-is-space-requires-2 c κs = search needs
+is-at-requires-2 : tie.Need-is-at-requires-2
+is-at-requires-2 c κs = search needs
 
 returns-2 : tie.Need-returns-2
 returns-2 c = search needs
@@ -38,18 +38,18 @@ add-t9 : tie.Need-add-t9
 add-t9 c = search needs
 
 returns-5 : tie.Need-returns-5
-returns-5 c = let h = c .before .before .before .is-space2 .ensures (not-false _ (c .before .before .if2 .left)) in
+returns-5 c = let h = c .before .before .before .is-at2 .ensures (not-false _ (c .before .before .if2 .left)) in
     (omega arith, omega arith)
 
 pub point-at-spec : {M : Type 1} → statement M
 point-at-spec =
     tie.close
     (tie.spec
-    is-space-requires
+    is-at-requires
     returns
     add-number-at
     number-at-requires
-    is-space-requires-2
+    is-at-requires-2
     returns-2
     add-digits
     sub-digits

@@ -13,8 +13,8 @@ abbrev μ-loop : tie.MeasureT-loop
 loop-holds : tie.Need-loop-holds Inv-loop μ-loop
 loop-holds c = search needs
 
-line-end-requires : tie.Need-line-end-requires Inv-loop μ-loop
-line-end-requires c κs = search needs
+place-of-requires : tie.Need-place-of-requires Inv-loop μ-loop
+place-of-requires c κs = search needs
 
 sub-counted : tie.Need-sub-counted Inv-loop μ-loop
 sub-counted c = search needs
@@ -56,7 +56,7 @@ total-spec =
     Inv-loop
     μ-loop
     loop-holds
-    line-end-requires
+    place-of-requires
     sub-counted
     part-counted-start
     part-counted-end

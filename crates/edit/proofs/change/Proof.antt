@@ -3,13 +3,15 @@ use mathlib.Core.Path.{sym, ap, _∙_}
 use Prim.Native.Nat.{_-_}
 use lib.ListN.{length, take, drop}
 use denote.Ref.{now}
+use Rattle.lists.specs.Lists.{part}
 use Rattle.unicode.specs.Repertoire.{catalogue}
 use Rattle.records.specs.Formats.{asFormat}
 use Rattle.changeset.specs.declared.Log.{Log}
 use Rattle.changeset.specs.Calls.{editOf}
-use Rattle.edit.specs.Plan.{part, changeOut}
+use Rattle.edit.specs.Plan.{changeOut}
 use Rattle.edit.specs.Calls.{lent, sizesOf, stateOf, says}
-use Rattle.edit.proofs.Made.{is-blank, too-long, unrecorded, no-room, made, raw-part, numbered-as, ok-as, logged-as, edited-as}
+use Rattle.edit.proofs.Parts.{raw-part}
+use Rattle.edit.proofs.Made.{is-blank, too-long, unrecorded, no-room, made, numbered-as, ok-as, logged-as, edited-as}
 use borrow.Author.Needs.{needs}
 use Rattle.edit.proofs.change.Statement.{statement}
 use Rattle.edit.proofs.change.Tie as tie

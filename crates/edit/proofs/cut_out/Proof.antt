@@ -5,16 +5,18 @@ use Prim.Native.Nat.{ℕ, _≤_}
 use lib.ListN.{length, take}
 use lib.Seq.{length-take-le}
 use denote.Ref.{now}
+use Rattle.lists.specs.Lists.{part}
 use Rattle.unicode.specs.Repertoire.{catalogue}
 use Rattle.unicode.specs.Text.{isText}
 use Rattle.cluster.specs.Clusters.{clustersOf}
 use Rattle.journal.specs.Change.{delete}
 use Rattle.journal.specs.Recording.{isSingle}
 use Rattle.records.specs.Formats.{asFormat}
-use Rattle.edit.specs.Plan.{part, cutting, once, edited, changeOut}
+use Rattle.edit.specs.Plan.{cutting, once, edited, changeOut}
 use Rattle.edit.specs.Calls.{lent, sizesOf, stateOf}
-use Rattle.edit.proofs.Made.{raw-part, outcome-as}
-use Rattle.edit.proofs.Once.{part-text, once-cut}
+use Rattle.edit.proofs.Parts.{part-text, raw-part}
+use Rattle.edit.proofs.Made.{outcome-as}
+use Rattle.edit.proofs.Once.{once-cut}
 use borrow.Author.Needs.{needs}
 use Rattle.edit.proofs.cut_out.Statement.{statement}
 use Rattle.edit.proofs.cut_out.Tie as tie

@@ -12,8 +12,7 @@ use Rattle.records.specs.Formats.{asFormat}
 use Rattle.records.proofs.Numbers.{top-max}
 use Rattle.edit.specs.Calls.{lent}
 use Rattle.edit.proofs.Answers.{length-kept}
-use Rattle.edit.proofs.Made.{raw-part}
-use Rattle.edit.proofs.Once.{part-text}
+use Rattle.edit.proofs.Parts.{part-text, raw-part}
 use Rattle.edit.proofs.Pair.{cut-suits, first-narrow, second-narrow, pair-room}
 use borrow.Author.Needs.{needs}
 use Rattle.edit.proofs.pair_fits.Statement.{statement}

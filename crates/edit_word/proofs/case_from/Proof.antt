@@ -9,8 +9,7 @@ use Rattle.journal.specs.Layout.{narrow}
 use Rattle.records.proofs.Formats.{narrow-fit}
 use Rattle.edit.specs.Calls.{lent}
 use Rattle.edit.proofs.Answers.{length-kept}
-use Rattle.edit.proofs.Made.{raw-part}
-use Rattle.edit.proofs.Once.{part-length}
+use Rattle.edit.proofs.Parts.{part-length, raw-part}
 use Rattle.edit.proofs.Held.{take-within}
 use Rattle.edit_word.specs.EditWord.{inCase}
 use Rattle.edit_word.proofs.Recased.{word-in, recased-suits, recased}

@@ -6,7 +6,8 @@ use denote.Ref.{now}
 use Rattle.unicode.specs.Repertoire.{catalogue}
 use Rattle.unicode.specs.Text.{isText}
 use Rattle.edit.specs.Calls.{lent}
-use Rattle.unicode.proofs.Typed.{encode-max, typed-text, typed-within, typed-bytes}
+use Rattle.utf8.proofs.Encode.{encode-max}
+use Rattle.unicode.proofs.Typed.{typed-text, typed-within, typed-bytes}
 use Rattle.inserts.proofs.Calls.{insert-char, insert-refused, insert-one, insert-many}
 use borrow.Author.Needs.{needs}
 use Rattle.inserts.proofs.insert.Statement.{statement}

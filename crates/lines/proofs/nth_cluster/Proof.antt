@@ -4,7 +4,8 @@ use mathlib.Core.Path.{_≡_, sym, _∙_}
 use native.Mathlib.Omega.{arith}
 use lib.ListN.{length-take, length-drop, length, drop}
 use Rattle.unicode.specs.Repertoire.{catalogue}
-use Rattle.lines.specs.Columns.{part, nthCluster}
+use Rattle.lists.specs.Lists.{part}
+use Rattle.lines.specs.Columns.{nthCluster}
 use Rattle.lines.proofs.Columns.{nthFrom, nth-start, nth-end, nth-stuck, nth-found, nth-more}
 use Rattle.lines.proofs.nth_cluster.Statement.{statement}
 use Rattle.lines.proofs.nth_cluster.Tie as tie

@@ -17,7 +17,7 @@ use Rattle.journal.specs.Recording.{note, recordDelete}
 use Rattle.journal.proofs.Recording.{delete-none, delete-some}
 use Rattle.changeset.specs.Calls.{says}
 use Rattle.changeset.proofs.Recorded.{only-dropped}
-use Rattle.log_calls.proofs.Narrow.{a-delete}
+use Rattle.log_calls.proofs.Recorded.{a-delete}
 use borrow.Author.Needs.{needs}
 use Rattle.log_calls.proofs.delete.Statement.{statement}
 use Rattle.log_calls.proofs.delete.Tie as tie

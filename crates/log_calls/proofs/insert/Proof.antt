@@ -16,7 +16,7 @@ use lib.Seq.{length-take-le}
 use Rattle.unicode.specs.Text.{isChar, isText}
 use Rattle.journal.specs.Change.{insert}
 use Rattle.journal.specs.Recording.{note, recordInsert}
-use Rattle.log_calls.proofs.Narrow.{an-insert, insert-is}
+use Rattle.log_calls.proofs.Recorded.{an-insert, insert-is}
 use Rattle.unicode.proofs.Typed.{typed-text, typed-within, typed-bytes}
 use borrow.Author.Needs.{needs}
 use Rattle.log_calls.proofs.insert.Statement.{statement}

@@ -18,7 +18,7 @@ use Rattle.journal.specs.Recording.{note, recordInsertStr}
 use Rattle.journal.proofs.Recording.{insert-none, insert-some}
 use Rattle.changeset.specs.Calls.{says}
 use Rattle.changeset.proofs.Recorded.{only-dropped}
-use Rattle.log_calls.proofs.Narrow.{an-insert}
+use Rattle.log_calls.proofs.Recorded.{an-insert}
 use borrow.Author.Needs.{needs}
 use Rattle.log_calls.proofs.insert_str.Statement.{statement}
 use Rattle.log_calls.proofs.insert_str.Tie as tie

@@ -14,7 +14,7 @@ use mathlib.Core.Bool.{true, _||_}
 use Rattle.unicode.specs.Text.{isText}
 use Rattle.journal.specs.Change.{replace}
 use Rattle.journal.specs.Recording.{note, recordReplace}
-use Rattle.log_calls.proofs.Narrow.{a-replace, neither, replace-is}
+use Rattle.log_calls.proofs.Recorded.{a-replace, neither, replace-is}
 use borrow.Author.Needs.{needs}
 use Rattle.log_calls.proofs.replace.Statement.{statement}
 use Rattle.log_calls.proofs.replace.Tie as tie

@@ -4,7 +4,8 @@ use Rattle.unicode.specs.Repertoire.{catalogue}
 use Rattle.checks.specs.Checks.{noTests}
 use Rattle.checks.specs.Answers.{movedTo}
 use Rattle.movement.specs.Moves.{elsewhere}
-use Rattle.movement.proofs.Called.{refused, accepted, fit-of, fit-within}
+use Rattle.checks.proofs.Fit.{fit-within}
+use Rattle.movement.proofs.Called.{refused, accepted, fit-of}
 use borrow.Author.Needs.{needs}
 use Rattle.movement.proofs.move_home.Statement.{statement}
 use Rattle.movement.proofs.move_home.Tie as tie

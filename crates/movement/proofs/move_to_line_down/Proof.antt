@@ -5,7 +5,8 @@ use Rattle.unicode.specs.Repertoire.{catalogue}
 use Rattle.checks.specs.Checks.{noTests}
 use Rattle.checks.specs.Answers.{movedTo}
 use Rattle.movement.specs.Moves.{promptTests}
-use Rattle.movement.proofs.Called.{refused, accepted, fit-of, fit-within, fit-small, prompt-before, prompt-over, prompt-fits}
+use Rattle.checks.proofs.Fit.{fit-within, fit-small}
+use Rattle.movement.proofs.Called.{refused, accepted, fit-of, prompt-before, prompt-over, prompt-fits}
 use borrow.Author.Needs.{needs}
 use Rattle.movement.proofs.move_to_line_down.Statement.{statement}
 use Rattle.movement.proofs.move_to_line_down.Tie as tie

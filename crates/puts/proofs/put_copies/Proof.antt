@@ -3,6 +3,7 @@ use mathlib.Core.Path.{refl, sym, _∙_}
 use lib.ListN.{length}
 use borrow.Author.Tests.{not-true, not-false}
 use denote.Ref.{now}
+use Rattle.lists.proofs.Parts.{none-left}
 use Rattle.unicode.specs.Repertoire.{catalogue}
 use Rattle.unicode.proofs.Text.{text-nil}
 use Rattle.journal.specs.Layout.{narrow}
@@ -11,7 +12,6 @@ use Rattle.buffer.specs.Edit.{copies}
 use Rattle.buffer.proofs.Copies.{copies-length}
 use Rattle.edit.specs.Calls.{lent}
 use Rattle.edit.proofs.Answers.{cursor-in}
-use Rattle.edit.proofs.Made.{no-bytes}
 use Rattle.puts.proofs.Copied.{product-fits}
 use Rattle.puts.proofs.Puts.{copies-long, copies-put}
 use Rattle.puts.proofs.InPlace.{copies-narrow, copies-full, new-text, copies-made}
@@ -53,7 +53,7 @@ same-length-3 : tie.Need-same-length-3
 same-length-3 c = search needs
 
 returns-2 : tie.Need-returns-2
-returns-2 c = copies-put (lent (now (c .before .before .before .before .before .before .before .before .before .before .before .before .before .before .before .before .before .args .text)) (now (c .before .before .before .before .before .before .before .before .before .before .before .before .before .before .before .before .before .args .records)) (now (c .before .before .before .before .before .before .before .before .before .before .before .before .before .before .before .before .before .args .texts)) (c .before .before .before .before .before .before .before .before .before .before .before .before .before .before .before .before .before .args .line) (c .before .before .before .before .before .before .before .before .before .before .before .before .before .before .before .before .before .args .log)) _ _ _ _ _ _ ((now (c .before .before .before .before .before .before .before .before .before .before .before .before .before .before .before .before .before .args .s))) ((c .before .before .before .before .before .before .before .before .before .before .before .before .before .before .before .before .before .args .n)) ((sym (no-bytes (copies ((c .before .before .before .before .before .before .before .before .before .before .before .before .before .before .before .before .before .args .n)) ((now (c .before .before .before .before .before .before .before .before .before .before .before .before .before .before .before .before .before .args .s)))) (copies-length ((c .before .before .before .before .before .before .before .before .before .before .before .before .before .before .before .before .before .args .n)) ((now (c .before .before .before .before .before .before .before .before .before .before .before .before .before .before .before .before .before .args .s))) ∙ c .before .before .before .before .before .before .before .before .before .before .before .if2 .taken)))) refl (c .before .before .before .before .before .before .put-in .ensures)
+returns-2 c = copies-put (lent (now (c .before .before .before .before .before .before .before .before .before .before .before .before .before .before .before .before .before .args .text)) (now (c .before .before .before .before .before .before .before .before .before .before .before .before .before .before .before .before .before .args .records)) (now (c .before .before .before .before .before .before .before .before .before .before .before .before .before .before .before .before .before .args .texts)) (c .before .before .before .before .before .before .before .before .before .before .before .before .before .before .before .before .before .args .line) (c .before .before .before .before .before .before .before .before .before .before .before .before .before .before .before .before .before .args .log)) _ _ _ _ _ _ ((now (c .before .before .before .before .before .before .before .before .before .before .before .before .before .before .before .before .before .args .s))) ((c .before .before .before .before .before .before .before .before .before .before .before .before .before .before .before .before .before .args .n)) ((sym (none-left (copies ((c .before .before .before .before .before .before .before .before .before .before .before .before .before .before .before .before .before .args .n)) ((now (c .before .before .before .before .before .before .before .before .before .before .before .before .before .before .before .before .before .args .s)))) (copies-length ((c .before .before .before .before .before .before .before .before .before .before .before .before .before .before .before .before .before .args .n)) ((now (c .before .before .before .before .before .before .before .before .before .before .before .before .before .before .before .before .before .args .s))) ∙ c .before .before .before .before .before .before .before .before .before .before .before .if2 .taken)))) refl (c .before .before .before .before .before .before .put-in .ensures)
 
 room-now-requires : tie.Need-room-now-requires
 room-now-requires c κs = search needs

@@ -6,8 +6,10 @@ use Rattle.unicode.specs.Repertoire.{catalogue}
 use Rattle.unicode.specs.Text.{isText}
 use Rattle.edit.specs.Calls.{lent}
 use Rattle.records.proofs.Formats.{narrow-fit}
-use Rattle.unicode.proofs.Typed.{encode-max, typed-text}
-use Rattle.puts.proofs.Puts.{an-insert, char-put}
+use Rattle.utf8.proofs.Encode.{encode-max}
+use Rattle.unicode.proofs.Typed.{typed-text}
+use Rattle.edit.proofs.Parts.{an-insert}
+use Rattle.puts.proofs.Puts.{char-put}
 use borrow.Author.Needs.{needs}
 use Rattle.puts.proofs.type_char.Statement.{statement}
 use Rattle.puts.proofs.type_char.Tie as tie

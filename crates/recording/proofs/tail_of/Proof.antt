@@ -5,11 +5,11 @@ use lib.ListN.{length, getD}
 use denote.Ref.{now}
 use Rattle.unicode.specs.Repertoire.{catalogue}
 use Rattle.journal.specs.Layout.{numAt, firstLen, secondLen}
-use Rattle.journal.proofs.Decode.{kind-is}
+use Rattle.journal.proofs.Decode.{kind-is, is-replacement}
 use Rattle.records.specs.Formats.{asFormat}
 use Rattle.records.proofs.Records.{one-room, two-room}
 use Rattle.recording.specs.Tails.{tail}
-use Rattle.recording.proofs.Newest.{by-group, by-insert, by-delete, by-replace, high, last-whole, tail-read, tail-none}
+use Rattle.recording.proofs.Newest.{by-group, by-insert, by-delete, by-replace, last-whole, tail-read, tail-none}
 use borrow.Author.Needs.{needs}
 use Rattle.recording.proofs.tail_of.Statement.{statement}
 use Rattle.recording.proofs.tail_of.Tie as tie
@@ -63,16 +63,16 @@ returns-4 : tie.Need-returns-4
 returns-4 c = (tail-read catalogue (asFormat (c .before .before .before .before .before .before .before .before .before .args .f)) (now (c .before .before .before .before .before .before .before .before .before .args .records)) (c .before .before .before .before .before .before .last-start .result) (c .before .before .before .before .before .before .before .before .before .args .texts) (c .before .before .before .before .before .before .last-start .ensures) (omega (arith, c .before .before .before .before .before .before .before .if1 .left)) _) (ap₂ (λ (a b : ℕ). tail (length (now (c .before .before .before .before .before .before .before .before .before .args .records))) (c .before .before .before .before .before .before .before .before .before .args .texts) 4 a b 0) (c .before .before .before .read-num .ensures .0) (c .before .before .read-num2 .ensures .0) ∙ by-delete (asFormat (c .before .before .before .before .before .before .before .before .before .args .f)) _ _ (getD (now (c .before .before .before .before .before .before .before .before .before .args .records)) (c .before .before .before .before .before .before .last-start .result) 0) (numAt (asFormat (c .before .before .before .before .before .before .before .before .before .args .f) .width) (now (c .before .before .before .before .before .before .before .before .before .args .records)) ((c .before .before .before .before .before .before .last-start .result) + 1)) (firstLen (asFormat (c .before .before .before .before .before .before .before .before .before .args .f)) (now (c .before .before .before .before .before .before .before .before .before .args .records)) (c .before .before .before .before .before .before .last-start .result)) (secondLen (asFormat (c .before .before .before .before .before .before .before .before .before .args .f)) (now (c .before .before .before .before .before .before .before .before .before .args .records)) (c .before .before .before .before .before .before .last-start .result)) (c .before .before .before .before .if2 .left) (c .before .if3 .left) (c .if4 .taken))
 
 add-read-num-4 : tie.Need-add-read-num-4
-add-read-num-4 c = omega (arith, (last-whole catalogue (asFormat (c .before .before .before .before .before .before .before .before .before .args .f)) (now (c .before .before .before .before .before .before .before .before .before .args .records)) (c .before .before .before .before .before .before .last-start .result) (c .before .before .before .before .before .before .last-start .ensures) (c .before .before .before .before .before .before .before .before .before .pre .1) (omega (arith, c .before .before .before .before .before .before .before .if1 .left))) .1, (two-room (asFormat (c .before .before .before .before .before .before .before .before .before .args .f)) (now (c .before .before .before .before .before .before .before .before .before .args .records)) (c .before .before .before .before .before .before .last-start .result) (getD (now (c .before .before .before .before .before .before .before .before .before .args .records)) (c .before .before .before .before .before .before .last-start .result) 0) ((last-whole catalogue (asFormat (c .before .before .before .before .before .before .before .before .before .args .f)) (now (c .before .before .before .before .before .before .before .before .before .args .records)) (c .before .before .before .before .before .before .last-start .result) (c .before .before .before .before .before .before .last-start .ensures) (c .before .before .before .before .before .before .before .before .before .pre .1) (omega (arith, c .before .before .before .before .before .before .before .if1 .left))) .0) refl (omega (arith, high (asFormat (c .before .before .before .before .before .before .before .before .before .args .f)) (getD (now (c .before .before .before .before .before .before .before .before .before .args .records)) (c .before .before .before .before .before .before .last-start .result) 0) (kind-is (asFormat (c .before .before .before .before .before .before .before .before .before .args .f)) (getD (now (c .before .before .before .before .before .before .before .before .before .args .records)) (c .before .before .before .before .before .before .last-start .result) 0) ((last-whole catalogue (asFormat (c .before .before .before .before .before .before .before .before .before .args .f)) (now (c .before .before .before .before .before .before .before .before .before .args .records)) (c .before .before .before .before .before .before .last-start .result) (c .before .before .before .before .before .before .last-start .ensures) (c .before .before .before .before .before .before .before .before .before .pre .1) (omega (arith, c .before .before .before .before .before .before .before .if1 .left))) .0)) (c .before .before .before .before .if2 .left) (c .before .if3 .left) (c .if4 .left)))))
+add-read-num-4 c = omega (arith, (last-whole catalogue (asFormat (c .before .before .before .before .before .before .before .before .before .args .f)) (now (c .before .before .before .before .before .before .before .before .before .args .records)) (c .before .before .before .before .before .before .last-start .result) (c .before .before .before .before .before .before .last-start .ensures) (c .before .before .before .before .before .before .before .before .before .pre .1) (omega (arith, c .before .before .before .before .before .before .before .if1 .left))) .1, (two-room (asFormat (c .before .before .before .before .before .before .before .before .before .args .f)) (now (c .before .before .before .before .before .before .before .before .before .args .records)) (c .before .before .before .before .before .before .last-start .result) (getD (now (c .before .before .before .before .before .before .before .before .before .args .records)) (c .before .before .before .before .before .before .last-start .result) 0) ((last-whole catalogue (asFormat (c .before .before .before .before .before .before .before .before .before .args .f)) (now (c .before .before .before .before .before .before .before .before .before .args .records)) (c .before .before .before .before .before .before .last-start .result) (c .before .before .before .before .before .before .last-start .ensures) (c .before .before .before .before .before .before .before .before .before .pre .1) (omega (arith, c .before .before .before .before .before .before .before .if1 .left))) .0) refl (omega (arith, is-replacement (asFormat (c .before .before .before .before .before .before .before .before .before .args .f)) (getD (now (c .before .before .before .before .before .before .before .before .before .args .records)) (c .before .before .before .before .before .before .last-start .result) 0) (kind-is (asFormat (c .before .before .before .before .before .before .before .before .before .args .f)) (getD (now (c .before .before .before .before .before .before .before .before .before .args .records)) (c .before .before .before .before .before .before .last-start .result) 0) ((last-whole catalogue (asFormat (c .before .before .before .before .before .before .before .before .before .args .f)) (now (c .before .before .before .before .before .before .before .before .before .args .records)) (c .before .before .before .before .before .before .last-start .result) (c .before .before .before .before .before .before .last-start .ensures) (c .before .before .before .before .before .before .before .before .before .pre .1) (omega (arith, c .before .before .before .before .before .before .before .if1 .left))) .0)) (c .before .before .before .before .if2 .left) (c .before .if3 .left) (c .if4 .left)))))
 
 add-read-num-5 : tie.Need-add-read-num-5
-add-read-num-5 c = omega (arith, (last-whole catalogue (asFormat (c .before .before .before .before .before .before .before .before .before .args .f)) (now (c .before .before .before .before .before .before .before .before .before .args .records)) (c .before .before .before .before .before .before .last-start .result) (c .before .before .before .before .before .before .last-start .ensures) (c .before .before .before .before .before .before .before .before .before .pre .1) (omega (arith, c .before .before .before .before .before .before .before .if1 .left))) .1, (two-room (asFormat (c .before .before .before .before .before .before .before .before .before .args .f)) (now (c .before .before .before .before .before .before .before .before .before .args .records)) (c .before .before .before .before .before .before .last-start .result) (getD (now (c .before .before .before .before .before .before .before .before .before .args .records)) (c .before .before .before .before .before .before .last-start .result) 0) ((last-whole catalogue (asFormat (c .before .before .before .before .before .before .before .before .before .args .f)) (now (c .before .before .before .before .before .before .before .before .before .args .records)) (c .before .before .before .before .before .before .last-start .result) (c .before .before .before .before .before .before .last-start .ensures) (c .before .before .before .before .before .before .before .before .before .pre .1) (omega (arith, c .before .before .before .before .before .before .before .if1 .left))) .0) refl (omega (arith, high (asFormat (c .before .before .before .before .before .before .before .before .before .args .f)) (getD (now (c .before .before .before .before .before .before .before .before .before .args .records)) (c .before .before .before .before .before .before .last-start .result) 0) (kind-is (asFormat (c .before .before .before .before .before .before .before .before .before .args .f)) (getD (now (c .before .before .before .before .before .before .before .before .before .args .records)) (c .before .before .before .before .before .before .last-start .result) 0) ((last-whole catalogue (asFormat (c .before .before .before .before .before .before .before .before .before .args .f)) (now (c .before .before .before .before .before .before .before .before .before .args .records)) (c .before .before .before .before .before .before .last-start .result) (c .before .before .before .before .before .before .last-start .ensures) (c .before .before .before .before .before .before .before .before .before .pre .1) (omega (arith, c .before .before .before .before .before .before .before .if1 .left))) .0)) (c .before .before .before .before .if2 .left) (c .before .if3 .left) (c .if4 .left)))))
+add-read-num-5 c = omega (arith, (last-whole catalogue (asFormat (c .before .before .before .before .before .before .before .before .before .args .f)) (now (c .before .before .before .before .before .before .before .before .before .args .records)) (c .before .before .before .before .before .before .last-start .result) (c .before .before .before .before .before .before .last-start .ensures) (c .before .before .before .before .before .before .before .before .before .pre .1) (omega (arith, c .before .before .before .before .before .before .before .if1 .left))) .1, (two-room (asFormat (c .before .before .before .before .before .before .before .before .before .args .f)) (now (c .before .before .before .before .before .before .before .before .before .args .records)) (c .before .before .before .before .before .before .last-start .result) (getD (now (c .before .before .before .before .before .before .before .before .before .args .records)) (c .before .before .before .before .before .before .last-start .result) 0) ((last-whole catalogue (asFormat (c .before .before .before .before .before .before .before .before .before .args .f)) (now (c .before .before .before .before .before .before .before .before .before .args .records)) (c .before .before .before .before .before .before .last-start .result) (c .before .before .before .before .before .before .last-start .ensures) (c .before .before .before .before .before .before .before .before .before .pre .1) (omega (arith, c .before .before .before .before .before .before .before .if1 .left))) .0) refl (omega (arith, is-replacement (asFormat (c .before .before .before .before .before .before .before .before .before .args .f)) (getD (now (c .before .before .before .before .before .before .before .before .before .args .records)) (c .before .before .before .before .before .before .last-start .result) 0) (kind-is (asFormat (c .before .before .before .before .before .before .before .before .before .args .f)) (getD (now (c .before .before .before .before .before .before .before .before .before .args .records)) (c .before .before .before .before .before .before .last-start .result) 0) ((last-whole catalogue (asFormat (c .before .before .before .before .before .before .before .before .before .args .f)) (now (c .before .before .before .before .before .before .before .before .before .args .records)) (c .before .before .before .before .before .before .last-start .result) (c .before .before .before .before .before .before .last-start .ensures) (c .before .before .before .before .before .before .before .before .before .pre .1) (omega (arith, c .before .before .before .before .before .before .before .if1 .left))) .0)) (c .before .before .before .before .if2 .left) (c .before .if3 .left) (c .if4 .left)))))
 
 add-read-num-6 : tie.Need-add-read-num-6
-add-read-num-6 c = omega (arith, (last-whole catalogue (asFormat (c .before .before .before .before .before .before .before .before .before .args .f)) (now (c .before .before .before .before .before .before .before .before .before .args .records)) (c .before .before .before .before .before .before .last-start .result) (c .before .before .before .before .before .before .last-start .ensures) (c .before .before .before .before .before .before .before .before .before .pre .1) (omega (arith, c .before .before .before .before .before .before .before .if1 .left))) .1, (two-room (asFormat (c .before .before .before .before .before .before .before .before .before .args .f)) (now (c .before .before .before .before .before .before .before .before .before .args .records)) (c .before .before .before .before .before .before .last-start .result) (getD (now (c .before .before .before .before .before .before .before .before .before .args .records)) (c .before .before .before .before .before .before .last-start .result) 0) ((last-whole catalogue (asFormat (c .before .before .before .before .before .before .before .before .before .args .f)) (now (c .before .before .before .before .before .before .before .before .before .args .records)) (c .before .before .before .before .before .before .last-start .result) (c .before .before .before .before .before .before .last-start .ensures) (c .before .before .before .before .before .before .before .before .before .pre .1) (omega (arith, c .before .before .before .before .before .before .before .if1 .left))) .0) refl (omega (arith, high (asFormat (c .before .before .before .before .before .before .before .before .before .args .f)) (getD (now (c .before .before .before .before .before .before .before .before .before .args .records)) (c .before .before .before .before .before .before .last-start .result) 0) (kind-is (asFormat (c .before .before .before .before .before .before .before .before .before .args .f)) (getD (now (c .before .before .before .before .before .before .before .before .before .args .records)) (c .before .before .before .before .before .before .last-start .result) 0) ((last-whole catalogue (asFormat (c .before .before .before .before .before .before .before .before .before .args .f)) (now (c .before .before .before .before .before .before .before .before .before .args .records)) (c .before .before .before .before .before .before .last-start .result) (c .before .before .before .before .before .before .last-start .ensures) (c .before .before .before .before .before .before .before .before .before .pre .1) (omega (arith, c .before .before .before .before .before .before .before .if1 .left))) .0)) (c .before .before .before .before .if2 .left) (c .before .if3 .left) (c .if4 .left)))))
+add-read-num-6 c = omega (arith, (last-whole catalogue (asFormat (c .before .before .before .before .before .before .before .before .before .args .f)) (now (c .before .before .before .before .before .before .before .before .before .args .records)) (c .before .before .before .before .before .before .last-start .result) (c .before .before .before .before .before .before .last-start .ensures) (c .before .before .before .before .before .before .before .before .before .pre .1) (omega (arith, c .before .before .before .before .before .before .before .if1 .left))) .1, (two-room (asFormat (c .before .before .before .before .before .before .before .before .before .args .f)) (now (c .before .before .before .before .before .before .before .before .before .args .records)) (c .before .before .before .before .before .before .last-start .result) (getD (now (c .before .before .before .before .before .before .before .before .before .args .records)) (c .before .before .before .before .before .before .last-start .result) 0) ((last-whole catalogue (asFormat (c .before .before .before .before .before .before .before .before .before .args .f)) (now (c .before .before .before .before .before .before .before .before .before .args .records)) (c .before .before .before .before .before .before .last-start .result) (c .before .before .before .before .before .before .last-start .ensures) (c .before .before .before .before .before .before .before .before .before .pre .1) (omega (arith, c .before .before .before .before .before .before .before .if1 .left))) .0) refl (omega (arith, is-replacement (asFormat (c .before .before .before .before .before .before .before .before .before .args .f)) (getD (now (c .before .before .before .before .before .before .before .before .before .args .records)) (c .before .before .before .before .before .before .last-start .result) 0) (kind-is (asFormat (c .before .before .before .before .before .before .before .before .before .args .f)) (getD (now (c .before .before .before .before .before .before .before .before .before .args .records)) (c .before .before .before .before .before .before .last-start .result) 0) ((last-whole catalogue (asFormat (c .before .before .before .before .before .before .before .before .before .args .f)) (now (c .before .before .before .before .before .before .before .before .before .args .records)) (c .before .before .before .before .before .before .last-start .result) (c .before .before .before .before .before .before .last-start .ensures) (c .before .before .before .before .before .before .before .before .before .pre .1) (omega (arith, c .before .before .before .before .before .before .before .if1 .left))) .0)) (c .before .before .before .before .if2 .left) (c .before .if3 .left) (c .if4 .left)))))
 
 read-num-requires-3 : tie.Need-read-num-requires-3
-read-num-requires-3 c κs = (c .before .before .before .before .before .before .before .before .before .pre .0 .width, omega (arith, (last-whole catalogue (asFormat (c .before .before .before .before .before .before .before .before .before .args .f)) (now (c .before .before .before .before .before .before .before .before .before .args .records)) (c .before .before .before .before .before .before .last-start .result) (c .before .before .before .before .before .before .last-start .ensures) (c .before .before .before .before .before .before .before .before .before .pre .1) (omega (arith, c .before .before .before .before .before .before .before .if1 .left))) .1, (two-room (asFormat (c .before .before .before .before .before .before .before .before .before .args .f)) (now (c .before .before .before .before .before .before .before .before .before .args .records)) (c .before .before .before .before .before .before .last-start .result) (getD (now (c .before .before .before .before .before .before .before .before .before .args .records)) (c .before .before .before .before .before .before .last-start .result) 0) ((last-whole catalogue (asFormat (c .before .before .before .before .before .before .before .before .before .args .f)) (now (c .before .before .before .before .before .before .before .before .before .args .records)) (c .before .before .before .before .before .before .last-start .result) (c .before .before .before .before .before .before .last-start .ensures) (c .before .before .before .before .before .before .before .before .before .pre .1) (omega (arith, c .before .before .before .before .before .before .before .if1 .left))) .0) refl (omega (arith, high (asFormat (c .before .before .before .before .before .before .before .before .before .args .f)) (getD (now (c .before .before .before .before .before .before .before .before .before .args .records)) (c .before .before .before .before .before .before .last-start .result) 0) (kind-is (asFormat (c .before .before .before .before .before .before .before .before .before .args .f)) (getD (now (c .before .before .before .before .before .before .before .before .before .args .records)) (c .before .before .before .before .before .before .last-start .result) 0) ((last-whole catalogue (asFormat (c .before .before .before .before .before .before .before .before .before .args .f)) (now (c .before .before .before .before .before .before .before .before .before .args .records)) (c .before .before .before .before .before .before .last-start .result) (c .before .before .before .before .before .before .last-start .ensures) (c .before .before .before .before .before .before .before .before .before .pre .1) (omega (arith, c .before .before .before .before .before .before .before .if1 .left))) .0)) (c .before .before .before .before .if2 .left) (c .before .if3 .left) (c .if4 .left))))))
+read-num-requires-3 c κs = (c .before .before .before .before .before .before .before .before .before .pre .0 .width, omega (arith, (last-whole catalogue (asFormat (c .before .before .before .before .before .before .before .before .before .args .f)) (now (c .before .before .before .before .before .before .before .before .before .args .records)) (c .before .before .before .before .before .before .last-start .result) (c .before .before .before .before .before .before .last-start .ensures) (c .before .before .before .before .before .before .before .before .before .pre .1) (omega (arith, c .before .before .before .before .before .before .before .if1 .left))) .1, (two-room (asFormat (c .before .before .before .before .before .before .before .before .before .args .f)) (now (c .before .before .before .before .before .before .before .before .before .args .records)) (c .before .before .before .before .before .before .last-start .result) (getD (now (c .before .before .before .before .before .before .before .before .before .args .records)) (c .before .before .before .before .before .before .last-start .result) 0) ((last-whole catalogue (asFormat (c .before .before .before .before .before .before .before .before .before .args .f)) (now (c .before .before .before .before .before .before .before .before .before .args .records)) (c .before .before .before .before .before .before .last-start .result) (c .before .before .before .before .before .before .last-start .ensures) (c .before .before .before .before .before .before .before .before .before .pre .1) (omega (arith, c .before .before .before .before .before .before .before .if1 .left))) .0) refl (omega (arith, is-replacement (asFormat (c .before .before .before .before .before .before .before .before .before .args .f)) (getD (now (c .before .before .before .before .before .before .before .before .before .args .records)) (c .before .before .before .before .before .before .last-start .result) 0) (kind-is (asFormat (c .before .before .before .before .before .before .before .before .before .args .f)) (getD (now (c .before .before .before .before .before .before .before .before .before .args .records)) (c .before .before .before .before .before .before .last-start .result) 0) ((last-whole catalogue (asFormat (c .before .before .before .before .before .before .before .before .before .args .f)) (now (c .before .before .before .before .before .before .before .before .before .args .records)) (c .before .before .before .before .before .before .last-start .result) (c .before .before .before .before .before .before .last-start .ensures) (c .before .before .before .before .before .before .before .before .before .pre .1) (omega (arith, c .before .before .before .before .before .before .before .if1 .left))) .0)) (c .before .before .before .before .if2 .left) (c .before .if3 .left) (c .if4 .left))))))
 
 returns-5 : tie.Need-returns-5
 returns-5 c = (tail-read catalogue (asFormat (c .before .before .before .before .before .before .before .before .before .before .args .f)) (now (c .before .before .before .before .before .before .before .before .before .before .args .records)) (c .before .before .before .before .before .before .before .last-start .result) (c .before .before .before .before .before .before .before .before .before .before .args .texts) (c .before .before .before .before .before .before .before .last-start .ensures) (omega (arith, c .before .before .before .before .before .before .before .before .if1 .left)) _) (ap₂ (λ (a b : ℕ). tail (length (now (c .before .before .before .before .before .before .before .before .before .before .args .records))) (c .before .before .before .before .before .before .before .before .before .before .args .texts) 5 a b (c .read-num3 .result)) (c .before .before .before .before .read-num .ensures .0) (c .before .before .before .read-num2 .ensures .0) ∙ ap (λ (b : ℕ). tail (length (now (c .before .before .before .before .before .before .before .before .before .before .args .records))) (c .before .before .before .before .before .before .before .before .before .before .args .texts) 5 (numAt (asFormat (c .before .before .before .before .before .before .before .before .before .before .args .f) .width) (now (c .before .before .before .before .before .before .before .before .before .before .args .records)) ((c .before .before .before .before .before .before .before .last-start .result) + 1)) (firstLen (asFormat (c .before .before .before .before .before .before .before .before .before .before .args .f)) (now (c .before .before .before .before .before .before .before .before .before .before .args .records)) (c .before .before .before .before .before .before .before .last-start .result)) b) (c .read-num3 .ensures .0) ∙ by-replace (asFormat (c .before .before .before .before .before .before .before .before .before .before .args .f)) _ _ (getD (now (c .before .before .before .before .before .before .before .before .before .before .args .records)) (c .before .before .before .before .before .before .before .last-start .result) 0) (numAt (asFormat (c .before .before .before .before .before .before .before .before .before .before .args .f) .width) (now (c .before .before .before .before .before .before .before .before .before .before .args .records)) ((c .before .before .before .before .before .before .before .last-start .result) + 1)) (firstLen (asFormat (c .before .before .before .before .before .before .before .before .before .before .args .f)) (now (c .before .before .before .before .before .before .before .before .before .before .args .records)) (c .before .before .before .before .before .before .before .last-start .result)) (secondLen (asFormat (c .before .before .before .before .before .before .before .before .before .before .args .f)) (now (c .before .before .before .before .before .before .before .before .before .before .args .records)) (c .before .before .before .before .before .before .before .last-start .result)) (c .before .before .before .before .before .if2 .left) (c .before .before .if3 .left) (c .before .if4 .left))

@@ -8,7 +8,7 @@ use denote.Ref.{now}
 use Rattle.unicode.specs.Repertoire.{catalogue}
 use Rattle.records.specs.Formats.{asFormat}
 use Rattle.buffer.specs.Gap.{shut}
-use Rattle.buffer.proofs.Gaps.{shut-length}
+use Rattle.buffer.proofs.Gaps.{shut-length, shut-kept, plain-kept}
 use Rattle.edit.specs.Calls.{stateOf}
 use Rattle.undo.specs.Undo.{redoWalk}
 use Rattle.undo.specs.Steps.{lentBy}
@@ -17,7 +17,7 @@ use Rattle.undo.proofs.Counts.{one-of, counts-on}
 use Rattle.undo.proofs.Walks.{falls}
 use Rattle.undo.proofs.Units.{Walking, walking-first, walked-all, walked-stop, walking-on, walked-last}
 use Rattle.redo.proofs.Redos.{redone}
-use Rattle.undo.proofs.Gaps.{shut-kept, plain-kept, within-there, ends-there}
+use Rattle.undo.proofs.Gaps.{within-there, ends-there}
 use Rattle.redo.proofs.redo_unit.Statement.{statement}
 use Rattle.redo.proofs.redo_unit.Tie as tie
 

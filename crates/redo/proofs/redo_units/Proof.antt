@@ -7,8 +7,8 @@ use Rattle.records.specs.Formats.{asFormat}
 use Rattle.buffer.specs.Gap.{shut}
 use Rattle.edit.specs.Calls.{lent}
 use Rattle.redo.proofs.Redos.{Redoing, redoing-first, redo-ended, more-left, redoing-next, redo-stopped}
-use Rattle.buffer.proofs.Gaps.{shut-end}
-use Rattle.undo.proofs.Gaps.{shut-kept, plain-kept, plain-used, redo-answered, closed}
+use Rattle.buffer.proofs.Gaps.{shut-kept, plain-kept, plain-used, shut-end}
+use Rattle.undo.proofs.Gaps.{redo-not-refused, closed}
 use Rattle.redo.proofs.redo_units.Statement.{statement}
 use Rattle.redo.proofs.redo_units.Tie as tie
 
@@ -44,7 +44,7 @@ returns c =
     let k = b .inv .0 in
     let e = c .before .before .before .move-gap in
     let q = c .says .ensures in
-    closed q (b .gap) (b .text) (b .inv .1) (plain-used (b .line-now .len) (b .gap) (b .text) (k .ready .used)) (e .last .0) (e .kept .0) (e .ensures) (redo-answered _ _ _) (redo-ended k (c .before .before .before .before .before .if1 .taken) q)
+    closed q (b .gap) (b .text) (b .inv .1) (plain-used (b .line-now .len) (b .gap) (b .text) (k .ready .used)) (e .last .0) (e .kept .0) (e .ensures) (redo-not-refused _ _ _) (redo-ended k (c .before .before .before .before .before .if1 .taken) q)
 
 redo-unit-requires : tie.Need-redo-unit-requires Inv-loop μ-loop
 redo-unit-requires c κs =
@@ -74,7 +74,7 @@ returns-2 c =
     let h = more-left k (c .before .before .before .before .before .before .before .before .before .before .before .before .before .before .if1 .left) in
     let e = c .before .before .before .move-gap2 in
     let q = c .says2 .ensures in
-    closed q (u .result .gap) (u .last .1 .0) (u .ensures .1) (plain-used (u .result .answer .line .len) (u .result .gap) (u .last .1 .0) (u .ensures .0 .ready .used)) (e .last .0) (e .kept .0) (e .ensures) (redo-answered _ _ _) (redo-stopped k h (u .ensures .0) (c .before .before .before .before .before .before .behind .ensures) (c .before .before .before .before .before .if2 .taken) q)
+    closed q (u .result .gap) (u .last .1 .0) (u .ensures .1) (plain-used (u .result .answer .line .len) (u .result .gap) (u .last .1 .0) (u .ensures .0 .ready .used)) (e .last .0) (e .kept .0) (e .ensures) (redo-not-refused _ _ _) (redo-stopped k h (u .ensures .0) (c .before .before .before .before .before .before .behind .ensures) (c .before .before .before .before .before .if2 .taken) q)
 
 sub-left : tie.Need-sub-left Inv-loop μ-loop
 sub-left c = more-left (c .before .before .before .before .before .before .before .before .before .before .before .before .loop .inv .0) (c .before .before .before .before .before .before .before .before .before .if1 .left)

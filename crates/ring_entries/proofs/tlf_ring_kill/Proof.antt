@@ -56,7 +56,7 @@ use Rattle.kill_ring.proofs.kill as core
 use Rattle.kill_ring.proofs.kill.Symbol as core-def
 use Rattle.kill_ring.proofs.kill.Symbol.{name as #kill-ring·kill}
 use Rattle.kill_ring.proofs.kill.Met as core-thm
-use Rattle.ring_entries.proofs.tlf_ring_kill.Key.{name as #edit-line·tlf-ring-kill}
+use Rattle.ring_entries.proofs.tlf_ring_kill.Key.{name as #ring-entries·tlf-ring-kill}
 use Rattle.ring_entries.proofs.tlf_ring_kill as f
 use Rattle.ring_entries.proofs.tlf_ring_kill.Statement as stated
 use Rattle.ring_entries.proofs.tlf_ring_kill.Code as code
@@ -218,6 +218,6 @@ pub tlf-ring-kill-spec : {M : Type 1} → stated.statement M
 unfolding code.routine tablesOf
 tlf-ring-kill-spec 𝓤 H 𝓜 𝓖 𝓡 =
     entered 𝓤 H (tripleOf 𝓤 H (𝓖 .A) f.signature (f.spec 𝓤 H (𝓖 .A) (𝓜 .mem) (𝓡 .run)))
-    (tables 𝓤 H 𝓜 𝓡 code.env .C) (tables 𝓤 H 𝓜 𝓡 code.env .Λ) #edit-line·tlf-ring-kill code.function (code.unfolded 𝓤 H 𝓜 𝓡)
+    (tables 𝓤 H 𝓜 𝓡 code.env .C) (tables 𝓤 H 𝓜 𝓡 code.env .Λ) #ring-entries·tlf-ring-kill code.function (code.unfolded 𝓤 H 𝓜 𝓡)
     (tlf-ring-kill-meets 𝓤 H (𝓖 .A) (givenOf 𝓤 H 𝓜 𝓖) (𝓜 .mem) (𝓡 .run) (tablesOf 𝓤 H 𝓜 (tables 𝓤 H 𝓜 𝓡 code.env))
     (cited 𝓤 H (Core 𝓤 H (𝓖 .A) (𝓜 .mem) (𝓡 .run)) 𝓜 𝓡 code.env #kill-ring·kill core-def.routine code.calls-kill-ring·kill (core-thm.met 𝓤 H 𝓜 𝓖 𝓡)))

@@ -51,7 +51,7 @@ use Rattle.kill_ring.proofs.new as core
 use Rattle.kill_ring.proofs.new.Symbol as core-def
 use Rattle.kill_ring.proofs.new.Symbol.{name as #kill-ring·new}
 use Rattle.kill_ring.proofs.new.Met as core-thm
-use Rattle.ring_entries.proofs.tlf_ring_new.Key.{name as #edit-line·tlf-ring-new}
+use Rattle.ring_entries.proofs.tlf_ring_new.Key.{name as #ring-entries·tlf-ring-new}
 use Rattle.ring_entries.proofs.tlf_ring_new as f
 use Rattle.ring_entries.proofs.tlf_ring_new.Statement as stated
 use Rattle.ring_entries.proofs.tlf_ring_new.Code as code
@@ -147,6 +147,6 @@ pub tlf-ring-new-spec : {M : Type 1} → stated.statement M
 unfolding code.routine tablesOf
 tlf-ring-new-spec 𝓤 H 𝓜 𝓖 𝓡 =
     entered 𝓤 H (tripleOf 𝓤 H (𝓖 .A) f.signature (f.spec 𝓤 H (𝓖 .A) (𝓜 .mem) (𝓡 .run)))
-    (tables 𝓤 H 𝓜 𝓡 code.env .C) (tables 𝓤 H 𝓜 𝓡 code.env .Λ) #edit-line·tlf-ring-new code.function (code.unfolded 𝓤 H 𝓜 𝓡)
+    (tables 𝓤 H 𝓜 𝓡 code.env .C) (tables 𝓤 H 𝓜 𝓡 code.env .Λ) #ring-entries·tlf-ring-new code.function (code.unfolded 𝓤 H 𝓜 𝓡)
     (tlf-ring-new-meets 𝓤 H (𝓖 .A) (givenOf 𝓤 H 𝓜 𝓖) (𝓜 .mem) (𝓡 .run) (tablesOf 𝓤 H 𝓜 (tables 𝓤 H 𝓜 𝓡 code.env))
     (cited 𝓤 H (Core 𝓤 H (𝓖 .A) (𝓜 .mem) (𝓡 .run)) 𝓜 𝓡 code.env #kill-ring·new core-def.routine code.calls-kill-ring·new (core-thm.met 𝓤 H 𝓜 𝓖 𝓡)))

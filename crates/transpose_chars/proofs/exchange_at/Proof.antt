@@ -8,11 +8,10 @@ use Rattle.unicode.specs.Repertoire.{catalogue}
 use Rattle.unicode.proofs.Text.{text-valid}
 use Rattle.journal.specs.Layout.{narrow}
 use Rattle.records.proofs.Formats.{narrow-fit}
+use Rattle.buffer.proofs.Inserted.{copied}
 use Rattle.edit.specs.Calls.{lent}
 use Rattle.edit.proofs.Answers.{length-kept}
-use Rattle.edit.proofs.Made.{raw-part}
-use Rattle.edit.proofs.Once.{part-length}
-use Rattle.transpose_chars.proofs.Copied.{copied}
+use Rattle.edit.proofs.Parts.{part-length, raw-part}
 use Rattle.transpose_chars.proofs.Exchange.{pair-suits, reaches, goes-back, used-is, not-exchanged, exchanged}
 use borrow.Author.Needs.{needs}
 use Rattle.transpose_chars.proofs.exchange_at.Statement.{statement}

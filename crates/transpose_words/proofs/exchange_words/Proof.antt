@@ -7,12 +7,11 @@ use denote.Ref.{now}
 use borrow.Author.Tests.{not-true, not-false}
 use Rattle.unicode.specs.Repertoire.{catalogue}
 use Rattle.journal.specs.Layout.{narrow}
+use Rattle.buffer.proofs.Inserted.{copied}
 use Rattle.edit.specs.Calls.{lent}
 use Rattle.edit.proofs.Answers.{length-kept, nine, ten}
-use Rattle.edit.proofs.Made.{raw-part}
-use Rattle.edit.proofs.Once.{part-length}
+use Rattle.edit.proofs.Parts.{part-length, raw-part}
 use Rattle.word_pairs.specs.WordPairs.{wordsPlan}
-use Rattle.transpose_chars.proofs.Copied.{copied}
 use Rattle.word_pairs.proofs.Four.{words-long, words-short}
 use Rattle.word_pairs.proofs.FourRoom.{text-within, small1, small2}
 use borrow.Author.Needs.{needs}

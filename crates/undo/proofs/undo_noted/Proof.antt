@@ -16,8 +16,8 @@ use Rattle.undo.proofs.Seams.{some-newest, none-newest}
 use Rattle.undo.proofs.Counts.{one-of, counts-back}
 use Rattle.undo.proofs.Walks.{edited, falls, sizes-next}
 use Rattle.undo.proofs.Units.{Walking, walking-first, walked-all, walked-stop, walking-on, walking-next, walked-last}
-use Rattle.buffer.proofs.Gaps.{shut-end}
-use Rattle.undo.proofs.Gaps.{shut-kept, plain-kept, plain-used, closed}
+use Rattle.buffer.proofs.Gaps.{shut-kept, plain-kept, plain-used, shut-end}
+use Rattle.undo.proofs.Gaps.{closed}
 use Rattle.undo.proofs.undo_noted.Statement.{statement}
 use Rattle.undo.proofs.undo_noted.Tie as tie
 

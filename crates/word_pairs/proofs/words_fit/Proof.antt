@@ -12,8 +12,7 @@ use Rattle.journal.specs.Recording.{isSingle}
 use Rattle.records.proofs.Formats.{narrow-fit}
 use Rattle.edit.specs.Calls.{lent}
 use Rattle.edit.proofs.Answers.{length-kept}
-use Rattle.edit.proofs.Made.{raw-part}
-use Rattle.edit.proofs.Once.{part-text}
+use Rattle.edit.proofs.Parts.{part-text, raw-part}
 use Rattle.word_pairs.proofs.FourRoom.{narrow0, narrow1, narrow2, narrow3, four-room}
 use borrow.Author.Needs.{needs}
 use Rattle.word_pairs.proofs.words_fit.Statement.{statement}

@@ -1,11 +1,12 @@
--- Laws on lists: a turn of the loop that moves bytes up, one of the loop that closes a gap, and an insertion as a write into the tail.
+-- Bytes shifted: a turn of the loop that moves them up, one of the loop that closes a gap, and an insertion as a write into the tail. Assumes nothing.
 use mathlib.Core.Path.{_≡_, sym, ap, _∙_}
 use mathlib.Core.List.{List, [], _∷_, _++_, append-assoc}
-use Prim.Native.Nat.{ℕ, zero, suc, _+_, _-_, _<_, _≤_}
+use Prim.Native.Nat.{ℕ, suc, _+_, _-_, _<_, _≤_}
 use native.Mathlib.Omega.{arith}
 use native.Mathlib.Numerals.{add-one}
 use lib.ListN.{length, getD, set, take, drop, length-take, length-drop, length-append, take-append-drop, replicate, length-replicate, replicate-append-replicate, List·getD-append}
-use lib.Seq.{slice, slice-cons, slice-empty, take-suc, append-snoc, set-at, getD-take, getD-drop, length-take-le, take-all, paste, paste-suc, take-at, drop-at, take-take, take-nil, take-paste, length-paste-head, getD-append-add, sets}
+use lib.Seq.{slice, slice-cons, slice-empty, take-suc, append-snoc, set-at, getD-take, getD-drop, length-take-le, take-all, paste, paste-suc, take-at, drop-at, take-take, take-paste, length-paste-head, getD-append-add, sets}
+use Rattle.lists.proofs.Parts.{drop-take}
 use Rattle.lists.proofs.Stores.{sets-append}
 use Rattle.buffer.specs.Edit.{shifted, inserted, cut, written}
 
@@ -55,22 +56,6 @@ cut-step d at up j h k =
     ∙ paste-suc d at (drop up d) j 0 (omega arith) more
     ∙ ap (λ (q : ℕ). paste d at (drop up d) q) (sym (add-one j))
 
--- a part, taken from the front of what is behind a, or from what is before its end
-pub take-drop : (a n : ℕ) (l : List ℕ) → take n (drop a l) ≡ drop a (take (a + n) l)
-take-drop zero n l =
-    let e : n ≡ 0 + n = omega arith in
-    ap (λ (q : ℕ). take q l) e
-take-drop (suc a) n [] = take-nil n ∙ sym (ap (λ (q : List ℕ). drop (suc a) q) (take-nil (suc a + n)))
-take-drop (suc a) n (y ∷ l) =
-    let e : suc a + n ≡ suc (a + n) = omega arith in
-    take-drop a n l ∙ ap (λ (q : ℕ). drop (suc a) (take q (y ∷ l))) (sym e)
-
--- what is behind a gap, as far as the text goes
-pub take-drop-to : (a used : ℕ) (l : List ℕ) → a ≤ used → take (used - a) (drop a l) ≡ drop a (take used l)
-take-drop-to a used l h =
-    let e : a + (used - a) ≡ used = omega arith in
-    take-drop a (used - a) l ∙ ap (λ (q : ℕ). drop a (take q l)) e
-
 pub cut-law : (d : List ℕ) (used a b : ℕ) → a ≤ b → b ≤ used → used ≤ length d
     → take (used - (b - a)) (paste d a (drop b d) (used - b)) ≡ cut (take used d) a b
 unfolding cut
@@ -79,7 +64,7 @@ cut-law d used a b h k r =
     let f : used - b ≤ length (drop b d) = simp length-drop (omega arith) in
     ap (λ (q : ℕ). take q (paste d a (drop b d) (used - b))) e
     ∙ take-paste d a (drop b d) (used - b) (omega arith) f
-    ∙ ap (λ (q : List ℕ). take a d ++ q) (take-drop-to b used d k)
+    ∙ ap (λ (q : List ℕ). take a d ++ q) (sym (drop-take b used d))
     ∙ ap (λ (q : List ℕ). q ++ drop b (take used d)) (sym (take-take a used d (omega arith)))
 
 -- a write into the tail is an insertion into the text
@@ -92,7 +77,7 @@ insert-law l used at x R h k =
     let shape : take at l ++ (x ++ (take (used - at) (drop at l) ++ R)) ≡ P ++ R = simp append-assoc in
     ap (λ (q : List ℕ). take (used + length x) q) shape
     ∙ take-at P R (used + length x) len
-    ∙ ap (λ (q : List ℕ). take at l ++ (x ++ q)) (take-drop-to at used l h)
+    ∙ ap (λ (q : List ℕ). take at l ++ (x ++ q)) (sym (drop-take at used l))
     ∙ ap (λ (q : List ℕ). q ++ (x ++ drop at (take used l))) (sym (take-take at used l h))
 
 -- a move up and then a write over the front
