@@ -81,6 +81,10 @@ fn main() -> ExitCode {
     // Where the recorded answers are written.
     let crates = std::env::var_os("DIFFERENTIAL_RECORD");
     if crates.is_some() {
+        if n < ENOUGH {
+            eprintln!("differential/record: N is {n}, and at least {ENOUGH} to have each call with every number");
+            return ExitCode::from(2);
+        }
         record::start(seed);
     }
     let began = Instant::now();

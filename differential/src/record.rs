@@ -55,7 +55,7 @@ fn is_edit(name: &str) -> bool {
     edit_calls::ENTRIES.iter().any(|entry| entry.name == name)
 }
 
-/// The calls of the crate `kills`.
+/// The entries of the crate `kill_entries`.
 #[rustfmt::skip]
 const KILLS: [&str; 10] = [
     "tlf_line_kill", "tlf_line_delete", "tlf_line_backspace", "tlf_line_kill_line", "tlf_line_kill_buffer",
@@ -254,12 +254,13 @@ fn commented(text: &str) -> String {
     text.lines().map(|line| format!("# {line}\n")).collect()
 }
 
-/// Writes the data files of the program that replays them, and what it prints where all of it agrees, `stdout`.
+/// Writes the data files of the program that replays them, and what it prints where all of it agrees, `stdout`: all of
+/// them, or none where a call has no line.
 pub fn write(program: &Path, n: u64, seed: u64) -> io::Result<()> {
     RECORDER.with(|r| {
         let recorder = r.borrow();
         let recorder = recorder.as_ref().expect("started");
-        fs::create_dir_all(program.join("data"))?;
+        let mut files = Vec::new();
         let mut printed = String::new();
         for data in &FILES {
             let mut file = commented(&format!("Written by `differential/record {n} {seed}`; {}.", env!("VERSIONS")));
@@ -271,7 +272,7 @@ pub fn write(program: &Path, n: u64, seed: u64) -> io::Result<()> {
                 for &number in gives {
                     let lines: Vec<String> =
                         [false, true].iter().flat_map(|&limit| recorder.drawn(name, number, limit)).collect();
-                    if lines.is_empty() && n >= crate::ENOUGH {
+                    if lines.is_empty() {
                         return Err(io::Error::other(format!("no line of {name} with {number} is short enough")));
                     }
                     lines.iter().for_each(|line| file += &format!("{line}\n"));
@@ -280,8 +281,10 @@ pub fn write(program: &Path, n: u64, seed: u64) -> io::Result<()> {
                 printed += &format!("{}: {count} agree\n", short(name));
             }
             assert!(file.len() <= MOST, "{} has {} bytes", data.file, file.len());
-            fs::write(program.join("data").join(data.file), file)?;
+            files.push((program.join("data").join(data.file), file));
         }
-        fs::write(program.join("stdout"), printed)
+        files.push((program.join("stdout"), printed));
+        fs::create_dir_all(program.join("data"))?;
+        files.iter().try_for_each(|(path, text)| fs::write(path, text))
     })
 }
