@@ -39,6 +39,7 @@ pub enum Batch {
     /// The same in one call.
     UndoAll,
     Cancel,
+    InsertNothing(usize),
     LastInsert(usize),
     RingKill(usize),
     RingYank(usize),
@@ -105,6 +106,7 @@ pub fn play<E: Editor>(batch: Batch, size: usize, given: &str, e: &mut E) -> Pla
         UndoEach => times(size, e, |e| e.undo(1)),
         UndoAll => times(1, e, |e| e.undo(units())),
         Cancel => times(1, e, |e| e.cancel(0)),
+        InsertNothing(calls) => times(calls, e, |e| e.insert_nothing()),
         LastInsert(calls) => times(calls, e, |e| black_box(e.last_insert()).is_some()),
         RingKill(calls) => times(calls, e, |e| e.ring_reset() & e.ring_kill(given)),
         RingYank(calls) => times(calls, e, |e| e.ring_yank().is_some() & e.ring_yank_pop().is_some()),

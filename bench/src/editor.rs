@@ -89,6 +89,8 @@ pub trait Editor {
     fn begin(&mut self) -> bool;
     fn end(&mut self) -> bool;
     fn undo(&mut self, n: u16) -> bool;
+    /// Changeset's insert_str of no text, which records nothing.
+    fn insert_nothing(&mut self) -> bool;
     /// The text.
     fn last_insert(&mut self) -> Option<String>;
     /// The library's alone.

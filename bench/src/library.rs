@@ -54,11 +54,11 @@ macro_rules! edit {
 
 /// L: the log.
 macro_rules! log {
-    ($self:ident, $call:ident) => {{
+    ($self:ident, $call:ident $(, $own:expr)*) => {{
         let (records, records_len) = ($self.records.as_mut_ptr(), $self.records.len());
         let (texts, texts_len) = ($self.texts.as_mut_ptr(), $self.texts.len());
-        // SAFETY: two buffers, each with its length.
-        let answer = unsafe { ffi::$call(records, records_len, texts, texts_len, $self.log) };
+        // SAFETY: two buffers, each with its length; a text given lies apart from them.
+        let answer = unsafe { ffi::$call(records, records_len, texts, texts_len, $self.log $(, $own)*) };
         $self.log = answer.log;
         answer
     }};
@@ -74,7 +74,7 @@ macro_rules! ring {
     }};
 }
 
-/// Where the library answers two places, the text between them is copied, as the Rust does.
+/// For copy and last_insert the text between the two places is copied, as the Rust does.
 fn copied(text: &[u8]) -> String {
     // SAFETY: a call has found that the text is UTF-8, and its places are boundaries of characters.
     unsafe { String::from_utf8_unchecked(text.to_vec()) }
@@ -246,6 +246,10 @@ impl Editor for Library {
 
     fn undo(&mut self, n: u16) -> bool {
         edit!(self, as_ptr, tlf_log_undo, n)
+    }
+
+    fn insert_nothing(&mut self) -> bool {
+        log!(self, tlf_log_insert_str, 0, "".as_ptr(), 0).number == 0
     }
 
     fn last_insert(&mut self) -> Option<String> {

@@ -80,8 +80,8 @@ fn first() -> Vec<Row> {
         Row::new("begin, type a character, end", English(End), Batch::Group(8), BYTES, ROOM).head(text_and_log, 1_000),
         Row::new("undo 1, one unit after the other", Units, UndoEach, UNITS, UNIT_SIZES).head("1,000 units", 1_000),
         Row::new("undo of all units in one call", Units, UndoAll, UNITS, UNIT_SIZES).head("1,000 units", 1_000),
-        Row::new("the check of a full log: last_insert", LoggedTyped, LastInsert(32), LOG, log)
-            .head("log full", log[2]),
+        Row::new("the check of a log: insert_str of no text", Logged, InsertNothing(32), LOG, log).head("log full", log[2]),
+        Row::new("last_insert", LoggedTyped, LastInsert(32), LOG, log).head("log full", log[2]),
         Row::new("ring: reset and kill of a slot's text", Ring, RingKill(64), slots, slot_sizes)
             .head("16 slots of 60 bytes", 60),
         Row::new("ring: yank and yank_pop", Ring, RingYank(256), slots, slot_sizes).head("16 slots of 60 bytes", 60),

@@ -155,6 +155,11 @@ impl Editor for Rustyline {
         self.changes.undo(&mut self.line, n)
     }
 
+    fn insert_nothing(&mut self) -> bool {
+        self.changes.insert_str(0, "");
+        true
+    }
+
     fn last_insert(&mut self) -> Option<String> {
         self.changes.last_insert()
     }
