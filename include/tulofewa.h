@@ -54,7 +54,8 @@ enum tlf_number {
     TLF_PROMPT = 7,     /* a prompt column over its limit */
     TLF_DAMAGED = 8,    /* a log or a ring that breaks its layout */
     TLF_FULL = 9,       /* the text would be longer than C, if only on the way */
-    TLF_LOG_FULL = 10,  /* the records or their texts would not fit, or a group would open above level 255 */
+    TLF_LOG_FULL = 10,  /* the records or their texts would not fit, a record would have to store a place over 65,535,
+                           or a group would open above level 255 */
     TLF_RING_FULL = 11, /* a slot would pass 4,096 bytes */
     TLF_MISFIT = 12     /* undo, redo or cancel meets a record whose range leaves the text or cuts a character */
 };
@@ -425,8 +426,9 @@ tlf_edit_answer tlf_log_cancel(
     size_t texts_len, tlf_line line, tlf_log log, size_t mark);
 
 /*
- * ---- The ring. `slots` has TLF_TEXT_MAX bytes and `lens` 2 bytes for each slot of the ring's size, or more. *ring is
- * updated. Each but tlf_ring_new may answer 0, 2 and 8; in brackets what else.
+ * ---- The ring. `slots` has TLF_TEXT_MAX bytes and `lens` 2 bytes for each slot of the ring's size, or more; what
+ * stands in them from the count on is not looked at. *ring is updated. Each but tlf_ring_new may answer 0, 2 and 8; in
+ * brackets what else.
  */
 
 /* *ring becomes an empty ring of that size, for any buffers that are long enough. Answers 0, or 2 for a size over 16,
@@ -438,7 +440,7 @@ tlf_ring_answer tlf_ring_reset(
     const uint8_t *slots, size_t slots_len, const uint8_t *lens, size_t lens_len, tlf_ring *ring);
 
 /* Keeps a text: after a kill in the same slot, at its end (Append) or front (Prepend), else in the next one, which it
- * overwrites. [3, 4, 11] */
+ * overwrites. A text over 4,096 bytes is 11; a ring of size 0 keeps nothing and answers 0. [3, 4, 11] */
 tlf_ring_answer tlf_ring_kill(
     uint8_t *slots, size_t slots_len, uint8_t *lens, size_t lens_len, tlf_ring *ring, const uint8_t *text,
     size_t text_len, uint32_t mode);

@@ -128,7 +128,7 @@ fn long_lines() {
     let told = lines(format!("ring_kill {long}\nring_kill b\nstart {long}\ninsert b\nstart {long}b\n"));
     let answers: Vec<_> = told.iter().filter(|line| line.starts_with(|ch: char| ch.is_ascii_digit())).collect();
     let full = "the text would be longer than its buffer";
-    let sizes = "a buffer is too large, or a text to put in is longer than the line's buffer";
+    let sizes = "a buffer is over its limit or a ring over 16 slots, or a text to put in is longer than the line's buffer";
     let ring = "a slot of the ring would pass 4,096 bytes";
     let wanted = [
         "0 done",

@@ -76,10 +76,10 @@ impl Refusal {
 impl fmt::Display for Refusal {
     fn fmt(&self, f: &mut fmt::Formatter<'_>) -> fmt::Result {
         f.write_str(match self {
-            Refusal::Sizes => "a buffer is too large, or a text to put in is longer than the line's buffer",
+            Refusal::Sizes => "a buffer is over its limit or a ring over 16 slots, or a text to put in is longer than the line's buffer",
             Refusal::Code => "a code names nothing",
             Refusal::Foreign => "a character is outside the catalogue's repertoire",
-            Refusal::Place => "a place lies beyond the text, or a start after its end",
+            Refusal::Place => "a place lies beyond the text, a start after its end, or a yank size above the cursor",
             Refusal::Split => "a place lies inside a character",
             Refusal::Prompt => "the prompt is wider than 1,024 columns",
             Refusal::Damaged => "the log or the ring breaks its layout",

@@ -102,6 +102,11 @@ impl KillRing {
 
 impl fmt::Debug for KillRing {
     fn fmt(&self, f: &mut fmt::Formatter<'_>) -> fmt::Result {
-        f.debug_list().entries(self.texts()).finish()
+        f.debug_struct("KillRing")
+            .field("size", &self.size())
+            .field("index", &self.index())
+            .field("last_action", &self.last_action())
+            .field("texts", &self.texts().collect::<Vec<_>>())
+            .finish()
     }
 }

@@ -26,7 +26,7 @@ impl EditLine {
         outcome(edit!(self, tlf_line_yank_pop, yank_size, text.as_ptr(), text.len()).number)
     }
 
-    /// The ring's `yank` and the line's in one: both or neither.
+    /// The ring's `yank` and the line's in one: a refusal by the line leaves the ring as it was.
     pub fn yank_killed(&mut self, n: u16) -> Result<Outcome, Refusal> {
         let before = self.ring.record();
         let Some(text) = self.ring.yank()? else { return Ok(Outcome::Nothing) };
@@ -34,7 +34,7 @@ impl EditLine {
         outcome(answer.number).inspect_err(|_| self.ring.put_back(before))
     }
 
-    /// The ring's `yank_pop` and the line's in one: both or neither.
+    /// The ring's `yank_pop` and the line's in one: a refusal by the line leaves the ring as it was.
     pub fn yank_pop_killed(&mut self) -> Result<Outcome, Refusal> {
         let before = self.ring.record();
         let Some((yank_size, text)) = self.ring.yank_pop()? else { return Ok(Outcome::Nothing) };
