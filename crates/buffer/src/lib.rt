@@ -118,11 +118,16 @@ pub fn write_at(s: &mut [u8], at: usize, src: &[u8])
     write_front(&mut s[at..], src);
 }
 
-// Moves the gap of a text of len bytes from a place to another: the bytes between them change sides. No gap moves nothing.
+// Moves the gap of a text of len bytes from a place to another: the bytes between them change sides. No gap moves nothing, and
+// one that stays where it is changes not a byte.
 pub fn move_gap(s: &mut [u8], len: usize, from: usize, to: usize)
     requires { ⌜ (from ≤ len) × ((to ≤ len) × (len ≤ length (now s))) ⌝ }
-    ensures { λ _. ⌜ gapped len to (now (s .exit)) ≡ gapped len from (now (s .entry)) ⌝ }
+    ensures text { λ _. ⌜ gapped len to (now (s .exit)) ≡ gapped len from (now (s .entry)) ⌝ }
+    ensures still { λ _. ⌜ (from ≡ to → now (s .exit) ≡ now (s .entry)) ⌝ }
 {
+    if from == to {
+        return;
+    }
     let gap = s.len() - len;
     if gap == 0 {
         return;

@@ -72,9 +72,10 @@ fn cancel_noted(
     requires { ⌜ count ≡ length (stateOf catalogue (asFormat f) (lent (now text) (now records) (now texts) line log) .log .undo) ⌝ }
     requires { ⌜ opens mark (stateOf catalogue (asFormat f) (lent (now text) (now records) (now texts) line log) .log .undo) ≡ true ⌝ }
     requires { ⌜ begins ≡ beginsDown mark (stateOf catalogue (asFormat f) (lent (now text) (now records) (now texts) line log) .log .undo) ⌝ }
-    ensures { λ r. ⌜ Edited (asFormat f) (lent (now (text .entry)) (now (records .entry)) (now (texts .entry)) line log)
+    ensures outcome { λ r. ⌜ Edited (asFormat f) (lent (now (text .entry)) (now (records .entry)) (now (texts .entry)) line log)
         (cancelOut (length (now (text .entry))) mark (stateOf catalogue (asFormat f) (lent (now (text .entry)) (now (records .entry)) (now (texts .entry)) line log)))
         r (now (text .exit)) (now (records .entry)) (now (texts .entry)) ⌝ }
+    ensures still { λ r. ⌜ (r .log ≡ log → now (text .exit) ≡ now (text .entry)) ⌝ }
 {
     let mut s = Step {
         number: 0,
@@ -116,9 +117,10 @@ fn cancel_group(
 ) -> EditAnswer
     requires { ⌜ Fit f ⌝ }
     requires { ⌜ Ready (asFormat f) (lent (now text) (now records) (now texts) line log) ⌝ }
-    ensures { λ r. ⌜ Edited (asFormat f) (lent (now (text .entry)) (now (records .entry)) (now (texts .entry)) line log)
+    ensures outcome { λ r. ⌜ Edited (asFormat f) (lent (now (text .entry)) (now (records .entry)) (now (texts .entry)) line log)
         (cancelOut (length (now (text .entry))) mark (stateOf catalogue (asFormat f) (lent (now (text .entry)) (now (records .entry)) (now (texts .entry)) line log)))
         r (now (text .exit)) (now (records .entry)) (now (texts .entry)) ⌝ }
+    ensures still { λ r. ⌜ (r .log ≡ log → now (text .exit) ≡ now (text .entry)) ⌝ }
 {
     let mut sizes = [0u8; 32768];
     let u = log.undo;
@@ -142,6 +144,7 @@ fn cancel_group(
     )
 }
 
+// Where the log is as it was, no record was handled, and not a byte of the text's buffer is changed (still).
 // Wrong answers ruled out: the level of the group left as it was; the redo list kept.
 pub fn cancel(
     text: &mut [u8],
@@ -151,9 +154,10 @@ pub fn cancel(
     log: Log,
     mark: usize,
 ) -> EditAnswer
-    ensures { λ r. ⌜ Edited narrow (lent (now (text .entry)) (now (records .entry)) (now (texts .entry)) line log)
+    ensures outcome { λ r. ⌜ Edited narrow (lent (now (text .entry)) (now (records .entry)) (now (texts .entry)) line log)
         (cancelCall catalogue narrow (lent (now (text .entry)) (now (records .entry)) (now (texts .entry)) line log) mark)
         r (now (text .exit)) (now (records .entry)) (now (texts .entry)) ⌝ }
+    ensures still { λ r. ⌜ (r .log ≡ log → now (text .exit) ≡ now (text .entry)) ⌝ }
 {
     let k = refusal(NARROW, text, records, texts, line, log, Own::none());
     if k != 0 {

@@ -121,9 +121,10 @@ pub extern "C" fn tlf_log_undo(
     log: Log,
     n: u16,
 ) -> EditAnswer
-    ensures { λ r. ⌜ edits.Edited narrow (edits.lent (now (text .entry)) (now (records .entry)) (now (texts .entry)) line log)
+    ensures outcome { λ r. ⌜ edits.Edited narrow (edits.lent (now (text .entry)) (now (records .entry)) (now (texts .entry)) line log)
         (undoCall catalogue narrow (edits.lent (now (text .entry)) (now (records .entry)) (now (texts .entry)) line log) n)
         r (now (text .exit)) (now (records .entry)) (now (texts .entry)) ⌝ }
+    ensures still { λ r. ⌜ (r .log ≡ log → now (text .exit) ≡ now (text .entry)) ⌝ }
 {
     undo::undo(text, records, texts, line, log, n)
 }
@@ -137,9 +138,10 @@ pub extern "C" fn tlf_log_redo(
     log: Log,
     n: u16,
 ) -> EditAnswer
-    ensures { λ r. ⌜ edits.Edited narrow (edits.lent (now (text .entry)) (now (records .entry)) (now (texts .entry)) line log)
+    ensures outcome { λ r. ⌜ edits.Edited narrow (edits.lent (now (text .entry)) (now (records .entry)) (now (texts .entry)) line log)
         (redoCall catalogue narrow (edits.lent (now (text .entry)) (now (records .entry)) (now (texts .entry)) line log) n)
         r (now (text .exit)) (now (records .entry)) (now (texts .entry)) ⌝ }
+    ensures still { λ r. ⌜ (r .log ≡ log → now (text .exit) ≡ now (text .entry)) ⌝ }
 {
     redo::redo(text, records, texts, line, log, n)
 }
@@ -153,9 +155,10 @@ pub extern "C" fn tlf_log_cancel(
     log: Log,
     mark: usize,
 ) -> EditAnswer
-    ensures { λ r. ⌜ edits.Edited narrow (edits.lent (now (text .entry)) (now (records .entry)) (now (texts .entry)) line log)
+    ensures outcome { λ r. ⌜ edits.Edited narrow (edits.lent (now (text .entry)) (now (records .entry)) (now (texts .entry)) line log)
         (cancelCall catalogue narrow (edits.lent (now (text .entry)) (now (records .entry)) (now (texts .entry)) line log) mark)
         r (now (text .exit)) (now (records .entry)) (now (texts .entry)) ⌝ }
+    ensures still { λ r. ⌜ (r .log ≡ log → now (text .exit) ≡ now (text .entry)) ⌝ }
 {
     cancel::cancel(text, records, texts, line, log, mark)
 }

@@ -12,7 +12,7 @@ ghost use Rattle.buffer.specs.Gap.{shut};
 ghost use Rattle.records.specs.Formats.{asFormat, Fit};
 ghost use Rattle.edit.specs.Calls.{lent, stateOf, Edited, Ready};
 ghost use Rattle.undo.specs.Undo.{redoOut, redoCall};
-ghost use Rattle.undo.specs.Steps.{lentGap, lentBy, PassesOne, Redone};
+ghost use Rattle.undo.specs.Steps.{lentGap, lentBy, PassesOne, Unmoved, Redone};
 use buffer::move_gap;
 use changeset::Log;
 use checks::Line;
@@ -31,7 +31,7 @@ use undo::Passed;
 use undo::answer;
 use undo::one_if;
 
-// The next record redone.
+// The next record redone. A stop changes nothing.
 fn redo_record(
     f: Format,
     text: &mut [u8],
@@ -46,6 +46,7 @@ fn redo_record(
     requires { ⌜ (s .number ≡ 0) × (0 < log .redo .records) × (gap ≤ s .len) ⌝ }
     ensures pass { λ q. ⌜ PassesOne (asFormat f) (lentBy (now (text .entry)) gap (now (records .entry)) (now (texts .entry)) s log) false (s .undone) q (shut (q .step .len) (q .gap) (now (text .exit))) ⌝ }
     ensures gap { λ q. ⌜ (q .gap ≤ q .step .len) × (q .step .len ≤ length (now (text .exit))) ⌝ }
+    ensures still { λ q. ⌜ ((q .step .number ≡ 0 → ⊥) → (now (text .exit) ≡ now (text .entry)) × (q .step .len ≡ s .len) × (q .gap ≡ gap) × (q .log ≡ log)) ⌝ }
 {
     let u = log.undo;
     let at = u.records;
@@ -92,6 +93,7 @@ fn redo_unit(
     requires { ⌜ gap ≤ line .len ⌝ }
     ensures unit { λ r. ⌜ Redone (asFormat f) (lentGap (now (text .entry)) gap (now (records .entry)) (now (texts .entry)) line log) (r .answer) (shut (r .answer .line .len) (r .gap) (now (text .exit))) ⌝ }
     ensures gap { λ r. ⌜ r .gap ≤ r .answer .line .len ⌝ }
+    ensures still { λ r. ⌜ Unmoved (log .redo .records) (r .answer .log .redo .records) (now (text .entry)) (now (text .exit)) (line .len) (r .answer .line .len) gap (r .gap) ⌝ }
 {
     let mut s = Step {
         number: 0,
@@ -155,9 +157,10 @@ fn redo_units(
 ) -> EditAnswer
     requires { ⌜ Fit f ⌝ }
     requires { ⌜ Ready (asFormat f) (lent (now text) (now records) (now texts) line log) ⌝ }
-    ensures { λ r. ⌜ Edited (asFormat f) (lent (now (text .entry)) (now (records .entry)) (now (texts .entry)) line log)
+    ensures outcome { λ r. ⌜ Edited (asFormat f) (lent (now (text .entry)) (now (records .entry)) (now (texts .entry)) line log)
         (redoOut (length (now (text .entry))) n (stateOf catalogue (asFormat f) (lent (now (text .entry)) (now (records .entry)) (now (texts .entry)) line log)))
         r (now (text .exit)) (now (records .entry)) (now (texts .entry)) ⌝ }
+    ensures still { λ r. ⌜ (r .log ≡ log → now (text .exit) ≡ now (text .entry)) ⌝ }
 {
     let mut line_now = line;
     let mut gap = line.len;
@@ -184,6 +187,7 @@ fn redo_units(
     }
 }
 
+// Where the log is as it was, no record was handled, and not a byte of the text's buffer is changed (still).
 // Wrong answers ruled out: redo 0 answered 0; a unit redone without the End that closes it.
 pub fn redo(
     text: &mut [u8],
@@ -193,9 +197,10 @@ pub fn redo(
     log: Log,
     n: RepeatCount,
 ) -> EditAnswer
-    ensures { λ r. ⌜ Edited narrow (lent (now (text .entry)) (now (records .entry)) (now (texts .entry)) line log)
+    ensures outcome { λ r. ⌜ Edited narrow (lent (now (text .entry)) (now (records .entry)) (now (texts .entry)) line log)
         (redoCall catalogue narrow (lent (now (text .entry)) (now (records .entry)) (now (texts .entry)) line log) n)
         r (now (text .exit)) (now (records .entry)) (now (texts .entry)) ⌝ }
+    ensures still { λ r. ⌜ (r .log ≡ log → now (text .exit) ≡ now (text .entry)) ⌝ }
 {
     let k = refusal(NARROW, text, records, texts, line, log, Own::none());
     if k != 0 {

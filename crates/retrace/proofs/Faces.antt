@@ -101,6 +101,10 @@ stopped-step : (x : Tried) (q : Step) (gap k : ℕ) (b b' : List ℕ) → Exchan
 stopped-step (done s) q gap k b b' e f = absurd (f (e .0))
 stopped-step (stops n) q gap k b b' e f = (ap (stoppedBy q) (e .0), ap (shut (q .len) gap) (e .1))
 
+stopped-same : (x : Tried) (k : ℕ) (b b' : List ℕ) → Exchanged x k b b' → (k ≡ 0 → ⊥) → b' ≡ b
+stopped-same (done s) k b b' e f = absurd (f (e .0))
+stopped-same (stops n) k b b' e f = e .1
+
 -- the text, the cursor and whether a record was undone, as a step has them with the text's buffer
 abbrev trailOf : Step → List ℕ → Trail
 trailOf q b = record { text = take (q .len) b; cursor = q .cursor; undone = q .undone }
@@ -147,6 +151,10 @@ module _ (r : Record) (ts : List ℕ) (t : ℕ) (q : Step) (gap : ℕ) (b : List
         → Retraced (undoing (length B) (facing back c) (trailOf q B)) q (stoppedBy q k) B (shut (q .len) gap b')
     stops-at back c h i f j =
         rw (exchanges (length B) r ts t (trailOf q B) back c out from to h i f) (stopped-step (exchanging (length B) (r .place) out part (take (q .len) B)) q gap k b b' there j)
+
+    -- not a byte of the buffer is changed
+    pub stop-same : (k ≡ 0 → ⊥) → b' ≡ b
+    stop-same = stopped-same (exchanging (length b) (r .place) out part (gapped (q .len) gap b)) k b b' x
 
     module _ (j : k ≡ 0) where
       fit : Fits (length B) (r .place) out part (take (q .len) B)

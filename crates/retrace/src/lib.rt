@@ -145,7 +145,7 @@ pub struct Traced {
     pub gap: usize,
 }
 
-// A record undone (back) or redone, whose texts begin at t, in a text with its gap at a place.
+// A record undone (back) or redone, whose texts begin at t, in a text with its gap at a place. A stop changes not a byte.
 pub fn retrace(
     text: &mut [u8],
     texts: &[u8],
@@ -161,6 +161,7 @@ pub fn retrace(
         (undoing (length (shut (s .len) gap (now (text .entry)))) (facing back c) (record { text = take (s .len) (shut (s .len) gap (now (text .entry))); cursor = s .cursor; undone = s .undone }))
         s (q .step) (shut (s .len) gap (now (text .entry))) (shut (q .step .len) (q .gap) (now (text .exit)))) ⌝ }
     ensures gap { λ q. ⌜ (q .gap ≤ q .step .len) × (q .step .len ≤ length (now (text .exit))) ⌝ }
+    ensures still { λ q. ⌜ ((q .step .number ≡ 0 → ⊥) → (now (text .exit) ≡ now (text .entry)) × (q .step .len ≡ s .len) × (q .gap ≡ gap)) ⌝ }
 {
     if r.kind <= 2 {
         return Traced { step: s, gap };

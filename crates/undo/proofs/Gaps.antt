@@ -1,6 +1,7 @@
 -- The text with a gap while records are walked, and the gap closed behind them. Assumes nothing.
-use Prim.Native.Nat.{ℕ, zero, suc, _≤_}
-use mathlib.Core.Path.{_≡_, sym, ap, subst, _∙_}
+use Prim.Native.Nat.{ℕ, zero, suc, _≤_, _<_}
+use native.Mathlib.Omega.{arith}
+use mathlib.Core.Path.{_≡_, refl, sym, ap, subst, _∙_}
 use mathlib.Core.Bool.{Bool, true, false, cond}
 use mathlib.Core.List.{List}
 use lib.Dec.{eqb}
@@ -14,6 +15,8 @@ use Rattle.edit.specs.declared.EditAnswer.{EditAnswer}
 use Rattle.edit.specs.Plan.{State, Outcome, refused, answered}
 use Rattle.edit.specs.Calls.{Lent, says, Edited}
 use Rattle.undo.specs.Undo.{Walked, numberOf, redoneState, redoWalk, behindNumber, redoOut}
+use Rattle.undo.specs.Steps.{Unmoved}
+use Rattle.undo.proofs.Seams.{usedOf}
 use Rattle.undo.proofs.Walks.{Ends}
 
 -- ---- a walk's answer r, whose line is a
@@ -62,3 +65,39 @@ pub closed : {n : ℕ} {a : Line} {g : Log} {r : EditAnswer} → r ≡ says n a 
 closed {a = a} {r = r} q gap t h k t′ i f {F} {l} {o} w e =
     let u : take (a .len) t′ ≡ take (a .len) (shut (a .len) gap t) = gap-closed (a .len) t t′ k i gap h f in
     left-same F l o r (shut (a .len) gap t) t′ w (subst (λ (x : EditAnswer). take (x .line .len) t′ ≡ take (x .line .len) (shut (a .len) gap t)) (sym q) u) e
+
+-- ---- where no record was passed, not a byte of the buffer is changed
+-- at the beginning of a walk
+pub unmoved-first : {u : ℕ} {t : List ℕ} {len gap : ℕ} → Unmoved u u t t len len gap gap
+unmoved-first = record { fewer = omega arith; same = λ e. (refl, refl, refl) }
+
+module _ {u₀ u : ℕ} {t₀ t : List ℕ} {len₀ len gap₀ gap : ℕ} (k : Unmoved u₀ u t₀ t len₀ len gap₀ gap) where
+  -- a record passed
+  pub unmoved-next : {u′ : ℕ} {t′ : List ℕ} {len′ gap′ : ℕ} → u′ < u → Unmoved u₀ u′ t₀ t′ len₀ len′ gap₀ gap′
+  unmoved-next h = record { fewer = omega (arith, k .fewer); same = λ e. absurd (omega (arith, k .fewer)) }
+
+  -- a walk, and one that goes on from there
+  pub unmoved-both : {u′ : ℕ} {t′ : List ℕ} {len′ gap′ : ℕ} → Unmoved u u′ t t′ len len′ gap gap′ → Unmoved u₀ u′ t₀ t′ len₀ len′ gap₀ gap′
+  unmoved-both {u′} {t′} {len′} {gap′} i = record { fewer = omega (arith, k .fewer, i .fewer); same = go }
+    where
+      go : u′ ≡ u₀ → (t′ ≡ t₀) × (len′ ≡ len₀) × (gap′ ≡ gap₀)
+      go e =
+          let a = i .same (omega (arith, k .fewer, i .fewer)) in
+          let b = k .same (omega (arith, k .fewer, i .fewer)) in
+          (a .0 ∙ b .0, a .1 ∙ b .1, a .2 ∙ b .2)
+
+-- a stop before a record
+pub unmoved-stop : (back : Bool) {g g′ : Log} {t t′ : List ℕ} {len len′ gap gap′ : ℕ} → (t′ ≡ t) × (len′ ≡ len) × (gap′ ≡ gap) × (g′ ≡ g) → Unmoved (usedOf back g) (usedOf back g′) t t′ len len′ gap gap′
+unmoved-stop back e = let u = ap (usedOf back) (e .3) in record { fewer = omega (arith, u); same = λ _. (e .0, e .1, e .2) }
+
+-- the answer r of a walk
+pub unmoved-there : (back : Bool) {n : ℕ} {a : Line} {g : Log} {r : EditAnswer} → r ≡ says n a g → {u₀ : ℕ} {t₀ t : List ℕ} {len₀ gap₀ gap : ℕ} → Unmoved u₀ (usedOf back g) t₀ t len₀ (a .len) gap₀ gap
+    → Unmoved u₀ (usedOf back (r .log)) t₀ t len₀ (r .line .len) gap₀ gap
+unmoved-there back q {u₀} {t₀} {t} {len₀} {gap₀} {gap} = subst (λ (x : EditAnswer). Unmoved u₀ (usedOf back (x .log)) t₀ t len₀ (x .line .len) gap₀ gap) (sym q)
+
+-- the gap closed behind a walk that began with it behind the text, and whose answer is r
+pub unmoved-closed : (back : Bool) {n : ℕ} {a : Line} {g : Log} {r : EditAnswer} → r ≡ says n a g → {g₀ : Log} {t₀ t : List ℕ} {len gap : ℕ} → Unmoved (usedOf back g₀) (usedOf back g) t₀ t len (a .len) len gap
+    → {t′ : List ℕ} → (gap ≡ a .len → t′ ≡ t) → r .log ≡ g₀ → t′ ≡ t₀
+unmoved-closed back q k f e =
+    let w = k .same (ap (usedOf back) (sym (ap (λ (x : EditAnswer). x .log) q) ∙ e)) in
+    f (w .2 ∙ sym (w .1)) ∙ w .0

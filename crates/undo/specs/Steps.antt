@@ -1,5 +1,5 @@
 -- One record undone or redone on lent bytes: what undo, redo and cancel are made of.
-use Prim.Native.Nat.{ℕ}
+use Prim.Native.Nat.{ℕ, _≤_}
 use mathlib.Core.Path.{_≡_}
 use mathlib.Core.Bool.{Bool, true, false}
 use mathlib.Core.List.{List, _∷_}
@@ -68,6 +68,12 @@ abbrev pub PassesOne : Format → Lent → Bool → Bool → Passed → List ℕ
 PassesOne F l back b q t =
     (x : Change) (f : List Change) → fromOf back (stateOf catalogue F l .log) ≡ x ∷ f
     → (q .kind ≡ numbersOf (facing back x) .kind) × Leaves F l (undoing (length (l .text)) x (trailBy (stateOf catalogue F l) b)) (passLog back x f (stateOf catalogue F l .log)) (q .step) (q .log) t
+
+-- the list that is walked over has come from u₀ bytes to u: where no record of it was passed, the text's buffer, its length and the
+-- place of its gap are as they were
+pub record Unmoved (u₀ u : ℕ) (t₀ t : List ℕ) (len₀ len gap₀ gap : ℕ) : Type 0 where
+  pub fewer : u ≤ u₀
+  pub same : u ≡ u₀ → (t ≡ t₀) × (len ≡ len₀) × (gap ≡ gap₀)
 
 -- one unit redone: its outcome is the answer r, with what is lent to the next unit, which the checks pass
 pub record Redone (F : Format) (l : Lent) (r : EditAnswer) (t : List ℕ) : Type 0 where

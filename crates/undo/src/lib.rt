@@ -39,7 +39,7 @@ pub struct Passed {
     pub kind: usize,
 }
 
-// The newest record undone. The sizes of the undo list's records are noted.
+// The newest record undone. The sizes of the undo list's records are noted. A stop changes nothing.
 pub fn undo_record(
     f: Format,
     text: &mut [u8],
@@ -56,6 +56,7 @@ pub fn undo_record(
     requires { ⌜ SizesOf (asFormat f) (now sizes) (stateOf catalogue (asFormat f) (lentBy (now text) gap (now records) (now texts) s log) .log .undo) ⌝ }
     ensures pass { λ q. ⌜ PassesOne (asFormat f) (lentBy (now (text .entry)) gap (now (records .entry)) (now (texts .entry)) s log) true (s .undone) q (shut (q .step .len) (q .gap) (now (text .exit))) ⌝ }
     ensures gap { λ q. ⌜ (q .gap ≤ q .step .len) × (q .step .len ≤ length (now (text .exit))) ⌝ }
+    ensures still { λ q. ⌜ ((q .step .number ≡ 0 → ⊥) → (now (text .exit) ≡ now (text .entry)) × (q .step .len ≡ s .len) × (q .gap ≡ gap) × (q .log ≡ log)) ⌝ }
 {
     let u = log.undo;
     let at = u.records;
@@ -95,11 +96,12 @@ pub fn answer(s: Step, log: Log) -> EditAnswer
     says(s.number, line, log)
 }
 
-// The gap closed behind a walk, and its answer.
+// The gap closed behind a walk, and its answer. Behind the text it stands closed already.
 pub fn close(text: &mut [u8], s: Step, gap: usize, log: Log) -> EditAnswer
     requires { ⌜ (gap ≤ s .len) × (s .len ≤ length (now text)) ⌝ }
     ensures answer { λ r. ⌜ r ≡ record { number = numberOf (s .number) (s .undone); from = 0; to = 0; line = lineOf s; log = log } ⌝ }
     ensures text { λ r. ⌜ gapped (s .len) (s .len) (now (text .exit)) ≡ gapped (s .len) gap (now (text .entry)) ⌝ }
+    ensures still { λ _. ⌜ (gap ≡ s .len → now (text .exit) ≡ now (text .entry)) ⌝ }
 {
     move_gap(text, s.len, gap, s.len);
     answer(s, log)
@@ -130,9 +132,10 @@ fn undo_noted(
     requires { ⌜ Ready (asFormat f) (lent (now text) (now records) (now texts) line log) ⌝ }
     requires { ⌜ length (now records) ≤ length (now sizes) ⌝ }
     requires { ⌜ SizesOf (asFormat f) (now sizes) (stateOf catalogue (asFormat f) (lent (now text) (now records) (now texts) line log) .log .undo) ⌝ }
-    ensures { λ r. ⌜ Edited (asFormat f) (lent (now (text .entry)) (now (records .entry)) (now (texts .entry)) line log)
+    ensures outcome { λ r. ⌜ Edited (asFormat f) (lent (now (text .entry)) (now (records .entry)) (now (texts .entry)) line log)
         (undoOut (length (now (text .entry))) n (stateOf catalogue (asFormat f) (lent (now (text .entry)) (now (records .entry)) (now (texts .entry)) line log)))
         r (now (text .exit)) (now (records .entry)) (now (texts .entry)) ⌝ }
+    ensures still { λ r. ⌜ (r .log ≡ log → now (text .exit) ≡ now (text .entry)) ⌝ }
 {
     let mut s = Step {
         number: 0,
@@ -182,9 +185,10 @@ fn undo_units(
 ) -> EditAnswer
     requires { ⌜ Fit f ⌝ }
     requires { ⌜ Ready (asFormat f) (lent (now text) (now records) (now texts) line log) ⌝ }
-    ensures { λ r. ⌜ Edited (asFormat f) (lent (now (text .entry)) (now (records .entry)) (now (texts .entry)) line log)
+    ensures outcome { λ r. ⌜ Edited (asFormat f) (lent (now (text .entry)) (now (records .entry)) (now (texts .entry)) line log)
         (undoOut (length (now (text .entry))) n (stateOf catalogue (asFormat f) (lent (now (text .entry)) (now (records .entry)) (now (texts .entry)) line log)))
         r (now (text .exit)) (now (records .entry)) (now (texts .entry)) ⌝ }
+    ensures still { λ r. ⌜ (r .log ≡ log → now (text .exit) ≡ now (text .entry)) ⌝ }
 {
     let mut sizes = [0u8; 32768];
     let u = log.undo;
@@ -193,6 +197,7 @@ fn undo_units(
     undo_noted(f, text, records, texts, &sizes, line, log, n)
 }
 
+// Where the log is as it was, no record was handled, and not a byte of the text's buffer is changed (still).
 // Wrong answers ruled out: undo 0 that undoes nothing; a unit that goes on over a group's Begin to the end of the list.
 pub fn undo(
     text: &mut [u8],
@@ -202,9 +207,10 @@ pub fn undo(
     log: Log,
     n: RepeatCount,
 ) -> EditAnswer
-    ensures { λ r. ⌜ Edited narrow (lent (now (text .entry)) (now (records .entry)) (now (texts .entry)) line log)
+    ensures outcome { λ r. ⌜ Edited narrow (lent (now (text .entry)) (now (records .entry)) (now (texts .entry)) line log)
         (undoCall catalogue narrow (lent (now (text .entry)) (now (records .entry)) (now (texts .entry)) line log) n)
         r (now (text .exit)) (now (records .entry)) (now (texts .entry)) ⌝ }
+    ensures still { λ r. ⌜ (r .log ≡ log → now (text .exit) ≡ now (text .entry)) ⌝ }
 {
     let k = refusal(NARROW, text, records, texts, line, log, Own::none());
     if k != 0 {

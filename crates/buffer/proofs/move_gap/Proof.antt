@@ -1,16 +1,23 @@
 -- `move_gap` meets its contract: the bytes between the two places go up or down by the gap. Assumes nothing.
 use borrow.Author.Needs.{needs}
-use mathlib.Core.Path.{refl}
+use Prim.Native.Nat.{ℕ}
+use mathlib.Core.Path.{refl, sym, ap}
 use native.Mathlib.Omega.{arith}
+use Rattle.buffer.specs.Gap.{gapped}
 use Rattle.buffer.proofs.Gaps.{gapped-full, gap-down, gap-up}
 use Rattle.buffer.proofs.move_gap.Statement.{statement}
 use Rattle.buffer.proofs.move_gap.Tie as tie
 
+returns : tie.Need-returns
+returns c = let a = c .before .before .args in (ap (λ (n : ℕ). gapped (a .len) n (a .s .now)) (sym (c .if1 .taken)), λ e. refl)
+
 sub-gap : tie.Need-sub-gap
 sub-gap c = search needs
 
-returns : tie.Need-returns
-returns c = let a = c .before .before .args in gapped-full (a .len) (a .from) (a .to) (a .s .now) (c .if1 .taken)
+returns-2 : tie.Need-returns-2
+returns-2 c =
+    let a = c .before .before .before .args in
+    (gapped-full (a .len) (a .from) (a .to) (a .s .now) (c .if2 .taken), λ e. refl)
 
 sub-shift-up : tie.Need-sub-shift-up
 sub-shift-up c = search needs
@@ -30,11 +37,13 @@ shift-up-requires c κs = search needs
 same-length : tie.Need-same-length
 same-length c = search needs
 
-returns-2 : tie.Need-returns-2
-returns-2 c =
+returns-3 : tie.Need-returns-3
+returns-3 c =
     let u = c .before .before in
-    let a = u .before .before .before .before .before .args in
-    gap-down (a .s .now) (u .shift-up .last .0) (a .len) (a .from) (a .to) _ refl (u .before .before .if2 .taken) (omega arith) (omega arith) (u .shift-up .ensures)
+    let a = u .before .before .before .before .before .before .args in (
+      gap-down (a .s .now) (u .shift-up .last .0) (a .len) (a .from) (a .to) _ refl (u .before .before .if3 .taken) (omega arith) (omega arith) (u .shift-up .ensures),
+      (λ e. absurd (u .before .before .before .before .if1 .left e)),
+    )
 
 add-cut-bytes : tie.Need-add-cut-bytes
 add-cut-bytes c = search needs
@@ -57,25 +66,28 @@ cut-bytes-requires c κs = search needs
 same-length-2 : tie.Need-same-length-2
 same-length-2 c = search needs
 
-returns-3 : tie.Need-returns-3
-returns-3 c =
+returns-4 : tie.Need-returns-4
+returns-4 c =
     let u = c .before .before in
-    let a = u .before .before .before .before .before .args in
-    gap-up (a .s .now) (u .cut-bytes .last .0) (a .len) (a .from) (a .to) _ refl (u .before .before .if2 .left) (omega arith) (omega arith) (u .cut-bytes .kept .0) (u .cut-bytes .ensures)
+    let a = u .before .before .before .before .before .before .args in (
+      gap-up (a .s .now) (u .cut-bytes .last .0) (a .len) (a .from) (a .to) _ refl (u .before .before .if3 .left) (omega arith) (omega arith) (u .cut-bytes .kept .0) (u .cut-bytes .ensures),
+      (λ e. absurd (u .before .before .before .before .if1 .left e)),
+    )
 
 pub move-gap-spec : {M : Type 1} → statement M
 move-gap-spec =
     tie.close
     (tie.spec
-    sub-gap
     returns
+    sub-gap
+    returns-2
     sub-shift-up
     part-shift-up-start
     part-shift-up-end
     sub-shift-up-2
     shift-up-requires
     same-length
-    returns-2
+    returns-3
     add-cut-bytes
     sub-cut-bytes
     part-cut-bytes-start
@@ -83,4 +95,4 @@ move-gap-spec =
     add-cut-bytes-2
     cut-bytes-requires
     same-length-2
-    returns-3)
+    returns-4)

@@ -1,6 +1,6 @@
 use borrow.Author.Needs.{needs}
 use native.Mathlib.Omega.{arith}
-use mathlib.Core.Path.{sym, _∙_}
+use mathlib.Core.Path.{refl, sym, _∙_}
 use lib.ListN.{length-reverse}
 use lib.Seq.{length-take-le}
 use denote.Ref.{now}
@@ -69,7 +69,7 @@ returns c =
     let d = lays (asFormat (a .f)) (logLent l) (h .log) in
     let n = c .before .before .before .before .before .before .note-sizes in
     let o = c .before .before .open-begins .ensures (asFormat (a .f)) (n .ensures) _ _ d in
-    cancels-nothing h (a .mark) (not-open (a .mark) u o (c .before .if1 .taken)) (c .says .ensures)
+    (cancels-nothing h (a .mark) (not-open (a .mark) u o (c .before .if1 .taken)) (c .says .ensures), λ e. refl)
 
 slice-aggregate-cancel-noted : tie.Need-slice-aggregate-cancel-noted
 slice-aggregate-cancel-noted c = search needs

@@ -2,17 +2,18 @@ use borrow.Author.Needs.{needs}
 use native.Mathlib.Omega.{arith}
 use Prim.Native.Nat.{_≤_}
 use mathlib.Core.Path.{ap, _∙_}
+use mathlib.Core.Bool.{true}
 use denote.Ref.{now}
 use Rattle.unicode.specs.Repertoire.{catalogue}
 use Rattle.records.specs.Formats.{asFormat}
 use Rattle.buffer.specs.Gap.{shut}
 use Rattle.edit.specs.Calls.{lent, says, stateOf}
 use Rattle.retrace.specs.Records.{SizesOf}
-use Rattle.undo.specs.Steps.{lineOf, lentBy}
+use Rattle.undo.specs.Steps.{lineOf, lentBy, Unmoved}
 use Rattle.undo.proofs.Seams.{newest-some}
-use Rattle.undo.proofs.Walks.{sizes-next}
+use Rattle.undo.proofs.Walks.{falls, sizes-next}
 use Rattle.buffer.proofs.Gaps.{shut-kept, plain-kept, plain-used, shut-end}
-use Rattle.undo.proofs.Gaps.{closed}
+use Rattle.undo.proofs.Gaps.{closed, unmoved-first, unmoved-next, unmoved-both, unmoved-stop, unmoved-closed}
 use Rattle.cancel.proofs.Cancels.{Cancelling, cancel-not-refused, mark-within, cancelling-first, cancel-more, cancel-stop, cancelling-next, cancel-ended}
 use Rattle.cancel.proofs.cancel_noted.Statement.{statement}
 use Rattle.cancel.proofs.cancel_noted.Tie as tie
@@ -22,6 +23,7 @@ Inv-loop f text₀ records texts sizes count mark begins s₀ gap₀ g₀ left�
     Cancelling (asFormat f) (lent text₀ records texts (lineOf s₀) g₀) mark (shut (s .len) gap text) s g left
     × SizesOf (asFormat f) sizes (stateOf catalogue (asFormat f) (lentBy text gap records texts s g) .log .undo)
     × (gap ≤ s .len)
+    × Unmoved (g₀ .undo .records) (g .undo .records) text₀ text (s₀ .len) (s .len) gap₀ gap
 
 abbrev μ-loop : tie.MeasureT-loop
 μ-loop f text₀ records texts sizes count mark begins s₀ gap₀ g₀ left₀ text s gap g left = left
@@ -37,7 +39,7 @@ loop-holds c =
     let s = c .before .before .before .before in
     let g = s .pre .1 .1 .1 .1 in
     let h = s .pre .1 .0 in
-    (cancelling-first h (s .args .mark) (g .1 .0) (g .0) (shut-end (s .args .line .len) (now (s .args .text)) (h .used)), s .pre .1 .1 .1 .0, omega arith)
+    (cancelling-first h (s .args .mark) (g .1 .0) (g .0) (shut-end (s .args .line .len) (now (s .args .text)) (h .used)), s .pre .1 .1 .1 .0, omega arith, unmoved-first)
 
 undo-record-requires : tie.Need-undo-record-requires Inv-loop μ-loop
 undo-record-requires c κs =
@@ -48,7 +50,7 @@ undo-record-requires c κs =
     (s .pre .0, (k .come .ready, ((k .come .number, newest-some (k .come .ready) n, s .pre .1 .1 .0, b .inv .2), b .inv .1)))
 
 close-requires : tie.Need-close-requires Inv-loop μ-loop
-close-requires c κs = c .before .before .before .before .before .before .before .undo-record .ensures .1
+close-requires c κs = c .before .before .before .before .before .before .before .undo-record .ensures .1 .0
 
 same-length : tie.Need-same-length Inv-loop μ-loop
 same-length c =
@@ -58,12 +60,15 @@ same-length c =
 returns : tie.Need-returns Inv-loop μ-loop
 returns c =
     let g = c .before .before .before .before .before .before .before .before .before .before .before .before .before .before .before .before .before .before .pre .1 .1 .1 .1 in
-    let k = c .before .before .before .before .before .before .before .before .before .before .before .before .before .loop .inv .0 in
+    let b = c .before .before .before .before .before .before .before .before .before .before .before .before .before .loop in
+    let k = b .inv .0 in
     let h = c .before .before .before .before .before .before .before .before .before .before .before .before .loop-test .taken in
     let u = c .before .before .before .before .before .before .before .before .before .before .undo-record in
-    let e = c .before .before .close in
-    closed (e .ensures .0) (u .result .gap) (u .last .1 .0) (u .ensures .1 .0) (u .ensures .1 .1) (e .last .0) (e .kept .0) (e .ensures .1) (cancel-not-refused _ _ _)
-    (cancel-stop k (g .1 .0) h (cancel-more k h .2) (u .result) (shut (u .result .step .len) (u .result .gap) (u .last .1 .0)) (u .ensures .0) (c .before .before .before .before .if1 .taken) (e .ensures .0))
+    let e = c .before .before .close in (
+      closed (e .ensures .0) (u .result .gap) (u .last .1 .0) (u .ensures .1 .0 .0) (u .ensures .1 .0 .1) (e .last .0) (e .kept .0) (e .ensures .1 .0) (cancel-not-refused _ _ _)
+          (cancel-stop k (g .1 .0) h (cancel-more k h .2) (u .result) (shut (u .result .step .len) (u .result .gap) (u .last .1 .0)) (u .ensures .0) (c .before .before .before .before .if1 .taken) (e .ensures .0)),
+      unmoved-closed true (e .ensures .0) (unmoved-both (b .inv .3) (unmoved-stop true (u .ensures .1 .1 (c .before .before .before .before .if1 .taken)))) (e .ensures .1 .1),
+    )
 
 sub-left-2 : tie.Need-sub-left-2 Inv-loop μ-loop
 sub-left-2 c = c .before .before .before .before .before .before .before .before .loop-test .taken
@@ -82,7 +87,8 @@ loop-again c =
     let u = c .before .before .before .before .before .before .undo-record in (
       cancelling-next k (g .1 .0) h n (u .result) (shut (u .result .step .len) (u .result .gap) (u .last .1 .0)) (u .ensures .0) (shut-kept (b .s .len) (b .gap) (u .result .step .len) (u .result .gap) (b .text) (u .last .1 .0) (u .kept .1 .0)) (c .if1 .left),
       sizes-next (k .come) n (u .result) (shut (u .result .step .len) (u .result .gap) (u .last .1 .0)) (u .ensures .0) (shut-kept (b .s .len) (b .gap) (u .result .step .len) (u .result .gap) (b .text) (u .last .1 .0) (u .kept .1 .0)) (c .if1 .left) (now (s .args .sizes)) (b .inv .1),
-      u .ensures .1 .0,
+      u .ensures .1 .0 .0,
+      unmoved-next (b .inv .3) (falls true (k .come) n (u .result) (shut (u .result .step .len) (u .result .gap) (u .last .1 .0)) (u .ensures .0) (shut-kept (b .s .len) (b .gap) (u .result .step .len) (u .result .gap) (b .text) (u .last .1 .0) (u .kept .1 .0)) (c .if1 .left)),
     )
 
 move-gap-requires : tie.Need-move-gap-requires Inv-loop μ-loop
@@ -107,9 +113,11 @@ returns-2 c =
     let b = c .before .before .before .before .before .before .before .before .loop in
     let k = b .inv .0 in
     let e = c .before .before .before .before .before .move-gap in
-    let q = c .says .ensures ∙ ap (says 0 (lineOf (b .s))) (c .before .cancel .ensures) in
-    closed q (b .gap) (b .text) (b .inv .2) (plain-used (b .s .len) (b .gap) (b .text) (k .come .ready .used)) (e .last .0) (e .kept .0) (e .ensures) (cancel-not-refused _ _ _)
-    (cancel-ended k (g .1 .0) (c .before .before .before .before .before .before .before .loop-test .left) (g .1 .1) q)
+    let q = c .says .ensures ∙ ap (says 0 (lineOf (b .s))) (c .before .cancel .ensures) in (
+      closed q (b .gap) (b .text) (b .inv .2) (plain-used (b .s .len) (b .gap) (b .text) (k .come .ready .used)) (e .last .0) (e .kept .0) (e .ensures .0) (cancel-not-refused _ _ _)
+          (cancel-ended k (g .1 .0) (c .before .before .before .before .before .before .before .loop-test .left) (g .1 .1) q),
+      unmoved-closed true q (b .inv .3) (e .ensures .1),
+    )
 
 pub cancel-noted-spec : {M : Type 1} → statement M
 cancel-noted-spec =

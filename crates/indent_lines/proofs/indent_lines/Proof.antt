@@ -29,7 +29,7 @@ indented-requires : tie.Need-indented-requires Inv-loop μ-loop
 indented-requires c κs = omega (arith, c .before .before .before .before .before .before .before .pre .0, c .before .before .before .before .before .before .before .pre .1 .0 .within, c .before .before .before .before .before .before .before .pre .1 .0 .used, c .before .before .before .before .before .before .before .pre .1 .0 .small)
 
 loop-holds : tie.Need-loop-holds Inv-loop μ-loop
-loop-holds c = indent-opens (now (c .before .before .before .before .before .before .before .before .args .text)) (now (c .before .before .before .before .before .before .before .before .args .records)) (now (c .before .before .before .before .before .before .before .before .args .texts)) (c .before .before .before .before .before .before .before .before .args .line) (c .before .before .before .before .before .before .before .before .args .log) (c .before .before .before .before .before .before .before .before .args .from) (c .before .before .before .before .before .before .before .before .args .to) (c .before .before .before .before .before .before .before .before .pre .1 .0) (c .before .before .before .before .before .before .before .before .pre .1 .1 .0 .0) (c .before .before .before .before .before .before .before .before .pre .1 .1 .0 .1) (c .before .before .before .move-gap .last .0) (c .before .before .before .move-gap .kept .0) (c .before .before .before .move-gap .ensures) (c .before .before .before .before .before .before .before .before .args .m) (c .before .before .before .before .before .before .before .before .pre .0) (c .before .before .before .before .before .before .before .before .pre .1 .1 .1 .0) (c .before .before .before .before .before .before .before .before .pre .1 .1 .1 .1 .0) (c .before .before .before .before .before .before .before .before .pre .1 .1 .1 .1 .1) (c .indented .result) (c .indented .ensures)
+loop-holds c = indent-opens (now (c .before .before .before .before .before .before .before .before .args .text)) (now (c .before .before .before .before .before .before .before .before .args .records)) (now (c .before .before .before .before .before .before .before .before .args .texts)) (c .before .before .before .before .before .before .before .before .args .line) (c .before .before .before .before .before .before .before .before .args .log) (c .before .before .before .before .before .before .before .before .args .from) (c .before .before .before .before .before .before .before .before .args .to) (c .before .before .before .before .before .before .before .before .pre .1 .0) (c .before .before .before .before .before .before .before .before .pre .1 .1 .0 .0) (c .before .before .before .before .before .before .before .before .pre .1 .1 .0 .1) (c .before .before .before .move-gap .last .0) (c .before .before .before .move-gap .kept .0) (c .before .before .before .move-gap .ensures .0) (c .before .before .before .before .before .before .before .before .args .m) (c .before .before .before .before .before .before .before .before .pre .0) (c .before .before .before .before .before .before .before .before .pre .1 .1 .1 .0) (c .before .before .before .before .before .before .before .before .pre .1 .1 .1 .1 .0) (c .before .before .before .before .before .before .before .before .pre .1 .1 .1 .1 .1) (c .indented .result) (c .indented .ensures)
 
 add-end-behind : tie.Need-add-end-behind Inv-loop μ-loop
 add-end-behind c = omega (arith, (c .before .before .loop .inv) .within, gap-at (lent (shut (c .before .before .before .before .before .before .before .before .before .before .before .args .line .len) (c .before .before .before .before .before .before .before .before .before .before .before .args .from) (c .before .before .before .before .before .before .move-gap .last .0)) (now (c .before .before .before .before .before .before .before .before .before .before .before .args .records)) (now (c .before .before .before .before .before .before .before .before .before .before .before .args .texts)) (c .before .before .before .before .before .before .before .before .before .before .before .args .line) (c .before .before .before .before .before .before .before .before .before .before .before .args .log)) (c .before .before .before .before .before .before .before .before .before .before .before .args .m) (c .before .before .before .before .before .before .before .before .before .before .before .args .from) (c .before .before .before .before .before .before .before .before .before .before .before .args .to) (c .before .before .loop .text) (c .before .before .loop .records) (c .before .before .loop .texts) (c .before .before .loop .line-now) (c .before .before .loop .log-now) (c .before .before .loop .cursor) (c .before .before .loop .at) (c .before .before .loop .end) (c .before .before .loop .left) (c .before .before .loop .inv) .1, small narrow (c .before .before .loop .text) (c .before .before .loop .records) (c .before .before .loop .texts) (c .before .before .loop .line-now) (c .before .before .loop .log-now) (c .before .before .loop .at) (c .before .before .loop .inv .rest .ready), (c .before .before .loop .inv) .order, (c .before .before .loop .inv) .small, c .before .if1 .taken)
@@ -44,7 +44,7 @@ says-requires : tie.Need-says-requires Inv-loop μ-loop
 says-requires c κs = search needs
 
 same-length : tie.Need-same-length Inv-loop μ-loop
-same-length c = c .before .before .before .move-gap2 .kept .0 ∙ sym (shut-length (c .before .before .before .before .before .before .before .before .before .loop .line-now .len) (c .before .before .before .before .before .before .before .before .before .loop .at) (c .before .before .before .before .before .before .before .before .before .loop .text)) ∙ (c .before .before .before .before .before .before .before .before .before .loop .inv) .rest .text ∙ opened-length (now (c .before .before .before .before .before .before .before .before .before .before .before .before .before .before .before .before .before .before .args .text)) (now (c .before .before .before .before .before .before .before .before .before .before .before .before .before .before .before .before .before .before .args .records)) (now (c .before .before .before .before .before .before .before .before .before .before .before .before .before .before .before .before .before .before .args .texts)) (c .before .before .before .before .before .before .before .before .before .before .before .before .before .before .before .before .before .before .args .line) (c .before .before .before .before .before .before .before .before .before .before .before .before .before .before .before .before .before .before .args .log) (c .before .before .before .before .before .before .before .before .before .before .before .before .before .before .before .before .before .before .args .from) (c .before .before .before .before .before .before .before .before .before .before .before .before .before .before .before .before .before .before .args .to) (c .before .before .before .before .before .before .before .before .before .before .before .before .before .before .before .before .before .before .pre .1 .0) (c .before .before .before .before .before .before .before .before .before .before .before .before .before .before .before .before .before .before .pre .1 .1 .0 .0) (c .before .before .before .before .before .before .before .before .before .before .before .before .before .before .before .before .before .before .pre .1 .1 .0 .1) (c .before .before .before .before .before .before .before .before .before .before .before .before .before .move-gap .last .0) (c .before .before .before .before .before .before .before .before .before .before .before .before .before .move-gap .kept .0) (c .before .before .before .before .before .before .before .before .before .before .before .before .before .move-gap .ensures)
+same-length c = c .before .before .before .move-gap2 .kept .0 ∙ sym (shut-length (c .before .before .before .before .before .before .before .before .before .loop .line-now .len) (c .before .before .before .before .before .before .before .before .before .loop .at) (c .before .before .before .before .before .before .before .before .before .loop .text)) ∙ (c .before .before .before .before .before .before .before .before .before .loop .inv) .rest .text ∙ opened-length (now (c .before .before .before .before .before .before .before .before .before .before .before .before .before .before .before .before .before .before .args .text)) (now (c .before .before .before .before .before .before .before .before .before .before .before .before .before .before .before .before .before .before .args .records)) (now (c .before .before .before .before .before .before .before .before .before .before .before .before .before .before .before .before .before .before .args .texts)) (c .before .before .before .before .before .before .before .before .before .before .before .before .before .before .before .before .before .before .args .line) (c .before .before .before .before .before .before .before .before .before .before .before .before .before .before .before .before .before .before .args .log) (c .before .before .before .before .before .before .before .before .before .before .before .before .before .before .before .before .before .before .args .from) (c .before .before .before .before .before .before .before .before .before .before .before .before .before .before .before .before .before .before .args .to) (c .before .before .before .before .before .before .before .before .before .before .before .before .before .before .before .before .before .before .pre .1 .0) (c .before .before .before .before .before .before .before .before .before .before .before .before .before .before .before .before .before .before .pre .1 .1 .0 .0) (c .before .before .before .before .before .before .before .before .before .before .before .before .before .before .before .before .before .before .pre .1 .1 .0 .1) (c .before .before .before .before .before .before .before .before .before .before .before .before .before .move-gap .last .0) (c .before .before .before .before .before .before .before .before .before .before .before .before .before .move-gap .kept .0) (c .before .before .before .before .before .before .before .before .before .before .before .before .before .move-gap .ensures .0)
 
 same-length-2 : tie.Need-same-length-2 Inv-loop μ-loop
 same-length-2 c = (c .before .before .before .before .before .before .before .before .before .loop .inv) .rest .records
@@ -53,7 +53,7 @@ same-length-3 : tie.Need-same-length-3 Inv-loop μ-loop
 same-length-3 c = (c .before .before .before .before .before .before .before .before .before .loop .inv) .rest .texts
 
 returns : tie.Need-returns Inv-loop μ-loop
-returns c = indent-done (lent (shut (c .before .before .before .before .before .before .before .before .before .before .before .before .before .before .before .before .before .before .args .line .len) (c .before .before .before .before .before .before .before .before .before .before .before .before .before .before .before .before .before .before .args .from) (c .before .before .before .before .before .before .before .before .before .before .before .before .before .move-gap .last .0)) (now (c .before .before .before .before .before .before .before .before .before .before .before .before .before .before .before .before .before .before .args .records)) (now (c .before .before .before .before .before .before .before .before .before .before .before .before .before .before .before .before .before .before .args .texts)) (c .before .before .before .before .before .before .before .before .before .before .before .before .before .before .before .before .before .before .args .line) (c .before .before .before .before .before .before .before .before .before .before .before .before .before .before .before .before .before .before .args .log)) (c .before .before .before .before .before .before .before .before .before .before .before .before .before .before .before .before .before .before .args .m) (c .before .before .before .before .before .before .before .before .before .before .before .before .before .before .before .before .before .before .args .from) (c .before .before .before .before .before .before .before .before .before .before .before .before .before .before .before .before .before .before .args .to) (c .before .before .before .before .before .before .before .before .before .loop .text) (c .before .before .before .before .before .before .before .before .before .loop .records) (c .before .before .before .before .before .before .before .before .before .loop .texts) (c .before .before .before .before .before .before .before .before .before .loop .line-now) (c .before .before .before .before .before .before .before .before .before .loop .log-now) (c .before .before .before .before .before .before .before .before .before .loop .cursor) (c .before .before .before .before .before .before .before .before .before .loop .at) (c .before .before .before .before .before .before .before .before .before .loop .end) (c .before .before .before .before .before .before .before .before .before .loop .left) (c .before .before .before .before .before .before .before .before .before .loop .inv) (c .before .before .before .move-gap2 .last .0) (c .before .before .before .move-gap2 .kept .0) (c .before .before .before .before .before .before .before .before .if1 .taken) (c .before .before .before .before .before .before .end-behind .result) (c .before .before .before .before .before .before .end-behind .ensures) (c .before .before .before .before .before .if2 .taken) (c .before .before .before .move-gap2 .ensures) (now (c .before .before .before .before .before .before .before .before .before .before .before .before .before .before .before .before .before .before .args .text)) (sym (opened-length (now (c .before .before .before .before .before .before .before .before .before .before .before .before .before .before .before .before .before .before .args .text)) (now (c .before .before .before .before .before .before .before .before .before .before .before .before .before .before .before .before .before .before .args .records)) (now (c .before .before .before .before .before .before .before .before .before .before .before .before .before .before .before .before .before .before .args .texts)) (c .before .before .before .before .before .before .before .before .before .before .before .before .before .before .before .before .before .before .args .line) (c .before .before .before .before .before .before .before .before .before .before .before .before .before .before .before .before .before .before .args .log) (c .before .before .before .before .before .before .before .before .before .before .before .before .before .before .before .before .before .before .args .from) (c .before .before .before .before .before .before .before .before .before .before .before .before .before .before .before .before .before .before .args .to) (c .before .before .before .before .before .before .before .before .before .before .before .before .before .before .before .before .before .before .pre .1 .0) (c .before .before .before .before .before .before .before .before .before .before .before .before .before .before .before .before .before .before .pre .1 .1 .0 .0) (c .before .before .before .before .before .before .before .before .before .before .before .before .before .before .before .before .before .before .pre .1 .1 .0 .1) (c .before .before .before .before .before .before .before .before .before .before .before .before .before .move-gap .last .0) (c .before .before .before .before .before .before .before .before .before .before .before .before .before .move-gap .kept .0) (c .before .before .before .before .before .before .before .before .before .before .before .before .before .move-gap .ensures))) (sym (opened-text (now (c .before .before .before .before .before .before .before .before .before .before .before .before .before .before .before .before .before .before .args .text)) (now (c .before .before .before .before .before .before .before .before .before .before .before .before .before .before .before .before .before .before .args .records)) (now (c .before .before .before .before .before .before .before .before .before .before .before .before .before .before .before .before .before .before .args .texts)) (c .before .before .before .before .before .before .before .before .before .before .before .before .before .before .before .before .before .before .args .line) (c .before .before .before .before .before .before .before .before .before .before .before .before .before .before .before .before .before .before .args .log) (c .before .before .before .before .before .before .before .before .before .before .before .before .before .before .before .before .before .before .args .from) (c .before .before .before .before .before .before .before .before .before .before .before .before .before .before .before .before .before .before .args .to) (c .before .before .before .before .before .before .before .before .before .before .before .before .before .before .before .before .before .before .pre .1 .0) (c .before .before .before .before .before .before .before .before .before .before .before .before .before .before .before .before .before .before .pre .1 .1 .0 .0) (c .before .before .before .before .before .before .before .before .before .before .before .before .before .before .before .before .before .before .pre .1 .1 .0 .1) (c .before .before .before .before .before .before .before .before .before .before .before .before .before .move-gap .last .0) (c .before .before .before .before .before .before .before .before .before .before .before .before .before .move-gap .kept .0) (c .before .before .before .before .before .before .before .before .before .before .before .before .before .move-gap .ensures))) _ (c .says .ensures)
+returns c = indent-done (lent (shut (c .before .before .before .before .before .before .before .before .before .before .before .before .before .before .before .before .before .before .args .line .len) (c .before .before .before .before .before .before .before .before .before .before .before .before .before .before .before .before .before .before .args .from) (c .before .before .before .before .before .before .before .before .before .before .before .before .before .move-gap .last .0)) (now (c .before .before .before .before .before .before .before .before .before .before .before .before .before .before .before .before .before .before .args .records)) (now (c .before .before .before .before .before .before .before .before .before .before .before .before .before .before .before .before .before .before .args .texts)) (c .before .before .before .before .before .before .before .before .before .before .before .before .before .before .before .before .before .before .args .line) (c .before .before .before .before .before .before .before .before .before .before .before .before .before .before .before .before .before .before .args .log)) (c .before .before .before .before .before .before .before .before .before .before .before .before .before .before .before .before .before .before .args .m) (c .before .before .before .before .before .before .before .before .before .before .before .before .before .before .before .before .before .before .args .from) (c .before .before .before .before .before .before .before .before .before .before .before .before .before .before .before .before .before .before .args .to) (c .before .before .before .before .before .before .before .before .before .loop .text) (c .before .before .before .before .before .before .before .before .before .loop .records) (c .before .before .before .before .before .before .before .before .before .loop .texts) (c .before .before .before .before .before .before .before .before .before .loop .line-now) (c .before .before .before .before .before .before .before .before .before .loop .log-now) (c .before .before .before .before .before .before .before .before .before .loop .cursor) (c .before .before .before .before .before .before .before .before .before .loop .at) (c .before .before .before .before .before .before .before .before .before .loop .end) (c .before .before .before .before .before .before .before .before .before .loop .left) (c .before .before .before .before .before .before .before .before .before .loop .inv) (c .before .before .before .move-gap2 .last .0) (c .before .before .before .move-gap2 .kept .0) (c .before .before .before .before .before .before .before .before .if1 .taken) (c .before .before .before .before .before .before .end-behind .result) (c .before .before .before .before .before .before .end-behind .ensures) (c .before .before .before .before .before .if2 .taken) (c .before .before .before .move-gap2 .ensures .0) (now (c .before .before .before .before .before .before .before .before .before .before .before .before .before .before .before .before .before .before .args .text)) (sym (opened-length (now (c .before .before .before .before .before .before .before .before .before .before .before .before .before .before .before .before .before .before .args .text)) (now (c .before .before .before .before .before .before .before .before .before .before .before .before .before .before .before .before .before .before .args .records)) (now (c .before .before .before .before .before .before .before .before .before .before .before .before .before .before .before .before .before .before .args .texts)) (c .before .before .before .before .before .before .before .before .before .before .before .before .before .before .before .before .before .before .args .line) (c .before .before .before .before .before .before .before .before .before .before .before .before .before .before .before .before .before .before .args .log) (c .before .before .before .before .before .before .before .before .before .before .before .before .before .before .before .before .before .before .args .from) (c .before .before .before .before .before .before .before .before .before .before .before .before .before .before .before .before .before .before .args .to) (c .before .before .before .before .before .before .before .before .before .before .before .before .before .before .before .before .before .before .pre .1 .0) (c .before .before .before .before .before .before .before .before .before .before .before .before .before .before .before .before .before .before .pre .1 .1 .0 .0) (c .before .before .before .before .before .before .before .before .before .before .before .before .before .before .before .before .before .before .pre .1 .1 .0 .1) (c .before .before .before .before .before .before .before .before .before .before .before .before .before .move-gap .last .0) (c .before .before .before .before .before .before .before .before .before .before .before .before .before .move-gap .kept .0) (c .before .before .before .before .before .before .before .before .before .before .before .before .before .move-gap .ensures .0))) (sym (opened-text (now (c .before .before .before .before .before .before .before .before .before .before .before .before .before .before .before .before .before .before .args .text)) (now (c .before .before .before .before .before .before .before .before .before .before .before .before .before .before .before .before .before .before .args .records)) (now (c .before .before .before .before .before .before .before .before .before .before .before .before .before .before .before .before .before .before .args .texts)) (c .before .before .before .before .before .before .before .before .before .before .before .before .before .before .before .before .before .before .args .line) (c .before .before .before .before .before .before .before .before .before .before .before .before .before .before .before .before .before .before .args .log) (c .before .before .before .before .before .before .before .before .before .before .before .before .before .before .before .before .before .before .args .from) (c .before .before .before .before .before .before .before .before .before .before .before .before .before .before .before .before .before .before .args .to) (c .before .before .before .before .before .before .before .before .before .before .before .before .before .before .before .before .before .before .pre .1 .0) (c .before .before .before .before .before .before .before .before .before .before .before .before .before .before .before .before .before .before .pre .1 .1 .0 .0) (c .before .before .before .before .before .before .before .before .before .before .before .before .before .before .before .before .before .before .pre .1 .1 .0 .1) (c .before .before .before .before .before .before .before .before .before .before .before .before .before .move-gap .last .0) (c .before .before .before .before .before .before .before .before .before .before .before .before .before .move-gap .kept .0) (c .before .before .before .before .before .before .before .before .before .before .before .before .before .move-gap .ensures .0))) _ (c .says .ensures)
 
 add-next : tie.Need-add-next Inv-loop μ-loop
 add-next c = omega (arith, done-within (lent (shut (c .before .before .before .before .before .before .before .before .before .before .before .before .before .args .line .len) (c .before .before .before .before .before .before .before .before .before .before .before .before .before .args .from) (c .before .before .before .before .before .before .before .before .move-gap .last .0)) (now (c .before .before .before .before .before .before .before .before .before .before .before .before .before .args .records)) (now (c .before .before .before .before .before .before .before .before .before .before .before .before .before .args .texts)) (c .before .before .before .before .before .before .before .before .before .before .before .before .before .args .line) (c .before .before .before .before .before .before .before .before .before .before .before .before .before .args .log)) (c .before .before .before .before .before .before .before .before .before .before .before .before .before .args .m) (c .before .before .before .before .before .before .before .before .before .before .before .before .before .args .from) (c .before .before .before .before .before .before .before .before .before .before .before .before .before .args .to) (lent (shut (c .before .before .before .before .loop .line-now .len) (c .before .before .before .before .loop .at) (c .before .before .before .before .loop .text)) (c .before .before .before .before .loop .records) (c .before .before .before .before .loop .texts) (c .before .before .before .before .loop .line-now) (c .before .before .before .before .loop .log-now)) (c .before .before .before .before .loop .cursor) (c .before .before .before .before .loop .at) (c .before .before .before .before .loop .end) (c .before .before .before .before .loop .left) (c .before .before .before .before .loop .inv) (c .before .before .before .if1 .taken) (c .before .end-behind .result) (c .before .end-behind .ensures) .1, (c .before .before .before .before .loop .inv) .within, gap-at (lent (shut (c .before .before .before .before .before .before .before .before .before .before .before .before .before .args .line .len) (c .before .before .before .before .before .before .before .before .before .before .before .before .before .args .from) (c .before .before .before .before .before .before .before .before .move-gap .last .0)) (now (c .before .before .before .before .before .before .before .before .before .before .before .before .before .args .records)) (now (c .before .before .before .before .before .before .before .before .before .before .before .before .before .args .texts)) (c .before .before .before .before .before .before .before .before .before .before .before .before .before .args .line) (c .before .before .before .before .before .before .before .before .before .before .before .before .before .args .log)) (c .before .before .before .before .before .before .before .before .before .before .before .before .before .args .m) (c .before .before .before .before .before .before .before .before .before .before .before .before .before .args .from) (c .before .before .before .before .before .before .before .before .before .before .before .before .before .args .to) (c .before .before .before .before .loop .text) (c .before .before .before .before .loop .records) (c .before .before .before .before .loop .texts) (c .before .before .before .before .loop .line-now) (c .before .before .before .before .loop .log-now) (c .before .before .before .before .loop .cursor) (c .before .before .before .before .loop .at) (c .before .before .before .before .loop .end) (c .before .before .before .before .loop .left) (c .before .before .before .before .loop .inv) .1, small narrow (c .before .before .before .before .loop .text) (c .before .before .before .before .loop .records) (c .before .before .before .before .loop .texts) (c .before .before .before .before .loop .line-now) (c .before .before .before .before .loop .log-now) (c .before .before .before .before .loop .at) (c .before .before .before .before .loop .inv .rest .ready))
@@ -68,7 +68,7 @@ loop-less : tie.Need-loop-less Inv-loop μ-loop
 loop-less c = turns-line _ _ _ _ _ (c .before .before .before .before .before .before .before .before .if1 .taken) ((c .before .before .before .before .before .before .before .before .before .loop .inv) .small) (done-within (lent (shut (c .before .before .before .before .before .before .before .before .before .before .before .before .before .before .before .before .before .before .args .line .len) (c .before .before .before .before .before .before .before .before .before .before .before .before .before .before .before .before .before .before .args .from) (c .before .before .before .before .before .before .before .before .before .before .before .before .before .move-gap .last .0)) (now (c .before .before .before .before .before .before .before .before .before .before .before .before .before .before .before .before .before .before .args .records)) (now (c .before .before .before .before .before .before .before .before .before .before .before .before .before .before .before .before .before .before .args .texts)) (c .before .before .before .before .before .before .before .before .before .before .before .before .before .before .before .before .before .before .args .line) (c .before .before .before .before .before .before .before .before .before .before .before .before .before .before .before .before .before .before .args .log)) (c .before .before .before .before .before .before .before .before .before .before .before .before .before .before .before .before .before .before .args .m) (c .before .before .before .before .before .before .before .before .before .before .before .before .before .before .before .before .before .before .args .from) (c .before .before .before .before .before .before .before .before .before .before .before .before .before .before .before .before .before .before .args .to) (lent (shut (c .before .before .before .before .before .before .before .before .before .loop .line-now .len) (c .before .before .before .before .before .before .before .before .before .loop .at) (c .before .before .before .before .before .before .before .before .before .loop .text)) (c .before .before .before .before .before .before .before .before .before .loop .records) (c .before .before .before .before .before .before .before .before .before .loop .texts) (c .before .before .before .before .before .before .before .before .before .loop .line-now) (c .before .before .before .before .before .before .before .before .before .loop .log-now)) (c .before .before .before .before .before .before .before .before .before .loop .cursor) (c .before .before .before .before .before .before .before .before .before .loop .at) (c .before .before .before .before .before .before .before .before .before .loop .end) (c .before .before .before .before .before .before .before .before .before .loop .left) (c .before .before .before .before .before .before .before .before .before .loop .inv) (c .before .before .before .before .before .before .before .before .if1 .taken) (c .before .before .before .before .before .before .end-behind .result) (c .before .before .before .before .before .before .end-behind .ensures) .0) (omega (arith, c .before .before .before .before .before .if2 .left, done-within (lent (shut (c .before .before .before .before .before .before .before .before .before .before .before .before .before .before .before .before .before .before .args .line .len) (c .before .before .before .before .before .before .before .before .before .before .before .before .before .before .before .before .before .before .args .from) (c .before .before .before .before .before .before .before .before .before .before .before .before .before .move-gap .last .0)) (now (c .before .before .before .before .before .before .before .before .before .before .before .before .before .before .before .before .before .before .args .records)) (now (c .before .before .before .before .before .before .before .before .before .before .before .before .before .before .before .before .before .before .args .texts)) (c .before .before .before .before .before .before .before .before .before .before .before .before .before .before .before .before .before .before .args .line) (c .before .before .before .before .before .before .before .before .before .before .before .before .before .before .before .before .before .before .args .log)) (c .before .before .before .before .before .before .before .before .before .before .before .before .before .before .before .before .before .before .args .m) (c .before .before .before .before .before .before .before .before .before .before .before .before .before .before .before .before .before .before .args .from) (c .before .before .before .before .before .before .before .before .before .before .before .before .before .before .before .before .before .before .args .to) (lent (shut (c .before .before .before .before .before .before .before .before .before .loop .line-now .len) (c .before .before .before .before .before .before .before .before .before .loop .at) (c .before .before .before .before .before .before .before .before .before .loop .text)) (c .before .before .before .before .before .before .before .before .before .loop .records) (c .before .before .before .before .before .before .before .before .before .loop .texts) (c .before .before .before .before .before .before .before .before .before .loop .line-now) (c .before .before .before .before .before .before .before .before .before .loop .log-now)) (c .before .before .before .before .before .before .before .before .before .loop .cursor) (c .before .before .before .before .before .before .before .before .before .loop .at) (c .before .before .before .before .before .before .before .before .before .loop .end) (c .before .before .before .before .before .before .before .before .before .loop .left) (c .before .before .before .before .before .before .before .before .before .loop .inv) (c .before .before .before .before .before .before .before .before .if1 .taken) (c .before .before .before .before .before .before .end-behind .result) (c .before .before .before .before .before .before .end-behind .ensures) .1))
 
 loop-again : tie.Need-loop-again Inv-loop μ-loop
-loop-again c = indent-on (lent (shut (c .before .before .before .before .before .before .before .before .before .before .before .before .before .before .before .before .before .before .args .line .len) (c .before .before .before .before .before .before .before .before .before .before .before .before .before .before .before .before .before .before .args .from) (c .before .before .before .before .before .before .before .before .before .before .before .before .before .move-gap .last .0)) (now (c .before .before .before .before .before .before .before .before .before .before .before .before .before .before .before .before .before .before .args .records)) (now (c .before .before .before .before .before .before .before .before .before .before .before .before .before .before .before .before .before .before .args .texts)) (c .before .before .before .before .before .before .before .before .before .before .before .before .before .before .before .before .before .before .args .line) (c .before .before .before .before .before .before .before .before .before .before .before .before .before .before .before .before .before .before .args .log)) (c .before .before .before .before .before .before .before .before .before .before .before .before .before .before .before .before .before .before .args .m) (c .before .before .before .before .before .before .before .before .before .before .before .before .before .before .before .before .before .before .args .from) (c .before .before .before .before .before .before .before .before .before .before .before .before .before .before .before .before .before .before .args .to) (c .before .before .before .before .before .before .before .before .before .loop .text) (c .before .before .before .before .before .before .before .before .before .loop .records) (c .before .before .before .before .before .before .before .before .before .loop .texts) (c .before .before .before .before .before .before .before .before .before .loop .line-now) (c .before .before .before .before .before .before .before .before .before .loop .log-now) (c .before .before .before .before .before .before .before .before .before .loop .cursor) (c .before .before .before .before .before .before .before .before .before .loop .at) (c .before .before .before .before .before .before .before .before .before .loop .end) (c .before .before .before .before .before .before .before .before .before .loop .left) (c .before .before .before .before .before .before .before .before .before .loop .inv) (c .before .before .before .move-gap3 .last .0) (c .before .before .before .move-gap3 .kept .0) (c .before .before .before .before .before .before .before .before .if1 .taken) (c .before .before .before .before .before .before .end-behind .result) (c .before .before .before .before .before .before .end-behind .ensures) (omega (arith, c .before .before .before .before .before .if2 .left, done-within (lent (shut (c .before .before .before .before .before .before .before .before .before .before .before .before .before .before .before .before .before .before .args .line .len) (c .before .before .before .before .before .before .before .before .before .before .before .before .before .before .before .before .before .before .args .from) (c .before .before .before .before .before .before .before .before .before .before .before .before .before .move-gap .last .0)) (now (c .before .before .before .before .before .before .before .before .before .before .before .before .before .before .before .before .before .before .args .records)) (now (c .before .before .before .before .before .before .before .before .before .before .before .before .before .before .before .before .before .before .args .texts)) (c .before .before .before .before .before .before .before .before .before .before .before .before .before .before .before .before .before .before .args .line) (c .before .before .before .before .before .before .before .before .before .before .before .before .before .before .before .before .before .before .args .log)) (c .before .before .before .before .before .before .before .before .before .before .before .before .before .before .before .before .before .before .args .m) (c .before .before .before .before .before .before .before .before .before .before .before .before .before .before .before .before .before .before .args .from) (c .before .before .before .before .before .before .before .before .before .before .before .before .before .before .before .before .before .before .args .to) (lent (shut (c .before .before .before .before .before .before .before .before .before .loop .line-now .len) (c .before .before .before .before .before .before .before .before .before .loop .at) (c .before .before .before .before .before .before .before .before .before .loop .text)) (c .before .before .before .before .before .before .before .before .before .loop .records) (c .before .before .before .before .before .before .before .before .before .loop .texts) (c .before .before .before .before .before .before .before .before .before .loop .line-now) (c .before .before .before .before .before .before .before .before .before .loop .log-now)) (c .before .before .before .before .before .before .before .before .before .loop .cursor) (c .before .before .before .before .before .before .before .before .before .loop .at) (c .before .before .before .before .before .before .before .before .before .loop .end) (c .before .before .before .before .before .before .before .before .before .loop .left) (c .before .before .before .before .before .before .before .before .before .loop .inv) (c .before .before .before .before .before .before .before .before .if1 .taken) (c .before .before .before .before .before .before .end-behind .result) (c .before .before .before .before .before .before .end-behind .ensures) .1)) (c .before .before .before .move-gap3 .ensures) _ (c .indented2 .ensures)
+loop-again c = indent-on (lent (shut (c .before .before .before .before .before .before .before .before .before .before .before .before .before .before .before .before .before .before .args .line .len) (c .before .before .before .before .before .before .before .before .before .before .before .before .before .before .before .before .before .before .args .from) (c .before .before .before .before .before .before .before .before .before .before .before .before .before .move-gap .last .0)) (now (c .before .before .before .before .before .before .before .before .before .before .before .before .before .before .before .before .before .before .args .records)) (now (c .before .before .before .before .before .before .before .before .before .before .before .before .before .before .before .before .before .before .args .texts)) (c .before .before .before .before .before .before .before .before .before .before .before .before .before .before .before .before .before .before .args .line) (c .before .before .before .before .before .before .before .before .before .before .before .before .before .before .before .before .before .before .args .log)) (c .before .before .before .before .before .before .before .before .before .before .before .before .before .before .before .before .before .before .args .m) (c .before .before .before .before .before .before .before .before .before .before .before .before .before .before .before .before .before .before .args .from) (c .before .before .before .before .before .before .before .before .before .before .before .before .before .before .before .before .before .before .args .to) (c .before .before .before .before .before .before .before .before .before .loop .text) (c .before .before .before .before .before .before .before .before .before .loop .records) (c .before .before .before .before .before .before .before .before .before .loop .texts) (c .before .before .before .before .before .before .before .before .before .loop .line-now) (c .before .before .before .before .before .before .before .before .before .loop .log-now) (c .before .before .before .before .before .before .before .before .before .loop .cursor) (c .before .before .before .before .before .before .before .before .before .loop .at) (c .before .before .before .before .before .before .before .before .before .loop .end) (c .before .before .before .before .before .before .before .before .before .loop .left) (c .before .before .before .before .before .before .before .before .before .loop .inv) (c .before .before .before .move-gap3 .last .0) (c .before .before .before .move-gap3 .kept .0) (c .before .before .before .before .before .before .before .before .if1 .taken) (c .before .before .before .before .before .before .end-behind .result) (c .before .before .before .before .before .before .end-behind .ensures) (omega (arith, c .before .before .before .before .before .if2 .left, done-within (lent (shut (c .before .before .before .before .before .before .before .before .before .before .before .before .before .before .before .before .before .before .args .line .len) (c .before .before .before .before .before .before .before .before .before .before .before .before .before .before .before .before .before .before .args .from) (c .before .before .before .before .before .before .before .before .before .before .before .before .before .move-gap .last .0)) (now (c .before .before .before .before .before .before .before .before .before .before .before .before .before .before .before .before .before .before .args .records)) (now (c .before .before .before .before .before .before .before .before .before .before .before .before .before .before .before .before .before .before .args .texts)) (c .before .before .before .before .before .before .before .before .before .before .before .before .before .before .before .before .before .before .args .line) (c .before .before .before .before .before .before .before .before .before .before .before .before .before .before .before .before .before .before .args .log)) (c .before .before .before .before .before .before .before .before .before .before .before .before .before .before .before .before .before .before .args .m) (c .before .before .before .before .before .before .before .before .before .before .before .before .before .before .before .before .before .before .args .from) (c .before .before .before .before .before .before .before .before .before .before .before .before .before .before .before .before .before .before .args .to) (lent (shut (c .before .before .before .before .before .before .before .before .before .loop .line-now .len) (c .before .before .before .before .before .before .before .before .before .loop .at) (c .before .before .before .before .before .before .before .before .before .loop .text)) (c .before .before .before .before .before .before .before .before .before .loop .records) (c .before .before .before .before .before .before .before .before .before .loop .texts) (c .before .before .before .before .before .before .before .before .before .loop .line-now) (c .before .before .before .before .before .before .before .before .before .loop .log-now)) (c .before .before .before .before .before .before .before .before .before .loop .cursor) (c .before .before .before .before .before .before .before .before .before .loop .at) (c .before .before .before .before .before .before .before .before .before .loop .end) (c .before .before .before .before .before .before .before .before .before .loop .left) (c .before .before .before .before .before .before .before .before .before .loop .inv) (c .before .before .before .before .before .before .before .before .if1 .taken) (c .before .before .before .before .before .before .end-behind .result) (c .before .before .before .before .before .before .end-behind .ensures) .1)) (c .before .before .before .move-gap3 .ensures .0) _ (c .indented2 .ensures)
 
 piece-requires : tie.Need-piece-requires Inv-loop μ-loop
 piece-requires c κs = search needs

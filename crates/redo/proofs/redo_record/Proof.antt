@@ -38,7 +38,7 @@ returns c =
     let r = c .before .before .before .before .before .before .before .read-record in
     let q = c .before .before .before .before .before .retrace in (
       (λ x d e. record-stops (asFormat (a .f)) l false x d (next-stands h e) (r .ensures .0) (a .s) (q .result .step) (shut (q .result .step .len) (q .result .gap) (q .last .0)) (q .ensures .0) refl (c .if1 .taken)),
-      q .ensures .1,
+      (q .ensures .1 .0, (λ i. let w = q .ensures .1 .1 i in (w .0, w .1, w .2, refl))),
     )
 
 shared-slice-read-record-size : tie.Need-shared-slice-read-record-size
@@ -98,7 +98,7 @@ returns-2 c =
     let k = c .before .before .record-size in (
       (λ x d e. record-passes (asFormat (a .f)) l false x d (next-stands h e) (r .ensures .0) (a .s) (q .result .step) (shut (q .result .step .len) (q .result .gap) (q .last .0)) (q .ensures .0)
           (next-seam-there h e (r .ensures .0) (k .ensures .0)) (c .before .before .before .before .if1 .left) (c .move-seam .ensures)),
-      q .ensures .1,
+      (q .ensures .1 .0, (λ i. absurd (i (c .before .before .before .before .if1 .left)))),
     )
 
 pub redo-record-spec : {M : Type 1} → statement M

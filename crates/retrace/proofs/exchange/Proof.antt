@@ -83,7 +83,7 @@ returns-5 c = let s = c .before .before .before .before .before .before .before 
       last = sym (c .before .before .before .before .before .before .before .before .before .before .is-edge2 .ensures .1 (is-valid s)) ∙ not-false _ (c .before .before .before .before .before .before .before .before .before .if3 .left);
       room = omega (arith, h, used s, c .before .before .before .before .before .before .before .before .if4 .left, s .pre .0 .1);
     })
-    (omega (arith, m .kept .0, s .pre .0 .1)) (m .kept .0) (m .ensures) (c .before .before .write-at .ensures)
+    (omega (arith, m .kept .0, s .pre .0 .1)) (m .kept .0) (m .ensures .0) (c .before .before .write-at .ensures)
 
 pub exchange-spec : {M : Type 1} → statement M
 exchange-spec =

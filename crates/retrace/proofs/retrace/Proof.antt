@@ -1,11 +1,11 @@
 use native.Mathlib.Omega.{arith}
-use mathlib.Core.Path.{sym, subst}
+use mathlib.Core.Path.{refl, sym, subst}
 use mathlib.Core.Bool.{Bool}
 use mathlib.Core.Logic.{⊎-elim}
 use lib.ListN.{length}
 use denote.Ref.{now}
 use Rattle.buffer.proofs.Gaps.{shut-length}
-use Rattle.retrace.proofs.Faces.{Faces, Within, within, used, text-around, unmoved, stops-at, out-within, left-within, gap-within, moves}
+use Rattle.retrace.proofs.Faces.{Faces, Within, within, used, text-around, unmoved, stops-at, stop-same, out-within, left-within, gap-within, moves}
 use borrow.Author.Needs.{needs}
 use Rattle.retrace.proofs.retrace.Statement.{statement}
 use Rattle.retrace.proofs.retrace.Tie as tie
@@ -26,8 +26,10 @@ inside c =
 returns : tie.Need-returns
 returns c =
     let s = c .before .before .before .before in
-    let a = s .args in
-    ((λ x h. unmoved (a .r) (now (a .texts)) (a .t) (a .s) (a .gap) (now (a .text)) (s .pre .0 .0) (s .pre .0 .1) (s .pre .0 .2) (a .back) x h (c .if1 .taken)), (s .pre .0 .1, used (a .r) (now (a .texts)) (a .t) (a .s) (a .gap) (now (a .text)) (s .pre .0 .0) (s .pre .0 .1) (s .pre .0 .2)))
+    let a = s .args in (
+      (λ x h. unmoved (a .r) (now (a .texts)) (a .t) (a .s) (a .gap) (now (a .text)) (s .pre .0 .0) (s .pre .0 .1) (s .pre .0 .2) (a .back) x h (c .if1 .taken)),
+      ((s .pre .0 .1, used (a .r) (now (a .texts)) (a .t) (a .s) (a .gap) (now (a .text)) (s .pre .0 .0) (s .pre .0 .1) (s .pre .0 .2)), (λ z. absurd (z (s .pre .0 .0)))),
+    )
 
 add-mid : tie.Need-add-mid
 add-mid c = search needs
@@ -62,7 +64,10 @@ returns-2 c =
     let j = c .before .before .before .before .before .before .before .before in
     let e = c .before .before .before .exchange in (
       (λ x h. stops-at (a .r) (now (a .texts)) (a .t) (a .s) (a .gap) (now (a .text)) (s .pre .0 .0) (s .pre .0 .1) (s .pre .0 .2) (j .if2 .out) (j .if2 .from) (j .if2 .to) (e .result) (e .last .0) (inside j) (e .kept .0) (e .ensures) (a .back) x h (c .before .before .before .before .before .before .before .before .before .before .before .if1 .left) (faces j) (c .if3 .taken)),
-      (s .pre .0 .1, omega (arith, used (a .r) (now (a .texts)) (a .t) (a .s) (a .gap) (now (a .text)) (s .pre .0 .0) (s .pre .0 .1) (s .pre .0 .2), e .kept .0)),
+      (
+        (s .pre .0 .1, omega (arith, used (a .r) (now (a .texts)) (a .t) (a .s) (a .gap) (now (a .text)) (s .pre .0 .0) (s .pre .0 .1) (s .pre .0 .2), e .kept .0)),
+        (λ z. (stop-same (a .r) (now (a .texts)) (a .t) (a .s) (a .gap) (now (a .text)) (s .pre .0 .0) (s .pre .0 .1) (s .pre .0 .2) (j .if2 .out) (j .if2 .from) (j .if2 .to) (e .result) (e .last .0) (inside j) (e .kept .0) (e .ensures) (c .if3 .taken), refl, refl)),
+      ),
     )
 
 add-cursor : tie.Need-add-cursor
@@ -98,7 +103,7 @@ returns-3 c =
     let e = c .before .before .before .before .before .before .exchange in
     let z = c .before .before .before .if3 .left in (
       (λ x h. moves (a .r) (now (a .texts)) (a .t) (a .s) (a .gap) (now (a .text)) (s .pre .0 .0) (s .pre .0 .1) (s .pre .0 .2) (j .if2 .out) (j .if2 .from) (j .if2 .to) (e .result) (e .last .0) (inside j) (e .kept .0) (e .ensures) z (a .back) x h (c .before .before .before .before .before .before .before .before .before .before .before .before .before .before .if1 .left) (faces j)),
-      (gap-within (a .r) (now (a .texts)) (a .t) (a .s) (a .gap) (now (a .text)) (s .pre .0 .0) (s .pre .0 .1) (s .pre .0 .2) (j .if2 .out) (j .if2 .from) (j .if2 .to) (e .result) (e .last .0) (inside j) (e .kept .0) (e .ensures) z, omega (arith, left-within (a .r) (now (a .texts)) (a .t) (a .s) (a .gap) (now (a .text)) (s .pre .0 .0) (s .pre .0 .1) (s .pre .0 .2) (j .if2 .out) (j .if2 .from) (j .if2 .to) (e .result) (e .last .0) (inside j) (e .kept .0) (e .ensures) z, e .kept .0)),
+      ((gap-within (a .r) (now (a .texts)) (a .t) (a .s) (a .gap) (now (a .text)) (s .pre .0 .0) (s .pre .0 .1) (s .pre .0 .2) (j .if2 .out) (j .if2 .from) (j .if2 .to) (e .result) (e .last .0) (inside j) (e .kept .0) (e .ensures) z, omega (arith, left-within (a .r) (now (a .texts)) (a .t) (a .s) (a .gap) (now (a .text)) (s .pre .0 .0) (s .pre .0 .1) (s .pre .0 .2) (j .if2 .out) (j .if2 .from) (j .if2 .to) (e .result) (e .last .0) (inside j) (e .kept .0) (e .ensures) z, e .kept .0)), (λ y. absurd (y refl))),
     )
 
 pub retrace-spec : {M : Type 1} → statement M

@@ -11,13 +11,13 @@ use Rattle.buffer.specs.Gap.{shut}
 use Rattle.edit.specs.Calls.{lent, stateOf}
 use Rattle.retrace.specs.Records.{SizesOf}
 use Rattle.undo.specs.Undo.{undoWalk, undoOut}
-use Rattle.undo.specs.Steps.{lineOf, lentBy}
+use Rattle.undo.specs.Steps.{lineOf, lentBy, Unmoved}
 use Rattle.undo.proofs.Seams.{some-newest, none-newest}
 use Rattle.undo.proofs.Counts.{one-of, counts-back}
 use Rattle.undo.proofs.Walks.{edited, falls, sizes-next}
 use Rattle.undo.proofs.Units.{Walking, walking-first, walked-all, walked-stop, walking-on, walking-next, walked-last}
 use Rattle.buffer.proofs.Gaps.{shut-kept, plain-kept, plain-used, shut-end}
-use Rattle.undo.proofs.Gaps.{closed}
+use Rattle.undo.proofs.Gaps.{closed, unmoved-first, unmoved-next, unmoved-both, unmoved-stop, unmoved-closed}
 use Rattle.undo.proofs.undo_noted.Statement.{statement}
 use Rattle.undo.proofs.undo_noted.Tie as tie
 
@@ -26,6 +26,7 @@ Inv-loop f text₀ records texts sizes n s₀ gap₀ g₀ left₀ ends₀ begins
     Walking (asFormat f) (lent text₀ records texts (lineOf s₀) g₀) true (undoWalk (length text₀) n (stateOf catalogue (asFormat f) (lent text₀ records texts (lineOf s₀) g₀))) (shut (s .len) gap text) s g (left - 1) ends begins
     × SizesOf (asFormat f) sizes (stateOf catalogue (asFormat f) (lentBy text gap records texts s g) .log .undo)
     × (gap ≤ s .len)
+    × Unmoved (g₀ .undo .records) (g .undo .records) text₀ text (s₀ .len) (s .len) gap₀ gap
 
 abbrev μ-loop : tie.MeasureT-loop
 μ-loop f text₀ records texts sizes n s₀ gap₀ g₀ left₀ ends₀ begins₀ text s gap g left ends begins = g .undo .records
@@ -34,7 +35,7 @@ loop-holds : tie.Need-loop-holds Inv-loop μ-loop
 loop-holds c =
     let s = c .before .before .before .before in
     let h = s .pre .1 .0 in
-    (walking-first true (s .args .n - 1) h (shut-end (s .args .line .len) (now (s .args .text)) (h .used)), s .pre .1 .1 .1, omega arith)
+    (walking-first true (s .args .n - 1) h (shut-end (s .args .line .len) (now (s .args .text)) (h .used)), s .pre .1 .1 .1, omega arith, unmoved-first)
 
 close-requires : tie.Need-close-requires Inv-loop μ-loop
 close-requires c κs =
@@ -51,9 +52,11 @@ unfolding undoOut
 returns c =
     let b = c .before .before .before .before .before .before .before .loop in
     let k = b .inv .0 in
-    let e = c .before .before .close in
-    closed (e .ensures .0) (b .gap) (b .text) (b .inv .2) (plain-used (b .s .len) (b .gap) (b .text) (k .come .ready .used)) (e .last .0) (e .kept .0) (e .ensures .1) tt
-    (edited (walked-all k (none-newest (k .come .ready) (c .before .before .before .before .if1 .taken)) (e .ensures .0)))
+    let e = c .before .before .close in (
+      closed (e .ensures .0) (b .gap) (b .text) (b .inv .2) (plain-used (b .s .len) (b .gap) (b .text) (k .come .ready .used)) (e .last .0) (e .kept .0) (e .ensures .1 .0) tt
+          (edited (walked-all k (none-newest (k .come .ready) (c .before .before .before .before .if1 .taken)) (e .ensures .0))),
+      unmoved-closed true (e .ensures .0) (b .inv .3) (e .ensures .1 .1),
+    )
 
 undo-record-requires : tie.Need-undo-record-requires Inv-loop μ-loop
 undo-record-requires c κs =
@@ -64,7 +67,7 @@ undo-record-requires c κs =
 
 close-requires-2 : tie.Need-close-requires-2 Inv-loop μ-loop
 close-requires-2 c κs =
-    c .before .before .before .before .before .before .before .undo-record .ensures .1
+    c .before .before .before .before .before .before .before .undo-record .ensures .1 .0
 
 same-length-2 : tie.Need-same-length-2 Inv-loop μ-loop
 same-length-2 c =
@@ -78,9 +81,11 @@ returns-2 c =
     let k = b .inv .0 in
     let n = some-newest (k .come .ready) (omega (arith, c .before .before .before .before .before .before .before .before .before .before .before .before .if1 .left)) in
     let u = c .before .before .before .before .before .before .before .before .before .before .undo-record in
-    let e = c .before .before .close2 in
-    closed (e .ensures .0) (u .result .gap) (u .last .1 .0) (u .ensures .1 .0) (u .ensures .1 .1) (e .last .0) (e .kept .0) (e .ensures .1) tt
-    (edited (walked-stop k (n .2) (u .result) (shut (u .result .step .len) (u .result .gap) (u .last .1 .0)) (u .ensures .0) (c .before .before .before .before .if2 .taken) (e .ensures .0)))
+    let e = c .before .before .close2 in (
+      closed (e .ensures .0) (u .result .gap) (u .last .1 .0) (u .ensures .1 .0 .0) (u .ensures .1 .0 .1) (e .last .0) (e .kept .0) (e .ensures .1 .0) tt
+          (edited (walked-stop k (n .2) (u .result) (shut (u .result .step .len) (u .result .gap) (u .last .1 .0)) (u .ensures .0) (c .before .before .before .before .if2 .taken) (e .ensures .0))),
+      unmoved-closed true (e .ensures .0) (unmoved-both (b .inv .3) (unmoved-stop true (u .ensures .1 .1 (c .before .before .before .before .if2 .taken)))) (e .ensures .1 .1),
+    )
 
 one-if-requires : tie.Need-one-if-requires Inv-loop μ-loop
 one-if-requires c κs = search needs
@@ -120,12 +125,13 @@ loop-again c =
     let few = one-of (u .result .kind) (i .ensures .0) (j .ensures .0) in (
       walking-on k (n .2) (u .result) (shut (u .result .step .len) (u .result .gap) (u .last .1 .0)) (u .ensures .0) (shut-kept (b .s .len) (b .gap) (u .result .step .len) (u .result .gap) (b .text) (u .last .1 .0) (u .kept .1 .0)) z (b .ends + j .result) (b .begins + i .result) w (omega (arith, few)) (c .if3 .taken),
       sizes-next (k .come) (n .2) (u .result) (shut (u .result .step .len) (u .result .gap) (u .last .1 .0)) (u .ensures .0) (shut-kept (b .s .len) (b .gap) (u .result .step .len) (u .result .gap) (b .text) (u .last .1 .0) (u .kept .1 .0)) z (now (s .args .sizes)) (b .inv .1),
-      u .ensures .1 .0,
+      u .ensures .1 .0 .0,
+      unmoved-next (b .inv .3) (falls true (k .come) (n .2) (u .result) (shut (u .result .step .len) (u .result .gap) (u .last .1 .0)) (u .ensures .0) (shut-kept (b .s .len) (b .gap) (u .result .step .len) (u .result .gap) (b .text) (u .last .1 .0) (u .kept .1 .0)) z),
     )
 
 close-requires-3 : tie.Need-close-requires-3 Inv-loop μ-loop
 close-requires-3 c κs =
-    c .before .before .before .before .before .before .before .before .before .before .before .undo-record .ensures .1
+    c .before .before .before .before .before .before .before .before .before .before .before .undo-record .ensures .1 .0
 
 same-length-3 : tie.Need-same-length-3 Inv-loop μ-loop
 same-length-3 c =
@@ -144,9 +150,11 @@ returns-3 c =
     let z = c .before .before .before .before .before .before .before .before .if2 .left in
     let w = counts-back (u .result .kind) (i .ensures .0) (j .ensures .0) (n .0) (k .waiting) (b .ends) (b .begins) (k .waits) (u .ensures .0 (n .0) (n .1) (n .2) .0) in
     let few = one-of (u .result .kind) (i .ensures .0) (j .ensures .0) in
-    let e = c .before .before .close3 in
-    closed (e .ensures .0) (u .result .gap) (u .last .1 .0) (u .ensures .1 .0) (u .ensures .1 .1) (e .last .0) (e .kept .0) (e .ensures .1) tt
-    (edited (walked-last k (n .2) (u .result) (shut (u .result .step .len) (u .result .gap) (u .last .1 .0)) (u .ensures .0) (shut-kept (b .s .len) (b .gap) (u .result .step .len) (u .result .gap) (b .text) (u .last .1 .0) (u .kept .1 .0)) z (b .ends + j .result) (b .begins + i .result) w (omega (arith, few)) (c .before .before .before .before .before .if3 .left) (omega (arith, c .before .before .before .before .if4 .taken)) (e .ensures .0)))
+    let e = c .before .before .close3 in (
+      closed (e .ensures .0) (u .result .gap) (u .last .1 .0) (u .ensures .1 .0 .0) (u .ensures .1 .0 .1) (e .last .0) (e .kept .0) (e .ensures .1 .0) tt
+          (edited (walked-last k (n .2) (u .result) (shut (u .result .step .len) (u .result .gap) (u .last .1 .0)) (u .ensures .0) (shut-kept (b .s .len) (b .gap) (u .result .step .len) (u .result .gap) (b .text) (u .last .1 .0) (u .kept .1 .0)) z (b .ends + j .result) (b .begins + i .result) w (omega (arith, few)) (c .before .before .before .before .before .if3 .left) (omega (arith, c .before .before .before .before .if4 .taken)) (e .ensures .0))),
+      unmoved-closed true (e .ensures .0) (unmoved-next (b .inv .3) (falls true (k .come) (n .2) (u .result) (shut (u .result .step .len) (u .result .gap) (u .last .1 .0)) (u .ensures .0) (shut-kept (b .s .len) (b .gap) (u .result .step .len) (u .result .gap) (b .text) (u .last .1 .0) (u .kept .1 .0)) z)) (e .ensures .1 .1),
+    )
 
 sub-left : tie.Need-sub-left Inv-loop μ-loop
 sub-left c = omega (arith, c .if4 .left)
@@ -173,7 +181,8 @@ loop-again-2 c =
     let few = one-of (u .result .kind) (i .ensures .0) (j .ensures .0) in (
       walking-next k (n .2) (u .result) (shut (u .result .step .len) (u .result .gap) (u .last .1 .0)) (u .ensures .0) (shut-kept (b .s .len) (b .gap) (u .result .step .len) (u .result .gap) (b .text) (u .last .1 .0) (u .kept .1 .0)) z (b .ends + j .result) (b .begins + i .result) w (omega (arith, few)) (c .before .if3 .left) (omega (arith, c .if4 .left)),
       sizes-next (k .come) (n .2) (u .result) (shut (u .result .step .len) (u .result .gap) (u .last .1 .0)) (u .ensures .0) (shut-kept (b .s .len) (b .gap) (u .result .step .len) (u .result .gap) (b .text) (u .last .1 .0) (u .kept .1 .0)) z (now (s .args .sizes)) (b .inv .1),
-      u .ensures .1 .0,
+      u .ensures .1 .0 .0,
+      unmoved-next (b .inv .3) (falls true (k .come) (n .2) (u .result) (shut (u .result .step .len) (u .result .gap) (u .last .1 .0)) (u .ensures .0) (shut-kept (b .s .len) (b .gap) (u .result .step .len) (u .result .gap) (b .text) (u .last .1 .0) (u .kept .1 .0)) z),
     )
 
 pub undo-noted-spec : {M : Type 1} → statement M

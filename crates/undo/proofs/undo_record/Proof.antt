@@ -78,7 +78,7 @@ returns c =
     let r = c .before .before .before .before .before .before .before .before .before .read-record in
     let q = c .before .before .before .before .before .retrace in (
       (λ x u e. record-stops (asFormat (a .f)) l true x u (stands-there h (now (a .sizes)) z e (r .ensures .0)) (r .ensures .0) (a .s) (q .result .step) (shut (q .result .step .len) (q .result .gap) (q .last .0)) (q .ensures .0) refl (c .if1 .taken)),
-      q .ensures .1,
+      (q .ensures .1 .0, (λ i. let w = q .ensures .1 .1 i in (w .0, w .1, w .2, refl))),
     )
 
 move-seam-requires : tie.Need-move-seam-requires
@@ -106,7 +106,7 @@ returns-2 c =
     let q = c .before .before .before .before .before .before .retrace in (
       (λ x u e. record-passes (asFormat (a .f)) l true x u (stands-there h (now (a .sizes)) z e (r .ensures .0)) (r .ensures .0) (a .s) (q .result .step) (shut (q .result .step .len) (q .result .gap) (q .last .0)) (q .ensures .0)
           (seam-there h (now (a .sizes)) z e (r .ensures .0)) (c .before .if1 .left) (c .move-seam .ensures)),
-      q .ensures .1,
+      (q .ensures .1 .0, (λ i. absurd (i (c .before .if1 .left)))),
     )
 
 pub undo-record-spec : {M : Type 1} → statement M
