@@ -67,7 +67,7 @@ fn cancel_noted(
 ) -> EditAnswer
     requires { ⌜ Fit f ⌝ }
     requires { ⌜ Ready (asFormat f) (lent (now text) (now records) (now texts) line log) ⌝ }
-    requires { ⌜ length (now records) ≤ length (now sizes) ⌝ }
+    requires { ⌜ log .undo .records ≤ length (now sizes) ⌝ }
     requires { ⌜ SizesOf (asFormat f) (now sizes) (stateOf catalogue (asFormat f) (lent (now text) (now records) (now texts) line log) .log .undo) ⌝ }
     requires { ⌜ count ≡ length (stateOf catalogue (asFormat f) (lent (now text) (now records) (now texts) line log) .log .undo) ⌝ }
     requires { ⌜ opens mark (stateOf catalogue (asFormat f) (lent (now text) (now records) (now texts) line log) .log .undo) ≡ true ⌝ }
@@ -105,7 +105,48 @@ fn cancel_noted(
     says(0, last, g.cancel(u.records, u.texts, begins))
 }
 
-// Cancel on a text and a log that the checks pass: the group of the mark undone and dropped.
+// cancel_group, with room to note the sizes of the undo list's records.
+fn note_and_cancel(
+    f: Format,
+    text: &mut [u8],
+    records: &[u8],
+    texts: &[u8],
+    sizes: &mut [u8],
+    line: Line,
+    log: Log,
+    mark: usize,
+) -> EditAnswer
+    requires { ⌜ Fit f ⌝ }
+    requires { ⌜ Ready (asFormat f) (lent (now text) (now records) (now texts) line log) ⌝ }
+    requires { ⌜ log .undo .records ≤ length (now sizes) ⌝ }
+    ensures outcome { λ r. ⌜ Edited (asFormat f) (lent (now (text .entry)) (now (records .entry)) (now (texts .entry)) line log)
+        (cancelOut (length (now (text .entry))) mark (stateOf catalogue (asFormat f) (lent (now (text .entry)) (now (records .entry)) (now (texts .entry)) line log)))
+        r (now (text .exit)) (now (records .entry)) (now (texts .entry)) ⌝ }
+    ensures still { λ r. ⌜ (r .log ≡ log → now (text .exit) ≡ now (text .entry)) ⌝ }
+{
+    let u = log.undo;
+    let ur = u.records;
+    let count = note_sizes(f, &records[..ur], sizes);
+    let begins = open_begins(&records[..ur], sizes, count, mark);
+    if begins == 0 {
+        return says(1, line, log);
+    }
+    cancel_noted(
+        f,
+        text,
+        records,
+        texts,
+        sizes,
+        line,
+        log,
+        count,
+        mark,
+        begins,
+    )
+}
+
+// Cancel on a text and a log that the checks pass: the group of the mark undone and dropped. A short list has a short array for
+// its sizes, as in undo.
 fn cancel_group(
     f: Format,
     text: &mut [u8],
@@ -122,26 +163,13 @@ fn cancel_group(
         r (now (text .exit)) (now (records .entry)) (now (texts .entry)) ⌝ }
     ensures still { λ r. ⌜ (r .log ≡ log → now (text .exit) ≡ now (text .entry)) ⌝ }
 {
-    let mut sizes = [0u8; 32768];
     let u = log.undo;
-    let ur = u.records;
-    let count = note_sizes(f, &records[..ur], &mut sizes);
-    let begins = open_begins(&records[..ur], &sizes, count, mark);
-    if begins == 0 {
-        return says(1, line, log);
+    if u.records <= 1024 {
+        let mut few = [0u8; 1024];
+        return note_and_cancel(f, text, records, texts, &mut few, line, log, mark);
     }
-    cancel_noted(
-        f,
-        text,
-        records,
-        texts,
-        &sizes,
-        line,
-        log,
-        count,
-        mark,
-        begins,
-    )
+    let mut sizes = [0u8; 32768];
+    note_and_cancel(f, text, records, texts, &mut sizes, line, log, mark)
 }
 
 // Where the log is as it was, no record was handled, and not a byte of the text's buffer is changed (still).

@@ -47,7 +47,7 @@ undo-record-requires c κs =
     let b = c .before .before .loop in
     let k = b .inv .0 in
     let n = cancel-more k (c .before .loop-test .taken) .2 in
-    (s .pre .0, (k .come .ready, ((k .come .number, newest-some (k .come .ready) n, s .pre .1 .1 .0, b .inv .2), b .inv .1)))
+    (s .pre .0, (k .come .ready, ((k .come .number, newest-some (k .come .ready) n, omega (arith, s .pre .1 .1 .0, b .inv .3 .fewer), b .inv .2), b .inv .1)))
 
 close-requires : tie.Need-close-requires Inv-loop μ-loop
 close-requires c κs = c .before .before .before .before .before .before .before .undo-record .ensures .1 .0

@@ -63,7 +63,7 @@ undo-record-requires c κs =
     let s = c .before .before .before .before .before .before .before .before .before in
     let b = c .before .before .before .before .loop in
     let k = b .inv .0 in
-    (s .pre .0, (k .come .ready, ((k .come .number, omega (arith, c .before .if1 .left), s .pre .1 .1 .0, b .inv .2), b .inv .1)))
+    (s .pre .0, (k .come .ready, ((k .come .number, omega (arith, c .before .if1 .left), omega (arith, s .pre .1 .1 .0, b .inv .3 .fewer), b .inv .2), b .inv .1)))
 
 close-requires-2 : tie.Need-close-requires-2 Inv-loop μ-loop
 close-requires-2 c κs =
