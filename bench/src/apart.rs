@@ -15,6 +15,7 @@ unsafe extern "C" {
     fn tlf_bench_check_text(text: *const u8, len: usize) -> bool;
     fn tlf_bench_check_log(records: *const u8, records_len: usize, texts: *const u8, texts_len: usize, log: Log)
     -> u32;
+    fn tlf_bench_move_gap(s: *mut u8, s_len: usize, len: usize, from: usize, to: usize);
 }
 
 fn scan(text: &[u8]) -> bool {
@@ -106,10 +107,10 @@ pub fn print_scan(figures: &[Figure]) {
 /// The calls, each on logs of so many records.
 struct Whole {
     name: &'static str,
-    /// The bytes of the text, and the places of the records: two at one, the next two at the other.
+    /// The bytes of the text, and the places of the records: one at the first, the next at the second.
     text: usize,
     places: [usize; 2],
-    /// Begin and End by turns, or an insertion and its deletion: when all are undone or redone, a text is as it was.
+    /// Begin and End by turns, or two insertions and their deletions: when all are undone or redone, a text is as it was.
     groups: bool,
     count: usize,
 }
@@ -120,25 +121,29 @@ fn wholes() -> Vec<Whole> {
         ("insert and delete, empty text", 0, [0, 0], false),
         ("insert and delete, end of 1,000", 1_000, [1_000, 1_000], false),
         ("insert and delete, start of 1,000", 1_000, [0, 0], false),
-        ("insert and delete, start of 4,080", 4_080, [0, 0], false),
-        ("insert and delete, both ends of 4,080", 4_080, [0, 4_080], false),
+        ("insert and delete, start of 4,070", 4_070, [0, 0], false),
+        ("insert and delete, both ends of 1,000", 1_000, [0, 1_000], false),
+        ("insert and delete, both ends of 4,070", 4_070, [0, 4_070], false),
     ];
     let sized = |(name, text, places, groups)| {
         let all = if groups { RECORDS } else { 6_500 };
-        [4, 2, 1].map(|part| Whole { name, text, places, groups, count: all / part / 2 * 2 })
+        [4, 2, 1].map(|part| Whole { name, text, places, groups, count: all / part / 4 * 4 })
     };
     rows.into_iter().flat_map(sized).collect()
 }
 
 impl Whole {
     fn list(&self) -> List {
-        let mut list = List::default();
+        let (mut list, words) = (List::default(), "box 12, no");
+        let [first, second] = self.places;
+        let behind = if first < second { second + words.len() } else { second };
+        let four = [(3, first), (3, behind), (4, first), (4, second)];
         for i in 0..self.count {
-            let second = (i % 2) as u8;
             if self.groups {
-                list.push(1 + second, None, &[]);
+                list.push(1 + (i % 2) as u8, None, &[]);
             } else {
-                list.push(3 + second, Some(self.places[i / 2 % 2]), &["box 12, no"]);
+                let (kind, place) = four[i % 4];
+                list.push(kind, Some(place), &[words]);
             }
         }
         list
@@ -149,7 +154,7 @@ impl Whole {
         let all = used(list);
         let log = if back { Log { undo: all, ..Log::default() } } else { Log { redo: all, ..Log::default() } };
         let line = Line { len: self.text, cursor: 0 };
-        let buffer = RefCell::new(vec![b'a'; self.text + 16]);
+        let buffer = RefCell::new(vec![b'a'; self.text + 20]);
         let call = if back { ffi::tlf_log_undo } else { ffi::tlf_log_redo };
         let check = move || {
             let mut text = buffer.borrow_mut();
@@ -165,17 +170,66 @@ impl Whole {
     }
 }
 
+/// The bytes that a gap is moved over, and the sizes of the gap.
+const MOVED: usize = 4_000;
+const GAPS: [usize; 4] = [1, 10, 40, 1_000];
+
+type Move = fn(&mut [u8], bool);
+
+/// The gap to the text's start, so that all of it goes up, or to its end.
+fn move_gap(buffer: &mut [u8], up: bool) {
+    let (from, to) = if up { (MOVED, 0) } else { (0, MOVED) };
+    // SAFETY: one buffer, with its length.
+    unsafe { tlf_bench_move_gap(buffer.as_mut_ptr(), buffer.len(), MOVED, from, to) }
+}
+
+fn copy_within(buffer: &mut [u8], up: bool) {
+    let gap = buffer.len() - MOVED;
+    if up { buffer.copy_within(..MOVED, gap) } else { buffer.copy_within(gap.., 0) }
+}
+
+/// In nanoseconds a move.
+fn moved(gap: usize, by: Move, up: bool) -> Check<'static> {
+    let buffer = RefCell::new(vec![b'a'; MOVED + gap]);
+    let call = move || {
+        by(black_box(&mut buffer.borrow_mut()), black_box(up));
+        true
+    };
+    Check { call: Box::new(call), by: 1 }
+}
+
+/// Four figures for each gap: up and down, by the library and by Rust's `copy_within`.
+fn measure_moves() -> impl Iterator<Item = Figure> {
+    let four = |gap| {
+        [(move_gap as Move, true), (copy_within, true), (move_gap, false), (copy_within, false)]
+            .map(|(by, up)| moved(gap, by, up))
+    };
+    GAPS.into_iter().flat_map(move |gap| checks(four(gap)))
+}
+
+fn print_moves(figures: &[Figure]) {
+    head(
+        "A gap moved over 4,000 bytes, nanoseconds",
+        &["bytes of the gap", "bytes go up", "`copy_within`", "bytes go down", "`copy_within`"],
+    );
+    for (gap, four) in GAPS.iter().zip(figures.chunks(4)) {
+        line(&[&[grouped(*gap)], &four.iter().map(figure).collect::<Vec<_>>()[..]].concat());
+    }
+}
+
 pub fn measure_undo() -> Vec<Figure> {
     let both = |whole: Whole| {
         let list = whole.list();
         checks([true, false].map(|back| whole.check(&list, back)))
     };
-    wholes().into_iter().flat_map(both).collect()
+    wholes().into_iter().flat_map(both).chain(measure_moves()).collect()
 }
 
 pub fn print_undo(figures: &[Figure]) {
     head("A whole log in one call, nanoseconds a record", &["log", "records", "undo", "redo"]);
-    for (whole, pair) in wholes().iter().zip(figures.chunks(2)) {
+    let (undo, moves) = figures.split_at(2 * wholes().len());
+    for (whole, pair) in wholes().iter().zip(undo.chunks(2)) {
         line(&[whole.name.into(), grouped(whole.count), figure(&pair[0]), figure(&pair[1])]);
     }
+    print_moves(moves);
 }

@@ -80,7 +80,8 @@ fn first() -> Vec<Row> {
         Row::new("begin, type a character, end", English(End), Batch::Group(8), BYTES, ROOM).head(text_and_log, 1_000),
         Row::new("undo 1, one unit after the other", Units, UndoEach, UNITS, UNIT_SIZES).head("1,000 units", 1_000),
         Row::new("undo of all units in one call", Units, UndoAll, UNITS, UNIT_SIZES).head("1,000 units", 1_000),
-        Row::new("the check of a log: insert_str of no text", Logged, InsertNothing(32), LOG, log).head("log full", log[2]),
+        Row::new("the check of a log: insert_str of no text", Logged, InsertNothing(32), LOG, log)
+            .head("log full", log[2]),
         Row::new("last_insert", LoggedTyped, LastInsert(32), LOG, log).head("log full", log[2]),
         Row::new("ring: reset and kill of a slot's text", Ring, RingKill(64), slots, slot_sizes)
             .head("16 slots of 60 bytes", 60),
@@ -92,6 +93,7 @@ fn first() -> Vec<Row> {
 fn more() -> Vec<Row> {
     let marks = "bytes, a letter and marks";
     let newlines = "newlines";
+    let units_and_text = "units, 3 bytes of text each";
     vec![
         Row::new("move_forward 65,535", English(Start), Forward(1, ALL), BYTES, TEXT),
         Row::new("move_backward 65,535", English(End), Backward(1, ALL), BYTES, TEXT),
@@ -125,7 +127,9 @@ fn more() -> Vec<Row> {
         Row::new("dedent 1, a log of 71 bytes of records a line", LoggedLines, Dedent, LINES, LINE_SIZES),
         Row::new("indent 1, lines of one newline", Newlines(Start), Indent, newlines, [512, 1_024, 2_047]),
         Row::new("undo of all units in one call, at the start", UnitsAtStart, UndoAll, UNITS, UNIT_SIZES),
-        Row::new("undo of all units in one call, at both ends", UnitsAtBothEnds, UndoAll, UNITS, UNIT_SIZES),
+        Row::new("undo of all units in one call, at both ends of 3,000", UnitsAtEndsOf3000, UndoAll, UNITS, UNIT_SIZES),
+        Row::new("undo of 250 units in one call, at both ends", UnitsAtEndsOfText, UndoAll, BYTES, [960, 1_920, 3_840]),
+        Row::new("undo of all units in one call, at both ends", UnitsAtBothEnds, UndoAll, units_and_text, UNIT_SIZES),
         Row::new("cancel of a group of words", Scene::Group, Cancel, "words", UNIT_SIZES).alone(),
     ]
 }

@@ -44,6 +44,10 @@ pub enum Scene {
     UnitsAtStart,
     /// The same by turns at the start and at the end.
     UnitsAtBothEnds,
+    /// So many spaces typed by turns at the start and at the end of a text of 3,000 bytes, each a unit.
+    UnitsAtEndsOf3000,
+    /// 250 spaces typed by turns at the start and at the end of a text of so many bytes, each a unit.
+    UnitsAtEndsOfText,
     /// A group of so many words typed, not ended.
     Group,
     /// A ring of 16 slots with so many bytes each.
@@ -80,6 +84,16 @@ fn type_words<E: Editor>(e: &mut E, count: usize) {
     for _ in 0..count {
         " box".chars().for_each(|ch| assert!(e.insert(ch)));
     }
+}
+
+/// Spaces typed by turns at the start and at the end of a text of so many bytes, each a unit.
+fn at_both_ends<E: Editor>(bytes: usize, units: usize) -> E {
+    let mut e: E = placed(&text(ENGLISH, bytes), Start);
+    for typed in 0..units {
+        e.set_cursor(if typed % 2 == 0 { 0 } else { bytes + typed });
+        assert!(e.insert(' '));
+    }
+    e
 }
 
 pub fn scene<E: Editor>(scene: Scene, size: usize, session: &Session<E>) -> E {
@@ -126,15 +140,9 @@ pub fn scene<E: Editor>(scene: Scene, size: usize, session: &Session<E>) -> E {
             }
             e
         }
-        UnitsAtBothEnds => {
-            let text = text(ENGLISH, 3 * size);
-            let mut e: E = placed(&text, Start);
-            for typed in 0..size {
-                e.set_cursor(if typed % 2 == 0 { 0 } else { text.len() + typed });
-                assert!(e.insert(' '));
-            }
-            e
-        }
+        UnitsAtBothEnds => at_both_ends(3 * size, size),
+        UnitsAtEndsOf3000 => at_both_ends(3_000, size),
+        UnitsAtEndsOfText => at_both_ends(size, 250),
         Group => {
             let mut e = E::new("");
             assert!(e.begin());
