@@ -9,13 +9,14 @@ use lib.ListN.{length}
 use borrow.Author.Tests.{eqb-true, eq-eqb, ne-eqb}
 use Rattle.lists.proofs.Bools.{by-test, never}
 use Rattle.unicode.specs.Repertoire.{catalogue}
+use Rattle.checks.specs.Outcome.{Outcome, answered}
 use Rattle.journal.specs.Change.{Change, begin, end, edit, turn}
 use Rattle.journal.specs.Layout.{Format}
 use Rattle.journal.specs.Hold.{Holds}
 use Rattle.journal.proofs.Holds.{cleared}
 use Rattle.changeset.specs.declared.Log.{Log}
 use Rattle.changeset.proofs.Answers.{state, held-state, held-bytes}
-use Rattle.edit.specs.Plan.{State, Outcome, answered}
+use Rattle.edit.specs.Plan.{State}
 use Rattle.edit.specs.Calls.{Lent, lent, stateOf, says, Edited, Ready}
 use Rattle.edit.specs.declared.EditAnswer.{EditAnswer}
 use Rattle.edit.proofs.Answers.{length-kept, state-kept}
@@ -99,7 +100,7 @@ cancel-not-refused C m s =
 pub cancels-nothing : {F : Format} {l : Lent} (h : Ready F l) (m : ℕ) → opens m (stateOf catalogue F l .log .undo) ≡ false → {r : EditAnswer} → r ≡ says 1 (l .line) (l .log)
     → Edited F l (cancelOut (length (l .text)) m (stateOf catalogue F l)) r (l .text) (l .records) (l .texts)
 cancels-nothing {F} {l} h m e {r} q =
-    subst (λ (o : Outcome). Edited F l o r (l .text) (l .records) (l .texts)) (sym (cancel-nothing (length (l .text)) m (stateOf catalogue F l) e))
+    subst (λ (o : Outcome State). Edited F l o r (l .text) (l .records) (l .texts)) (sym (cancel-nothing (length (l .text)) m (stateOf catalogue F l) e))
     (edited (ended true (come-first h) false 0 {W = walked (stateOf catalogue F l .log .undo) (stateOf catalogue F l .log .redo) (trailBy (stateOf catalogue F l) false) 0} refl q))
 
 -- ---- records undone down to the mark m, n of them still to do
@@ -170,7 +171,7 @@ module _ {F : Format} {l₀ : Lent} {m : ℕ} {t : List ℕ} {s : Step} {g : Log
         → Edited F l₀ (cancelOut (length (l₀ .text)) m start) r t′ (l₀ .records) (l₀ .texts)
     cancel-stop z {r} y =
         let a = at-record ∙ to-stop (length (l₀ .text)) m n x f (now .log .redo) (trailBy now (s .undone)) (p .step .number) h (stopped-there true (k .come) e p t′ q z) in
-        subst (λ (c : Outcome). Edited F l₀ c r t′ (l₀ .records) (l₀ .texts)) (sym (cancel-stopped (length (l₀ .text)) m start o (λ b. z (sym (ap (λ (w : Walked). w .stopped) a) ∙ b))))
+        subst (λ (c : Outcome State). Edited F l₀ c r t′ (l₀ .records) (l₀ .texts)) (sym (cancel-stopped (length (l₀ .text)) m start o (λ b. z (sym (ap (λ (w : Walked). w .stopped) a) ∙ b))))
         (edited (stop-ended true (k .come) e p t′ q z a y))
 
     -- one less is left
@@ -193,7 +194,7 @@ module _ {F : Format} {l₀ : Lent} {m : ℕ} {t : List ℕ} {s : Step} {g : Log
   pub cancel-ended : opens m (start .log .undo) ≡ true → n ≤ 0 → {b : ℕ} → b ≡ beginsDown m (start .log .undo) → {r : EditAnswer} → r ≡ says 0 (lineOf s) (state (g .undo .records) (g .undo .texts) 0 0 (g .level - b))
       → Edited F l₀ (cancelOut (length (l₀ .text)) m start) r t (l₀ .records) (l₀ .texts)
   cancel-ended o h {b} e {r} q =
-      subst (λ (c : Outcome). Edited F l₀ c r t (l₀ .records) (l₀ .texts))
+      subst (λ (c : Outcome State). Edited F l₀ c r t (l₀ .records) (l₀ .texts))
       (sym
       (cancel-done (length (l₀ .text)) m start o (now .log .undo) (now .log .redo) (trailBy now (s .undone))
       (sym (k .same) ∙ ap (λ (a : ℕ). downTo (length (l₀ .text)) m a (now .log .undo) (now .log .redo) (trailBy now (s .undone))) none)))

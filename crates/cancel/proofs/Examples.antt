@@ -4,8 +4,9 @@ use mathlib.Core.Path.{_≡_, refl}
 use mathlib.Core.List.{[], _∷_}
 use Rattle.utf8.specs.Utf8.{within, one, two, lead3, three, lead4, four, firstOf, first}
 use Rattle.utf8.specs.Chars.{validFrom}
+use Rattle.checks.specs.Outcome.{answered}
 use Rattle.journal.specs.Change.{begin, end, edit, insert, delete}
-use Rattle.edit.specs.Plan.{answered, splice}
+use Rattle.edit.specs.Plan.{splice}
 use Rattle.retrace.specs.Retrace.{misfit, exchanging, undoing}
 use Rattle.undo.proofs.Examples.{state, q, r}
 use Rattle.cancel.specs.Cancel.{opens, walkTo, beginsDown, cancelOut}

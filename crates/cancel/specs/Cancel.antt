@@ -6,9 +6,10 @@ use lib.Dec.{eqb}
 use lib.ListN.{length}
 use Rattle.unicode.specs.Repertoire.{Repertoire}
 use Rattle.checks.specs.Checks.{ownTests}
+use Rattle.checks.specs.Outcome.{Outcome, answered, called}
 use Rattle.journal.specs.Change.{Change, begin, end, edit, turn}
 use Rattle.journal.specs.Layout.{Format}
-use Rattle.edit.specs.Plan.{State, Outcome, answered, called}
+use Rattle.edit.specs.Plan.{State}
 use Rattle.edit.specs.Calls.{Lent, checked, stateOf}
 use Rattle.retrace.specs.Retrace.{Trail, undoing}
 use Rattle.undo.specs.Undo.{Walked, onTried, trailOf, undoOf}
@@ -39,13 +40,13 @@ abbrev pub cancelledState : Walked → ℕ → State
 cancelledState w level = record { text = w .trail .text; cursor = w .trail .cursor; log = record { undo = w .from; redo = []; level = level } }
 
 -- a stopped cancel drops nothing
-abbrev pub cancelled : Walked → ℕ → State → Outcome
+abbrev pub cancelled : Walked → ℕ → State → Outcome State
 cancelled w m s = cond (eqb (w .stopped) 0) (answered 0 0 0 (cancelledState w (s .log .level - beginsDown m (s .log .undo)))) (undoOf w (s .log .level))
 
-unfoldable pub cancelOut : ℕ → ℕ → State → Outcome
+unfoldable pub cancelOut : ℕ → ℕ → State → Outcome State
 cancelOut C m s = cond (opens m (s .log .undo)) (cancelled (walkTo C m (s .log .undo) (s .log .redo) (trailOf s)) m s) (answered 1 0 0 s)
 
 -- the call: checks 2 to 8, then what it does
 module _ (R : Repertoire) (F : Format) (l : Lent) where
-  abbrev pub cancelCall : ℕ → Outcome
+  abbrev pub cancelCall : ℕ → Outcome State
   cancelCall mark = called (checked R F l (ownTests false false false)) (cancelOut (length (l .text)) mark (stateOf R F l))

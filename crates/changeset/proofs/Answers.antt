@@ -1,5 +1,5 @@
 -- The answer and the bytes of an outcome: a refusal, and a log that the buffers hold. Assumes nothing.
-use Prim.Native.Nat.{ℕ, zero, suc, _+_}
+use Prim.Native.Nat.{ℕ, _+_}
 use native.Mathlib.Omega.{arith}
 use mathlib.Core.Path.{_≡_, refl, sym, ap, ap₂, subst, _∙_}
 use mathlib.Core.Bool.{true, false}
@@ -7,6 +7,8 @@ use mathlib.Core.List.{List, [], _++_, map, reverse}
 use lib.ListN.{length, take, length-append}
 use lib.Seq.{length-take-le}
 use Rattle.unicode.specs.Repertoire.{Repertoire}
+use Rattle.checks.specs.Outcome.{Outcome, refused, answered, called}
+use Rattle.checks.proofs.Outcomes.{called-refused, called-passed}
 use Rattle.journal.specs.Change.{Change, turn}
 use Rattle.journal.specs.Layout.{Format, encodeRecords, encodeTexts}
 use Rattle.journal.specs.Hold.{Holds}
@@ -15,7 +17,7 @@ use Rattle.journal.specs.Undo.{fits}
 use Rattle.journal.proofs.Holds.{records-append, texts-append}
 use Rattle.changeset.specs.declared.Log.{Log}
 use Rattle.changeset.specs.declared.LogAnswer.{LogAnswer}
-use Rattle.changeset.specs.Outcomes.{Outcome, refused, answered, called, recordOut}
+use Rattle.changeset.specs.Outcomes.{recordOut}
 use Rattle.changeset.specs.Calls.{Lent, sizesOf, says, logOf, answerOf, Stored, Logged}
 
 -- the state of a log by its numbers
@@ -28,26 +30,25 @@ module _ (F : Format) (l : Lent) where
   refuses k = record { answer = refl; bytes = record { records = refl; texts = refl } }
 
   -- checks 2 to 8
-  pub refused-by : (k n : ℕ) (o : Outcome) → n ≡ k → (k ≡ 0 → ⊥) → Logged F l (called n o) (says k (l .log)) (l .records) (l .texts)
-  refused-by zero n o e h = absurd (h refl)
-  refused-by (suc k) n o e h = rw e (refuses (suc k))
+  pub refused-by : (k n : ℕ) (o : Outcome groups.Log) → n ≡ k → (k ≡ 0 → ⊥) → Logged F l (called n o) (says k (l .log)) (l .records) (l .texts)
+  refused-by k n o e h = called-refused (λ (x : Outcome groups.Log). Logged F l x (says k (l .log)) (l .records) (l .texts)) o k n e h (refuses k)
 
-  pub passed-by : (k n : ℕ) (o : Outcome) (r : LogAnswer) (rb tb : List ℕ) → n ≡ k → k ≡ 0 → Logged F l o r rb tb → Logged F l (called n o) r rb tb
-  passed-by k n o r rb tb e h q = rw (e ∙ h) q
+  pub passed-by : (k n : ℕ) (o : Outcome groups.Log) (r : LogAnswer) (rb tb : List ℕ) → n ≡ k → k ≡ 0 → Logged F l o r rb tb → Logged F l (called n o) r rb tb
+  passed-by k n o r rb tb e h q = called-passed (λ (x : Outcome groups.Log). Logged F l x r rb tb) o k n e h q
 
   -- a call that writes nothing
-  pub refused-says : (k n : ℕ) (o : Outcome) → n ≡ k → (k ≡ 0 → ⊥) → says k (l .log) ≡ answerOf F l (called n o)
+  pub refused-says : (k n : ℕ) (o : Outcome groups.Log) → n ≡ k → (k ≡ 0 → ⊥) → says k (l .log) ≡ answerOf F l (called n o)
   refused-says k n o e h = refused-by k n o e h .answer
 
-  pub passed-says : (k n : ℕ) (o : Outcome) (r : LogAnswer) → n ≡ k → k ≡ 0 → r ≡ answerOf F l o → r ≡ answerOf F l (called n o)
-  passed-says k n o r e h q = q ∙ ap (λ (i : ℕ). answerOf F l (called i o)) (sym (e ∙ h))
+  pub passed-says : (k n : ℕ) (o : Outcome groups.Log) (r : LogAnswer) → n ≡ k → k ≡ 0 → r ≡ answerOf F l o → r ≡ answerOf F l (called n o)
+  passed-says k n o r e h q = called-passed (λ (x : Outcome groups.Log). r ≡ answerOf F l x) o k n e h q
 
   -- the answer as a function gave it
-  pub answered-as : (o : Outcome) (r r′ : LogAnswer) (rb tb : List ℕ) → r ≡ r′ → Logged F l o r′ rb tb → Logged F l o r rb tb
+  pub answered-as : (o : Outcome groups.Log) (r r′ : LogAnswer) (rb tb : List ℕ) → r ≡ r′ → Logged F l o r′ rb tb → Logged F l o r rb tb
   answered-as o r r′ rb tb e q = record { answer = e ∙ q .answer; bytes = q .bytes }
 
   -- and the records as it left them
-  pub ended-as : (o : Outcome) (r r′ : LogAnswer) (rb rb′ tb : List ℕ) → r ≡ r′ → rb ≡ rb′ → Logged F l o r′ rb′ tb → Logged F l o r rb tb
+  pub ended-as : (o : Outcome groups.Log) (r r′ : LogAnswer) (rb rb′ tb : List ℕ) → r ≡ r′ → rb ≡ rb′ → Logged F l o r′ rb′ tb → Logged F l o r rb tb
   ended-as o r r′ rb rb′ tb e f q = rw f (answered-as o r r′ rb′ tb e q)
 
 -- ---- a log that the buffers hold

@@ -7,12 +7,13 @@ use Rattle.utf8.specs.Chars.{charsFrom}
 use Rattle.utf8.specs.Encode.{encode}
 use Rattle.unicode.specs.Repertoire.{catalogue, isAlnum, isControl, isMark}
 use Rattle.cluster.specs.Clusters.{clusters, joined}
+use Rattle.checks.specs.Outcome.{refused, answered}
 use Rattle.journal.specs.Change.{Change, begin, end, edit, insert, delete, replace}
 use Rattle.journal.specs.Layout.{narrow}
 use Rattle.journal.specs.Recording.{note, recordInsert, recordInsertStr, recordDelete, recordReplace}
 use Rattle.journal.specs.Groups.{Log, empty, endAll, endsAny}
 use Rattle.journal.specs.Undo.{Sizes, undoRecords, undoTexts, allSmall, fits, lastInsertAt}
-use Rattle.changeset.specs.Outcomes.{answered, refused, beginOut, endOut, recordOut, truncateOut, lastInsertOut}
+use Rattle.changeset.specs.Outcomes.{beginOut, endOut, recordOut, truncateOut, lastInsertOut}
 use Rattle.changeset.specs.Calls.{logOf}
 
 abbrev a : List ℕ

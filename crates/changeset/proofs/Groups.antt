@@ -11,6 +11,7 @@ use lib.Seq.{sets, length-sets, length-take-le, take-take, take-at, take-all}
 use borrow.Author.Tests.{lt-ltb, le-ltb, ne-eqb}
 use Rattle.lists.proofs.Stores.{take-sets}
 use Rattle.unicode.specs.Repertoire.{catalogue}
+use Rattle.checks.specs.Outcome.{answered}
 use Rattle.journal.specs.Change.{insert, delete, replace, Change, begin, end, edit, turn}
 use Rattle.journal.specs.Layout.{Format, encodeRecords, encodeTexts, Layout}
 use Rattle.journal.specs.Hold.{Holds, Listed}
@@ -29,7 +30,7 @@ use Rattle.recording.specs.declared.Tail.{Tail}
 use Rattle.recording.proofs.Numbers.{tail-texts, tail-within}
 use Rattle.buffer.specs.Edit.{cut}
 use Rattle.changeset.specs.declared.Log.{Log}
-use Rattle.changeset.specs.Outcomes.{answered, placesOut, beginOut, endOut, truncateOut, lastInsertOut}
+use Rattle.changeset.specs.Outcomes.{placesOut, beginOut, endOut, truncateOut, lastInsertOut}
 use Rattle.changeset.specs.Calls.{Lent, sizesOf, says, logOf, answerOf, undos, redos, valueOf, Logged, Ready}
 use Rattle.changeset.proofs.Answers.{state, refuses, answers, held-state}
 use Rattle.changeset.proofs.Recorded.{lays, good, holding, records-used, texts-used}

@@ -10,6 +10,7 @@ use lib.ListN.{length, take, drop}
 use Rattle.unicode.specs.Repertoire.{Repertoire, catalogue}
 use Rattle.unicode.specs.Text.{isText, isChar}
 use Rattle.checks.specs.Checks.{both, refusal, ownTests}
+use Rattle.checks.specs.Outcome.{Outcome, refused, answered, called}
 use Rattle.journal.specs.Change.{Edit, insert, delete, replace, Change, turn, place, old, new}
 use Rattle.journal.specs.Layout.{Format, top, encodeRecords, encodeTexts, decode}
 use Rattle.journal.specs.Recording.{recordInsert, recordInsertStr, recordDelete, recordReplace}
@@ -21,7 +22,7 @@ use Rattle.changeset.specs.declared.Log.{Log}
 use Rattle.changeset.specs.declared.Used.{Used}
 use Rattle.changeset.specs.declared.LogAnswer.{LogAnswer}
 use Rattle.changeset.specs.Logs.{logTests}
-use Rattle.changeset.specs.Outcomes.{Outcome, refused, answered, called, beginOut, endOut, recordOut, truncateOut, lastInsertOut}
+use Rattle.changeset.specs.Outcomes.{beginOut, endOut, recordOut, truncateOut, lastInsertOut}
 
 -- the two buffers that a call is lent, and the log's state
 pub record Lent : Type 0 where
@@ -68,7 +69,7 @@ module _ (F : Format) where
   abbrev pub logOf : groups.Log → Log
   logOf g = record { undo = usedBy (reverse (g .undo)); redo = usedBy (map turn (g .redo)); level = g .level }
 
-  abbrev pub answerOf : Lent → Outcome → LogAnswer
+  abbrev pub answerOf : Lent → Outcome groups.Log → LogAnswer
   answerOf l (refused k) = says k (l .log)
   answerOf l (answered k a b g) = record { number = k; from = a; to = b; log = logOf g }
 
@@ -81,13 +82,13 @@ module _ (F : Format) where
     pub records : take (length (encodeRecords F (row g))) rb ≡ encodeRecords F (row g)
     pub texts : take (length (encodeTexts (row g))) tb ≡ encodeTexts (row g)
 
-  abbrev pub Bytes : Lent → Outcome → List ℕ → List ℕ → Type 0
+  abbrev pub Bytes : Lent → Outcome groups.Log → List ℕ → List ℕ → Type 0
   Bytes l (refused k) rb tb = Same l rb tb
   Bytes l (answered k a b g) rb tb = Stored g rb tb
 
   -- the contract of a call that is lent a log: its whole answer, and both buffers. The bytes past the used lengths after an answer 0 or 1 are the
   -- program's own: that the buffers keep their lengths is all that is said of them
-  pub record Logged (l : Lent) (o : Outcome) (r : LogAnswer) (rb tb : List ℕ) : Type 0 where
+  pub record Logged (l : Lent) (o : Outcome groups.Log) (r : LogAnswer) (rb tb : List ℕ) : Type 0 where
     pub answer : r ≡ answerOf l o
     pub bytes : Bytes l o rb tb
 
@@ -97,29 +98,29 @@ module _ (R : Repertoire) (F : Format) where
   abbrev pub checked : Lent → Bool → ℕ
   checked l own = refusal (both (logTests R F (l .log) (l .records) (l .texts)) (ownTests false own false))
 
-  abbrev pub beginCall : Lent → Outcome
+  abbrev pub beginCall : Lent → Outcome groups.Log
   beginCall l = called (checked l false) (beginOut F (sizesOf l) (valueOf R F l))
 
-  abbrev pub endCall : Lent → Outcome
+  abbrev pub endCall : Lent → Outcome groups.Log
   endCall l = called (checked l false) (endOut F (sizesOf l) (valueOf R F l))
 
-  abbrev pub insertCall : Lent → ℕ → ℕ → Outcome
+  abbrev pub insertCall : Lent → ℕ → ℕ → Outcome groups.Log
   insertCall l p c = called (checked l (not (isChar R c))) (recordOut F (sizesOf l) (recordInsert R p c (valueOf R F l .undo)) (valueOf R F l))
 
-  abbrev pub insertStrCall : Lent → ℕ → List ℕ → Outcome
+  abbrev pub insertStrCall : Lent → ℕ → List ℕ → Outcome groups.Log
   insertStrCall l p s = called (checked l (not (isText R s))) (recordOut F (sizesOf l) (recordInsertStr p s (valueOf R F l .undo)) (valueOf R F l))
 
-  abbrev pub deleteCall : Lent → ℕ → List ℕ → Outcome
+  abbrev pub deleteCall : Lent → ℕ → List ℕ → Outcome groups.Log
   deleteCall l p s = called (checked l (not (isText R s))) (recordOut F (sizesOf l) (recordDelete R p s (valueOf R F l .undo)) (valueOf R F l))
 
-  abbrev pub replaceCall : Lent → ℕ → List ℕ → List ℕ → Outcome
+  abbrev pub replaceCall : Lent → ℕ → List ℕ → List ℕ → Outcome groups.Log
   replaceCall l p o n =
       called (checked l (not (isText R o) || not (isText R n))) (recordOut F (sizesOf l) (recordReplace p o n (valueOf R F l .undo)) (valueOf R F l))
 
-  abbrev pub truncateCall : Lent → ℕ → Outcome
+  abbrev pub truncateCall : Lent → ℕ → Outcome groups.Log
   truncateCall l len = called (checked l false) (truncateOut len (valueOf R F l))
 
-  abbrev pub lastInsertCall : Lent → Outcome
+  abbrev pub lastInsertCall : Lent → Outcome groups.Log
   lastInsertCall l = called (checked l false) (lastInsertOut (valueOf R F l))
 
 -- ---- what holds where the checks pass

@@ -17,13 +17,14 @@ use Rattle.motion.specs.declared.Found.the-variants as found
 use Rattle.lines.specs.declared.Range.{Range}
 use Rattle.lines.specs.declared.Range.the-variants.{Places, Nowhere}
 use Rattle.checks.specs.Checks.{both, ownTests}
+use Rattle.checks.specs.Outcome.{Outcome, refused, answered, numberIn, called}
 use Rattle.checks.proofs.Fit.{Fit, fit}
 use Rattle.changeset.specs.Logs.{logTests}
 use Rattle.copies.specs.Copy.{upTo, copied}
 use Rattle.journal.specs.Layout.{narrow}
 use Rattle.journal.specs.Undo.{fits}
 use Rattle.edit.specs.declared.EditAnswer.{EditAnswer}
-use Rattle.edit.specs.Plan.{cutting, nothing, State, Outcome, refused, answered, numberIn, called, tooLong, textAfter, listAfter, planned, edited}
+use Rattle.edit.specs.Plan.{cutting, nothing, State, tooLong, textAfter, listAfter, planned, edited}
 use Rattle.edit.specs.Calls.{Lent, textOf, sizesOf, stateOf, checked, Edited}
 use Rattle.edit.proofs.Splice.{splice-length}
 use Rattle.kills.specs.Kills.{killRange, cutPlan, placesPlan, killOf, deleteCall}
@@ -46,15 +47,15 @@ module _ (l : Lent) (n : ℕ) where
   abbrev state : State
   state = stateOf catalogue narrow l
 
-  abbrev cut : Range → Outcome
+  abbrev cut : Range → Outcome State
   cut r = edited catalogue narrow (sizesOf l) (length (l .text)) (cutPlan pos r) state
 
-  abbrev placed : Range → Outcome
+  abbrev placed : Range → Outcome State
   placed r = edited catalogue narrow (sizesOf l) (length (l .text)) (placesPlan pos r) state
 
   -- kill and delete do the same and do not answer 0, or delete answers the places of the cut
-  data Way : Outcome → Outcome → Type 0 where
-    alike : (o : Outcome) → (numberIn o ≡ 0 → ⊥) → Way o o
+  data Way : Outcome State → Outcome State → Type 0 where
+    alike : (o : Outcome State) → (numberIn o ≡ 0 → ⊥) → Way o o
     between : (a b : ℕ) (s : State) → a ≡ pos → a ≤ b → b ≤ l .line .len → length (s .text) ≡ l .line .len - (b - a) → Way (answered 0 0 0 s) (answered 0 a b s)
 
   cut-ways : (a b : ℕ) → a ≡ pos → In (textOf l) a b → l .line .len ≤ length (l .text) → Way (cut (Places a b)) (placed (Places a b))
@@ -95,21 +96,21 @@ module _ (l : Lent) (n : ℕ) where
       by-number (suc k) e = alike (refused (suc k)) (λ z. omega arith)
 
   module _ (r : EditAnswer) (t rb tb : List ℕ) (q : Edited narrow l (killOf catalogue narrow l (m.ForwardChar n)) r t rb tb) where
-    number-is : (o : Outcome) → Edited narrow l o r t rb tb → r .number ≡ numberIn o
+    number-is : (o : Outcome State) → Edited narrow l o r t rb tb → r .number ≡ numberIn o
     number-is (refused k) e = ap (λ (x : EditAnswer). x .number) (e .answer)
     number-is (answered k a b s) e = ap (λ (x : EditAnswer). x .number) (e .answer)
 
     pub not-cut : (r .number ≡ 0 → ⊥) → Edited narrow l (deleteCall catalogue narrow l n) r t rb tb
     not-cut h = go ways q
       where
-        go : {o o′ : Outcome} → Way o o′ → Edited narrow l o r t rb tb → Edited narrow l o′ r t rb tb
+        go : {o o′ : Outcome State} → Way o o′ → Edited narrow l o r t rb tb → Edited narrow l o′ r t rb tb
         go (alike o k) e = e
         go (between a b s x y z w) e = absurd (h (number-is (answered 0 0 0 s) e))
 
     pub was-cut : r .number ≡ 0 → (r .line .len ≤ l .line .len) × (pos + (l .line .len - r .line .len) ≤ l .line .len) × Edited narrow l (deleteCall catalogue narrow l n) (record { number = 0; from = pos; to = pos + (l .line .len - r .line .len); line = r .line; log = r .log }) t rb tb
     was-cut h = go ways q
       where
-        go : {o o′ : Outcome} → Way o o′ → Edited narrow l o r t rb tb → (r .line .len ≤ l .line .len) × (pos + (l .line .len - r .line .len) ≤ l .line .len) × Edited narrow l o′ (record { number = 0; from = pos; to = pos + (l .line .len - r .line .len); line = r .line; log = r .log }) t rb tb
+        go : {o o′ : Outcome State} → Way o o′ → Edited narrow l o r t rb tb → (r .line .len ≤ l .line .len) × (pos + (l .line .len - r .line .len) ≤ l .line .len) × Edited narrow l o′ (record { number = 0; from = pos; to = pos + (l .line .len - r .line .len); line = r .line; log = r .log }) t rb tb
         go (alike o k) e = absurd (k (sym (number-is o e) ∙ h))
         go (between a b s x y z w) e =
             let g : r .line .len ≡ length (s .text) = ap (λ (i : EditAnswer). i .line .len) (e .answer) in

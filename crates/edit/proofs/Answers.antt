@@ -1,5 +1,5 @@
 -- The answer of an edit: refused by a check, passed by all, and a plan that changes nothing. Assumes nothing.
-use Prim.Native.Nat.{ℕ, zero, suc}
+use Prim.Native.Nat.{ℕ}
 use native.Mathlib.Omega.{arith}
 use mathlib.Core.Bool.{true, false}
 use mathlib.Core.Path.{_≡_, refl, sym, ap, ap₂, subst, _∙_}
@@ -8,6 +8,8 @@ use lib.ListN.{length, take}
 use lib.Seq.{length-take-le}
 use Rattle.utf8.specs.Chars.{In}
 use Rattle.unicode.specs.Repertoire.{catalogue}
+use Rattle.checks.specs.Outcome.{Outcome, called}
+use Rattle.checks.proofs.Outcomes.{called-refused, called-passed}
 use Rattle.journal.specs.Change.{Change, turn}
 use Rattle.journal.specs.Layout.{Format}
 use Rattle.journal.specs.Hold.{Holds}
@@ -19,17 +21,17 @@ use Rattle.changeset.specs.Calls as log
 use Rattle.changeset.proofs.Answers.{held-state, held-bytes}
 use Rattle.changeset.proofs.Recorded.{holding, fits-now}
 use Rattle.edit.specs.declared.EditAnswer.{EditAnswer}
-use Rattle.edit.specs.Plan.{Outcome, Plan, called, nothing, textAfter, listAfter, tooLong, edited}
+use Rattle.edit.specs.Plan.{State, Plan, nothing, textAfter, listAfter, tooLong, edited}
 use Rattle.edit.specs.Calls.{Lent, logLent, textOf, sizesOf, stateOf, says, Stored, Edited, Ready}
 
 module _ (F : Format) (l : Lent) where
   -- checks 2 to 8
-  pub refused-by : (k n : ℕ) (o : Outcome) (r : EditAnswer) → n ≡ k → (k ≡ 0 → ⊥) → r ≡ says k (l .line) (l .log) → Edited F l (called n o) r (l .text) (l .records) (l .texts)
-  refused-by zero n o r e h q = absurd (h refl)
-  refused-by (suc k) n o r e h q = rw e (record { answer = q; bytes = record { text = refl; records = refl; texts = refl } })
+  pub refused-by : (k n : ℕ) (o : Outcome State) (r : EditAnswer) → n ≡ k → (k ≡ 0 → ⊥) → r ≡ says k (l .line) (l .log) → Edited F l (called n o) r (l .text) (l .records) (l .texts)
+  refused-by k n o r e h q =
+      called-refused (λ (x : Outcome State). Edited F l x r (l .text) (l .records) (l .texts)) o k n e h (record { answer = q; bytes = record { text = refl; records = refl; texts = refl } })
 
-  pub passed-by : (k n : ℕ) (o : Outcome) (r : EditAnswer) (t rb tb : List ℕ) → n ≡ k → k ≡ 0 → Edited F l o r t rb tb → Edited F l (called n o) r t rb tb
-  passed-by k n o r t rb tb e h q = rw (e ∙ h) q
+  pub passed-by : (k n : ℕ) (o : Outcome State) (r : EditAnswer) (t rb tb : List ℕ) → n ≡ k → k ≡ 0 → Edited F l o r t rb tb → Edited F l (called n o) r t rb tb
+  passed-by k n o r t rb tb e h q = called-passed (λ (x : Outcome State). Edited F l x r t rb tb) o k n e h q
 
   -- 9, and 10 where 9 passes
   pub nine : (p : Plan) (r : EditAnswer) → tooLong (length (l .text)) (p .pieces) (textOf l) ≡ true → r ≡ says 9 (l .line) (l .log)

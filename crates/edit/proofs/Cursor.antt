@@ -7,10 +7,11 @@ use mathlib.Core.Logic.{_⊎_, inl, inr, ⊎-elim}
 use mathlib.Core.List.{List}
 use lib.ListN.{length, take}
 use Rattle.unicode.specs.Repertoire.{Repertoire}
+use Rattle.checks.specs.Outcome.{Outcome, refused, answered}
 use Rattle.journal.specs.Layout.{Format}
 use Rattle.journal.specs.Undo.{Sizes, fits}
 use Rattle.edit.specs.declared.EditAnswer.{EditAnswer}
-use Rattle.edit.specs.Plan.{Piece, Plan, State, Outcome, refused, answered, planned, textAfter, listAfter, tooLong, edited}
+use Rattle.edit.specs.Plan.{Piece, Plan, State, planned, textAfter, listAfter, tooLong, edited}
 use Rattle.edit.specs.Calls.{Lent, says, Edited}
 use Rattle.edit.proofs.Held.{take-within}
 
@@ -19,7 +20,7 @@ module _ (R : Repertoire) (F : Format) (l : Lent) (z : Sizes) (C : ℕ) (xs : Li
   abbrev pub ending : ℕ → Plan
   ending c = record { pieces = xs; cursor = c; number = 0; from = 0; to = 0 }
 
-  abbrev out : Bool → Bool → ℕ → Outcome
+  abbrev out : Bool → Bool → ℕ → Outcome State
   out a b c = cond a (refused 9) (cond b (answered 0 0 0 (planned R (ending c) s)) (refused 10))
 
   module _ (c c′ : ℕ) (r : EditAnswer) (t rb tb : List ℕ) where

@@ -11,13 +11,14 @@ use Rattle.lists.proofs.Bools.{and-both, or-none}
 use Rattle.utf8.specs.Chars.{boundary, In}
 use Rattle.unicode.specs.Repertoire.{Repertoire, catalogue}
 use Rattle.unicode.specs.Text.{isText}
+use Rattle.checks.specs.Outcome.{Outcome, answered}
 use Rattle.journal.specs.Change.{Change}
 use Rattle.journal.specs.Layout.{Format, top, AllGood}
 use Rattle.journal.specs.Undo.{undoRecords, undoTexts, allSmall, Sizes, fits}
 use Rattle.changeset.specs.declared.Log.{Log}
 use Rattle.changeset.proofs.Recorded.{good}
 use Rattle.edit.specs.declared.EditAnswer.{EditAnswer}
-use Rattle.edit.specs.Plan.{Piece, made, recorded, Plan, once, textAfter, listAfter, redoAfter, AllSuit, Suits, tooLong, State, Outcome, answered, edited}
+use Rattle.edit.specs.Plan.{Piece, made, recorded, Plan, once, textAfter, listAfter, redoAfter, AllSuit, Suits, tooLong, State, edited}
 use Rattle.edit.specs.Calls.{Lent, lent, logLent, textOf, sizesOf, stateOf, Edited, Ready}
 use Rattle.edit.proofs.Answers.{log-kept, length-kept, state-kept}
 use Rattle.edit.proofs.Pieces.{startOf, made-text, start-in}
@@ -161,7 +162,7 @@ module _ (F : Format) where
 
     taken : Edited F l (answered 0 0 0 next) r t rb tb
     taken =
-        subst (λ (o : Outcome). Edited F l o r t rb tb)
+        subst (λ (o : Outcome State). Edited F l o r t rb tb)
         (ap₂ (λ (z : Sizes) (c : ℕ). edited catalogue F z c (once x (startOf x)) s) sizes (k .text) ∙ step-taken catalogue F (sizesOf l₀) C x s (startOf x) (shorts .0) room) q
 
     start : In (made x (textOf l)) (startOf x) (startOf x)
@@ -195,7 +196,7 @@ module _ (F : Format) where
   pub ends : (l₀ : Lent) (p : Plan) (l : Lent) → Left F l₀ p [] l
       → Edited F l₀ (edited catalogue F (sizesOf l₀) (length (l₀ .text)) p (stateOf catalogue F l₀)) (record { number = p .number; from = p .from; to = p .to; line = record { len = l .line .len; cursor = p .cursor }; log = l .log }) (l .text) (l .records) (l .texts)
   ends l₀ p l k =
-      subst (λ (o : Outcome). Edited F l₀ o (record { number = p .number; from = p .from; to = p .to; line = record { len = l .line .len; cursor = p .cursor }; log = l .log }) (l .text) (l .records) (l .texts)) (sym (k .same ∙ all-made))
+      subst (λ (o : Outcome State). Edited F l₀ o (record { number = p .number; from = p .from; to = p .to; line = record { len = l .line .len; cursor = p .cursor }; log = l .log }) (l .text) (l .records) (l .texts)) (sym (k .same ∙ all-made))
       (record {
         answer = ap₂ (λ (n : ℕ) (g : Log). record { number = p .number; from = p .from; to = p .to; line = record { len = n; cursor = p .cursor }; log = g }) (sym (length-kept F l (k .ready))) (log-kept F l (k .ready));
         bytes = state-kept F l (k .ready) (p .cursor);

@@ -12,6 +12,7 @@ use Rattle.lists.specs.Lists.{part}
 use Rattle.lists.proofs.Bools.{and-both}
 use Rattle.lists.proofs.Parts.{none-left}
 use Rattle.unicode.specs.Repertoire.{catalogue}
+use Rattle.checks.specs.Outcome.{Outcome, refused, answered}
 use Rattle.buffer.specs.Edit.{inserted, cut}
 use Rattle.journal.specs.Change.{Edit, insert, delete, replace, Change, edit, place, old, new}
 use Rattle.journal.specs.Layout.{Format, okChange}
@@ -20,13 +21,13 @@ use Rattle.journal.specs.Groups as groups
 use Rattle.journal.specs.Undo.{fits}
 use mathlib.Core.Logic.{_⊎_, inl, inr, ⊎-elim}
 use Rattle.recording.specs.Tails.{kindNumber}
-use Rattle.changeset.specs.Outcomes.{answered, refused, recordOut}
+use Rattle.changeset.specs.Outcomes.{recordOut}
 use Rattle.changeset.specs.declared.Log.{Log}
 use Rattle.changeset.specs.declared.LogAnswer.{LogAnswer}
 use Rattle.changeset.specs.Calls as log
 use Rattle.changeset.proofs.Recorded as recorded
 use Rattle.edit.specs.declared.EditAnswer.{EditAnswer}
-use Rattle.edit.specs.Plan.{splice, Outcome, blank, changed, changeOut}
+use Rattle.edit.specs.Plan.{State, splice, blank, changed, changeOut}
 use Rattle.edit.specs.Calls.{Lent, logLent, textOf, sizesOf, stateOf, says, Edited, Ready}
 use Rattle.edit.proofs.Answers.{length-kept}
 use Rattle.edit.proofs.Splice.{splice-length, cut-put, splice-none}
@@ -70,7 +71,7 @@ module _ (F : Format) (l : Lent) (h : Ready F l) (j : Bool) (x : Edit) (k a b : 
   abbrev u : List Change
   u = log.valueOf catalogue F (logLent l) .undo
 
-  abbrev outcome : Outcome
+  abbrev outcome : Outcome State
   outcome = changeOut F (sizesOf l) (length (l .text)) j x p (stateOf catalogue F l)
 
   cut-size : length (old x) ≡ b - a
@@ -155,9 +156,9 @@ module _ (F : Format) (l : Lent) (j : Bool) (k a : ℕ) (n s s′ : List ℕ) (e
   logged-as r rb tb q = subst (λ (x : List ℕ). log.Logged F (logLent l) (recordOut F (sizesOf l) (note j (log.editOf k a x n) (log.valueOf catalogue F (logLent l) .undo)) (log.valueOf catalogue F (logLent l))) r rb tb) e q
 
 -- the answer as a function gave it
-pub edited-as : (F : Format) (l : Lent) (o : Outcome) (r r′ : EditAnswer) (t rb tb : List ℕ) → r ≡ r′ → Edited F l o r′ t rb tb → Edited F l o r t rb tb
+pub edited-as : (F : Format) (l : Lent) (o : Outcome State) (r r′ : EditAnswer) (t rb tb : List ℕ) → r ≡ r′ → Edited F l o r′ t rb tb → Edited F l o r t rb tb
 edited-as F l o r r′ t rb tb e q = record { answer = e ∙ q .answer; bytes = q .bytes }
 
 -- the outcome said in another way
-pub outcome-as : (F : Format) (l : Lent) (o o′ : Outcome) (r : EditAnswer) (t rb tb : List ℕ) → o ≡ o′ → Edited F l o r t rb tb → Edited F l o′ r t rb tb
-outcome-as F l o o′ r t rb tb e q = subst (λ (x : Outcome). Edited F l x r t rb tb) e q
+pub outcome-as : (F : Format) (l : Lent) (o o′ : Outcome State) (r : EditAnswer) (t rb tb : List ℕ) → o ≡ o′ → Edited F l o r t rb tb → Edited F l o′ r t rb tb
+outcome-as F l o o′ r t rb tb e q = subst (λ (x : Outcome State). Edited F l x r t rb tb) e q

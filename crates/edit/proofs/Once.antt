@@ -13,11 +13,12 @@ use Rattle.utf8.proofs.Chars.{size-pos}
 use Rattle.utf8.proofs.Encode.{size-encode}
 use Rattle.unicode.specs.Repertoire.{Repertoire}
 use Rattle.cluster.specs.Clusters.{clustersOf}
+use Rattle.checks.specs.Outcome.{Outcome, refused, answered}
 use Rattle.journal.specs.Change.{Edit, insert, delete, replace, Change}
 use Rattle.journal.specs.Layout.{Format}
 use Rattle.journal.specs.Recording.{isSingle, note, recordInsert, recordInsertStr, recordDelete, recordReplace}
 use Rattle.journal.specs.Undo.{Sizes, fits}
-use Rattle.edit.specs.Plan.{Outcome, Piece, State, answered, changeOut, changed, cutting, edited, listAfter, made, notedOr, once, pasted, recorded, refused, splice, swapping, textAfter, tooLong, typed}
+use Rattle.edit.specs.Plan.{Piece, State, changeOut, changed, cutting, edited, listAfter, made, notedOr, once, pasted, recorded, splice, swapping, textAfter, tooLong, typed}
 use Rattle.edit.proofs.Parts.{part-length}
 
 -- ---- the outcome of one piece, where it is the change x
@@ -28,7 +29,7 @@ one-piece R F z C y p s j x e f =
     sym (ap (λ (b : Bool). cond b (refused 9) (behind (made y (s .text)) (recorded R y (s .text) (s .log .undo)))) (or-false (ltb C (length (made y (s .text)))))
     ∙ ap₂ (λ (t : List ℕ) (u : List Change). cond (ltb C (length t)) (refused 9) (behind t u)) e f)
   where
-    behind : List ℕ → List Change → Outcome
+    behind : List ℕ → List Change → Outcome State
     behind t u = cond (fits F z u) (answered 0 0 0 (record { text = t; cursor = p; log = record { undo = u; redo = []; level = s .log .level } })) (refused 10)
 
 pub noted-insert : (p : ℕ) (s : List ℕ) (u : List Change) → recordInsertStr p s u ≡ notedOr false (insert p s) u

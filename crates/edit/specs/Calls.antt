@@ -9,6 +9,7 @@ use Rattle.unicode.specs.Text.{isText}
 use Rattle.utf8.specs.Chars.{boundary}
 use Rattle.checks.specs.Checks.{Tests, both, refusal, lineTests}
 use Rattle.checks.specs.declared.Line.{Line}
+use Rattle.checks.specs.Outcome.{Outcome, refused, answered, called}
 use Rattle.journal.specs.Change.{place}
 use Rattle.journal.specs.Layout.{Format}
 use Rattle.journal.specs.Undo.{Sizes}
@@ -17,7 +18,7 @@ use Rattle.changeset.specs.Logs.{logTests}
 use Rattle.changeset.specs.Calls as log
 use Rattle.edit.specs.declared.EditAnswer.{EditAnswer}
 use Rattle.edit.specs.declared.Own.{Own}
-use Rattle.edit.specs.Plan.{State, Outcome, refused, answered, called, Plan, edited}
+use Rattle.edit.specs.Plan.{State, Plan, edited}
 
 -- the three buffers that an edit is lent, the line and the log's state
 pub record Lent : Type 0 where
@@ -48,7 +49,7 @@ stateOf R F l = record { text = textOf l; cursor = l .line .cursor; log = log.va
 abbrev pub says : ℕ → Line → Log → EditAnswer
 says n l g = record { number = n; from = 0; to = 0; line = l; log = g }
 
-abbrev pub answerOf : Format → Lent → Outcome → EditAnswer
+abbrev pub answerOf : Format → Lent → Outcome State → EditAnswer
 answerOf F l (refused k) = says k (l .line) (l .log)
 answerOf F l (answered k a b s) = record { number = k; from = a; to = b; line = record { len = length (s .text); cursor = s .cursor }; log = log.logOf F (s .log) }
 
@@ -63,13 +64,13 @@ pub record Stored (F : Format) (s : State) (t rb tb : List ℕ) : Type 0 where
   pub text : take (length (s .text)) t ≡ s .text
   pub log : log.Stored F (s .log) rb tb
 
-abbrev pub Bytes : Format → Lent → Outcome → List ℕ → List ℕ → List ℕ → Type 0
+abbrev pub Bytes : Format → Lent → Outcome State → List ℕ → List ℕ → List ℕ → Type 0
 Bytes F l (refused k) t rb tb = Same l t rb tb
 Bytes F l (answered k a b s) t rb tb = Stored F s t rb tb
 
 -- the contract of an edit: the whole answer, and the three buffers. The bytes past the used lengths after an answer 0 or 1 are the program's own: that
 -- the buffers keep their lengths is all that is said of them
-pub record Edited (F : Format) (l : Lent) (o : Outcome) (r : EditAnswer) (t rb tb : List ℕ) : Type 0 where
+pub record Edited (F : Format) (l : Lent) (o : Outcome State) (r : EditAnswer) (t rb tb : List ℕ) : Type 0 where
   pub answer : r ≡ answerOf F l o
   pub bytes : Bytes F l o t rb tb
 
@@ -82,7 +83,7 @@ module _ (R : Repertoire) (F : Format) (l : Lent) where
   checked own = refusal (both (lineTests R (l .text) (l .line)) (both (logTests R F (l .log) (l .records) (l .texts)) own))
 
   -- a call: the checks, then its plan carried out
-  abbrev pub editCall : Tests → Plan → Outcome
+  abbrev pub editCall : Tests → Plan → Outcome State
   editCall own p = called (checked own) (edited R F (sizesOf l) (length (l .text)) p (stateOf R F l))
 
 -- ---- what holds where the checks pass

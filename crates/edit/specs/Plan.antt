@@ -1,5 +1,5 @@
 -- Plans: the primitive changes that an edit makes of a text, one after the other, and what they leave. line_buffer.rs with its listener, the log.
-use Prim.Native.Nat.{ℕ, zero, suc, _+_}
+use Prim.Native.Nat.{ℕ, _+_}
 use mathlib.Core.Path.{_≡_}
 use mathlib.Core.Bool.{Bool, true, false, cond, _||_}
 use mathlib.Core.List.{List, [], _∷_, _++_}
@@ -10,6 +10,7 @@ use Rattle.utf8.specs.Chars.{In}
 use Rattle.utf8.specs.Encode.{encode}
 use Rattle.unicode.specs.Repertoire.{Repertoire}
 use Rattle.unicode.specs.Text.{isText, isChar}
+use Rattle.checks.specs.Outcome.{Outcome, refused, answered}
 use Rattle.journal.specs.Change.{Edit, insert, delete, replace, Change, place, old, new}
 use Rattle.journal.specs.Layout.{Format}
 use Rattle.journal.specs.Recording.{note, recordInsert, recordInsertStr, recordDelete, recordReplace}
@@ -93,21 +94,6 @@ pub record State : Type 0 where
   pub cursor : ℕ
   pub log : Log
 
--- a refusal by its number; or the number 0 or 1, two places, and the state afterwards
-pub data Outcome : Type 0 where
-  refused : ℕ → Outcome
-  answered : ℕ → ℕ → ℕ → State → Outcome
-
--- its number
-abbrev pub numberIn : Outcome → ℕ
-numberIn (refused k) = k
-numberIn (answered k a b s) = k
-
--- the lowest check that refuses, or what the call does where none does
-abbrev pub called : ℕ → Outcome → Outcome
-called zero o = o
-called (suc k) o = refused (suc k)
-
 abbrev pub planned : Repertoire → Plan → State → State
 planned R p s =
     record {
@@ -117,7 +103,7 @@ planned R p s =
     }
 
 -- a plan carried out: 9 is tried over all its changes, then 10 at the end. Within a call the log only grows, so its end decides
-unfoldable pub edited : Repertoire → Format → Sizes → ℕ → Plan → State → Outcome
+unfoldable pub edited : Repertoire → Format → Sizes → ℕ → Plan → State → Outcome State
 edited R F z C p s =
     cond (tooLong C (p .pieces) (s .text)) (refused 9)
     (cond (fits F z (listAfter R (p .pieces) (s .text) (s .log .undo))) (answered (p .number) (p .from) (p .to) (planned R p s))
@@ -137,7 +123,7 @@ notedOr j x u = cond (blank x) u (note j x u)
 abbrev pub changed : Edit → List ℕ → List ℕ
 changed x t = splice t (place x) (place x + length (old x)) (new x)
 
-unfoldable pub changeOut : Format → Sizes → ℕ → Bool → Edit → ℕ → State → Outcome
+unfoldable pub changeOut : Format → Sizes → ℕ → Bool → Edit → ℕ → State → Outcome State
 changeOut F z C j x p s =
     cond (ltb C (length (changed x (s .text)))) (refused 9)
     (cond (fits F z (notedOr j x (s .log .undo)))

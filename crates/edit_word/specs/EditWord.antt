@@ -15,8 +15,9 @@ use Rattle.motion.specs.declared.Found.{Found}
 use Rattle.motion.specs.declared.Found.the-variants.{At, Nothing}
 use Rattle.places.specs.Places.{wordsOn}
 use Rattle.checks.specs.Checks.{ownTests}
+use Rattle.checks.specs.Outcome.{Outcome}
 use Rattle.journal.specs.Layout.{Format}
-use Rattle.edit.specs.Plan.{pasted, cutting, Plan, nothing, Outcome}
+use Rattle.edit.specs.Plan.{State, pasted, cutting, Plan, nothing}
 use Rattle.edit.specs.Calls.{Lent, textOf, editCall}
 use Rattle.edit_word.specs.declared.WordAction.{WordAction}
 use Rattle.edit_word.specs.declared.WordAction.the-variants.{Capitalize, Lowercase, Uppercase}
@@ -67,9 +68,9 @@ abbrev pub actionIs : WordAction → ActionCode
 actionIs w = code.Is w
 
 module _ (R : Repertoire) (F : Format) (l : Lent) where
-  abbrev pub editWordBy : ActionCode → Outcome
+  abbrev pub editWordBy : ActionCode → Outcome State
   editWordBy (code.Is w) = editCall R F l (ownTests false false false) (editWordPlan R (textOf l) w (l .line .cursor))
   editWordBy code.Unknown = editCall R F l (ownTests true false false) (nothing (l .line .cursor))
 
-  abbrev pub editWordCall : ℕ → Outcome
+  abbrev pub editWordCall : ℕ → Outcome State
   editWordCall action = editWordBy (actionOf action)

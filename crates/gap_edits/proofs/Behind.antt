@@ -13,6 +13,7 @@ use Rattle.cluster.specs.Clusters.{clustersOf}
 use Rattle.buffer.specs.Gap.{gapped, shut}
 use Rattle.buffer.proofs.Gaps.{shut-length, shut-text, gapped-from, cut-behind, put-behind}
 use Rattle.checks.specs.declared.Line.{Line}
+use Rattle.checks.specs.Outcome.{Outcome}
 use Rattle.journal.specs.Change.{insert, delete}
 use Rattle.journal.specs.Layout.{Format}
 use Rattle.journal.specs.Groups as groups
@@ -22,7 +23,7 @@ use Rattle.changeset.specs.declared.Log.{Log}
 use Rattle.changeset.specs.declared.LogAnswer.{LogAnswer}
 use Rattle.changeset.specs.Calls as log
 use Rattle.edit.specs.declared.EditAnswer.{EditAnswer}
-use Rattle.edit.specs.Plan.{splice, Outcome, once, cutting, pasted, edited, blank, changeOut}
+use Rattle.edit.specs.Plan.{State, splice, once, cutting, pasted, edited, blank, changeOut}
 use Rattle.edit.specs.Calls.{Lent, lent, logLent, textOf, sizesOf, stateOf, says, Edited, Ready}
 use Rattle.edit.proofs.Parts.{an-insert, part-length, part-text, raw-part}
 use Rattle.edit.proofs.Answers.{length-kept}
@@ -49,7 +50,7 @@ module _ (F : Format) (s rb tb : List ℕ) (line : Line) (g : Log) (at : ℕ) (h
   small = let k = h .small in omega (arith, shut-length (line .len) at s)
 
   -- the answer as a function gave it, and the gap with the length that it says
-  as-said : (o o′ : Outcome) (a a′ : EditAnswer) (t rn tn : List ℕ) → o ≡ o′ → a ≡ a′ → Edited F l o a′ (shut (a′ .line .len) at t) rn tn → Edited F l o′ a (shut (a .line .len) at t) rn tn
+  as-said : (o o′ : Outcome State) (a a′ : EditAnswer) (t rn tn : List ℕ) → o ≡ o′ → a ≡ a′ → Edited F l o a′ (shut (a′ .line .len) at t) rn tn → Edited F l o′ a (shut (a .line .len) at t) rn tn
   as-said o o′ a a′ t rn tn e f q = subst (λ (x : EditAnswer). Edited F l o′ x (shut (x .line .len) at t) rn tn) (sym f) (outcome-as F l o o′ a′ (shut (a′ .line .len) at t) rn tn e q)
 
   -- ---- the n bytes behind the gap cut out
@@ -63,7 +64,7 @@ module _ (F : Format) (s rb tb : List ℕ) (line : Line) (g : Log) (at : ℕ) (h
     abbrev old : List ℕ
     old = part (textOf l) at (at + n)
 
-    abbrev cutOut : Outcome
+    abbrev cutOut : Outcome State
     cutOut = edited catalogue F (sizesOf l) (length (l .text)) (once (cutting at (at + n)) at) (stateOf catalogue F l)
 
     -- as they are lent
@@ -122,7 +123,7 @@ module _ (F : Format) (s rb tb : List ℕ) (line : Line) (g : Log) (at : ℕ) (h
     pub put-within : at ≤ line .len
     put-within = let k = i .1 in omega (arith, length-kept F l h)
 
-    abbrev putOut : Outcome
+    abbrev putOut : Outcome State
     putOut = edited catalogue F (sizesOf l) (length (l .text)) (once (pasted at x) at) (stateOf catalogue F l)
 
     pasting : changeOut F (sizesOf l) (length (l .text)) false (insert at x) at (stateOf catalogue F l) ≡ putOut

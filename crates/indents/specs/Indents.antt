@@ -8,9 +8,10 @@ use Rattle.keymap.specs.declared.Movement.{Movement}
 use Rattle.keymap.specs.declared.MovementCode.{MovementCode}
 use Rattle.keymap.specs.declared.MovementCode.the-variants as code
 use Rattle.checks.specs.Checks.{Tests, ownTests}
+use Rattle.checks.specs.Outcome.{Outcome}
 use Rattle.copies.specs.Copy.{isForeign}
 use Rattle.journal.specs.Layout.{Format}
-use Rattle.edit.specs.Plan.{nothing, Outcome}
+use Rattle.edit.specs.Plan.{State, nothing}
 use Rattle.edit.specs.Calls.{Lent, textOf, editCall}
 use Rattle.touched_lines.specs.Touched.{splits, touched}
 use Rattle.indent_plans.specs.IndentPlans.{linesIn, indentPlan}
@@ -29,15 +30,15 @@ indentTests R s pos mvt amount dedent =
     }
 
 module _ (R : Repertoire) (F : Format) (l : Lent) (amount : ℕ) (dedent : Bool) where
-  abbrev pub indentOf : Movement → Outcome
+  abbrev pub indentOf : Movement → Outcome State
   indentOf mvt =
       editCall R F l (indentTests R (textOf l) (l .line .cursor) mvt amount dedent)
       (indentPlan R amount dedent (l .line .cursor) (touched R (textOf l) (l .line .cursor) mvt .start) (linesIn (textOf l) (touched R (textOf l) (l .line .cursor) mvt)))
 
-  abbrev pub indentBy : MovementCode → Outcome
+  abbrev pub indentBy : MovementCode → Outcome State
   indentBy (code.Is mvt) = indentOf mvt
   indentBy code.Unknown = editCall R F l (ownTests true false false) (nothing (l .line .cursor))
 
   -- indent, by its movement's codes
-  abbrev pub indentCall : ℕ → ℕ → ℕ → ℕ → ℕ → ℕ → Outcome
+  abbrev pub indentCall : ℕ → ℕ → ℕ → ℕ → ℕ → ℕ → Outcome State
   indentCall mvt n at word search ch = indentBy (movementOf mvt n at word search ch)

@@ -10,8 +10,9 @@ use Rattle.unicode.specs.Repertoire.{Repertoire}
 use Rattle.unicode.specs.Text.{isText, isChar}
 use Rattle.buffer.specs.Edit.{copies}
 use Rattle.checks.specs.Checks.{Tests, ownTests}
+use Rattle.checks.specs.Outcome.{Outcome}
 use Rattle.journal.specs.Layout.{Format}
-use Rattle.edit.specs.Plan.{typed, pasted, cutting, Plan, once, nothing, Outcome}
+use Rattle.edit.specs.Plan.{State, typed, pasted, cutting, Plan, once, nothing}
 use Rattle.edit.specs.Calls.{Lent, textOf, editCall}
 
 -- insert: one character is typed; more of them, or none, are put in as a text. The cursor goes behind them
@@ -43,17 +44,17 @@ module _ (R : Repertoire) (F : Format) (l : Lent) where
   textTests s place split =
       record { sizes = ltb (length (l .text)) (length s); code = false; foreign = not (isText R s); place = place; split = split; prompt = false; damaged = false }
 
-  abbrev pub insertCall : ℕ → ℕ → Outcome
+  abbrev pub insertCall : ℕ → ℕ → Outcome State
   insertCall c n = editCall R F l (ownTests false (not (isChar R c)) false) (insertPlan (l .line .cursor) c n)
 
-  abbrev pub yankCall : List ℕ → ℕ → Outcome
+  abbrev pub yankCall : List ℕ → ℕ → Outcome State
   yankCall s n = editCall R F l (textTests s false false) (yankPlan (l .line .cursor) s n)
 
   -- 5: a size over the cursor; 6: the place so many bytes before the cursor inside a character
-  abbrev pub yankPopCall : ℕ → List ℕ → Outcome
+  abbrev pub yankPopCall : ℕ → List ℕ → Outcome State
   yankPopCall size s =
       editCall R F l (textTests s (ltb (l .line .cursor) size) (not (boundary (textOf l) (l .line .cursor - size)))) (yankPopPlan (l .line .cursor) size s)
 
   -- 5 and 6: the new cursor in the new text
-  abbrev pub updateCall : List ℕ → ℕ → Outcome
+  abbrev pub updateCall : List ℕ → ℕ → Outcome State
   updateCall s pos = editCall R F l (textTests s (ltb (length s) pos) (not (boundary s pos))) (updatePlan (textOf l) s pos)

@@ -1,16 +1,18 @@
 -- What the calls that write no byte answer, by the numbers of the ring's record. Assumes nothing.
-use Prim.Native.Nat.{ℕ, zero, suc, _-_, _<_}
+use Prim.Native.Nat.{ℕ, _-_, _<_}
 use native.Mathlib.Omega.{arith}
 use mathlib.Core.Path.{_≡_, refl, sym, ap, ap₂, _∙_}
 use mathlib.Core.Bool.{Bool, cond}
 use lib.Dec.{eqb}
 use Rattle.lists.proofs.Bools.{by-test}
 use Rattle.unicode.specs.Repertoire.{Repertoire}
+use Rattle.checks.specs.Outcome.{Outcome, answered, called}
+use Rattle.checks.proofs.Outcomes.{called-refused, called-passed}
 use Rattle.kill_ring.specs.declared.Ring.{Ring}
 use Rattle.kill_ring.specs.declared.Left.{Left}
 use Rattle.kill_ring.specs.declared.Action.{Action}
 use Rattle.kill_ring.specs.declared.Action.the-variants.{Kill, Yank, Other}
-use Rattle.kill_ring.specs.Ring.{Outcome, answered, called, withAction, resetOut, yankOut, yanked, previousIndex, popOut, yankPopOut}
+use Rattle.kill_ring.specs.Ring.{KillRing, withAction, resetOut, yankOut, yanked, previousIndex, popOut, yankPopOut}
 use Rattle.kill_ring.specs.Calls.{Lent, lenAt, actionOf, valueOf, says, leftOf}
 use Rattle.kill_ring.proofs.Slots.{slots-length}
 use Rattle.kill_ring.proofs.Passed.{Ready}
@@ -21,13 +23,12 @@ abbrev pub alone : ℕ → Ring → Left
 alone k g = record { answer = says k 0 0; ring = g }
 
 -- ---- the checks: a refusal leaves the record as it was
-pub left-refused : (g : Ring) (k n : ℕ) (o : Outcome) → k ≡ n → (k ≡ 0 → ⊥) → alone k g ≡ leftOf g (called n o)
-left-refused g zero n o e h = absurd (h refl)
-left-refused g (suc k) n o e h = ap (λ (i : ℕ). leftOf g (called i o)) e
+pub left-refused : (g : Ring) (k n : ℕ) (o : Outcome KillRing) → k ≡ n → (k ≡ 0 → ⊥) → alone k g ≡ leftOf g (called n o)
+left-refused g k n o e h = called-refused (λ (x : Outcome KillRing). alone k g ≡ leftOf g x) o k n (sym e) h refl
 
 -- where they pass, the outcome of the call decides
-pub left-passed : (g : Ring) (k n : ℕ) (o : Outcome) (r : Left) → k ≡ n → k ≡ 0 → r ≡ leftOf g o → r ≡ leftOf g (called n o)
-left-passed g k n o r e z q = q ∙ ap (λ (i : ℕ). leftOf g (called i o)) (sym z ∙ e)
+pub left-passed : (g : Ring) (k n : ℕ) (o : Outcome KillRing) (r : Left) → k ≡ n → k ≡ 0 → r ≡ leftOf g o → r ≡ leftOf g (called n o)
+left-passed g k n o r e z q = called-passed (λ (x : Outcome KillRing). r ≡ leftOf g x) o k n (sym e) z q
 
 -- ---- the record after an action
 abbrev pub numbers : Ring → ℕ → ℕ → ℕ → Ring

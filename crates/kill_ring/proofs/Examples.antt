@@ -3,11 +3,12 @@ use Prim.Native.Nat.{ℕ}
 use mathlib.Core.Path.{_≡_, refl}
 use mathlib.Core.List.{List, [], _∷_}
 use lib.ListN.{replicate}
+use Rattle.checks.specs.Outcome.{refused, answered}
 use Rattle.kill_ring.specs.declared.Ring.{Ring}
 use Rattle.kill_ring.specs.declared.Action.{Action}
 use Rattle.kill_ring.specs.declared.Action.the-variants.{Kill, Yank}
 use Rattle.kill_ring.specs.declared.Mode.the-variants.{Append, Prepend}
-use Rattle.kill_ring.specs.Ring.{KillRing, answered, refused, empty, putAt, resetOut, killOut, yankOut, yankPopOut}
+use Rattle.kill_ring.specs.Ring.{KillRing, empty, putAt, resetOut, killOut, yankOut, yankPopOut}
 use Rattle.kill_ring.specs.Calls.{newCall, leftOf, says}
 
 abbrev a : List ℕ

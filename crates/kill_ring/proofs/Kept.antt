@@ -1,7 +1,7 @@
 -- Every call on a ring that its checks pass leaves a sound ring, whatever it answers. Assumes nothing.
 use Prim.Native.Nat.{ℕ, zero, suc, _+_, _-_, _≤_, _<_}
 use native.Mathlib.Omega.{arith}
-use mathlib.Core.Path.{_≡_, refl, sym, subst, _∙_}
+use mathlib.Core.Path.{_≡_, refl, sym, _∙_}
 use mathlib.Core.Bool.{Bool, true, false, cond, not, true≢false}
 use mathlib.Core.List.{List, [], _∷_}
 use borrow.Author.Tests.{ltb-false, eqb-true, eqb-false, not-false}
@@ -11,12 +11,14 @@ use Rattle.lists.proofs.Bools.{by-less}
 use Rattle.unicode.specs.Repertoire.{Repertoire}
 use Rattle.unicode.specs.Text.{isText}
 use Rattle.unicode.proofs.Text.{text-nil, text-append}
+use Rattle.checks.specs.Outcome.{Outcome, refused, answered, called}
+use Rattle.checks.proofs.Outcomes.{called-passed}
 use Rattle.kill_ring.specs.declared.Action.{Action}
 use Rattle.kill_ring.specs.declared.Action.the-variants.{Kill, Yank, Other}
 use Rattle.kill_ring.specs.declared.Mode.{Mode}
 use Rattle.kill_ring.specs.declared.Mode.the-variants.{Append, Prepend}
 use Rattle.kill_ring.specs.declared.ModeCode.the-variants as code
-use Rattle.kill_ring.specs.Ring.{KillRing, Outcome, refused, answered, called, isEmpty, slotAt, putAt, empty, withAction, resetOut, joined, nextIndex, killIndex, killText, stored, killOut, yankOut, previousIndex, yanked, popOut, yankPopOut}
+use Rattle.kill_ring.specs.Ring.{KillRing, isEmpty, slotAt, putAt, empty, withAction, resetOut, joined, nextIndex, killIndex, killText, stored, killOut, yankOut, previousIndex, yanked, popOut, yankPopOut}
 use Rattle.kill_ring.specs.Calls.{Lent, valueOf, checked, resetCall, killBy, yankCall, yankPopCall}
 use Rattle.kill_ring.specs.Sound.{SoundIndex, SoundAction, SoundSlots, Sound}
 use Rattle.kill_ring.proofs.Passed.{passed, own-passed}
@@ -25,7 +27,7 @@ use Rattle.kill_ring.proofs.Rings.{put-over, put-behind}
 use Rattle.kill_ring.proofs.Found.{ready-sound}
 
 -- the ring that an outcome leaves: a refusal leaves what was there
-abbrev pub leaves : KillRing → Outcome → KillRing
+abbrev pub leaves : KillRing → Outcome KillRing → KillRing
 leaves v (refused k) = v
 leaves v (answered k slot size w) = w
 
@@ -89,7 +91,7 @@ reset-kept R v s = other-kept R v s
 pub yank-kept : (R : Repertoire) (v : KillRing) → Sound R v → Kept R v (leaves v (yankOut v))
 unfolding yankOut
 yank-kept R v s =
-    cond-ind (λ (o : Outcome). Kept R v (leaves v o)) (isEmpty (v .slots)) (answered 1 0 0 v) (answered 0 (v .index) 0 (yanked (v .index) v))
+    cond-ind (λ (o : Outcome KillRing). Kept R v (leaves v o)) (isEmpty (v .slots)) (answered 1 0 0 v) (answered 0 (v .index) 0 (yanked (v .index) v))
     (λ e. same-kept R v s)
     (λ e. yanked-kept R v (v .index) s (index-of (v .index) (v .slots) (s .index) e))
 
@@ -106,7 +108,7 @@ pop-kept R v s = go (v .action)
     go : (a : Action) → Kept R v (leaves v (popOut a v))
     go Kill = same-kept R v s
     go (Yank n) =
-        cond-ind (λ (o : Outcome). Kept R v (leaves v o)) (isEmpty (v .slots)) (answered 1 0 0 v) (answered 0 (previousIndex v) n (yanked (previousIndex v) v))
+        cond-ind (λ (o : Outcome KillRing). Kept R v (leaves v o)) (isEmpty (v .slots)) (answered 1 0 0 v) (answered 0 (previousIndex v) n (yanked (previousIndex v) v))
         (λ e. same-kept R v s)
         (λ e. yanked-kept R v (previousIndex v) s (previous-below v (index-of (v .index) (v .slots) (s .index) e)))
     go Other = same-kept R v s
@@ -175,10 +177,10 @@ disabled-kill size (s ∷ ss) e = tt
 pub kill-kept : (R : Repertoire) (m : Mode) (text : List ℕ) (v : KillRing) → isText R text ≡ true → Sound R v → Kept R v (leaves v (killOut m text v))
 unfolding killOut
 kill-kept R m text v t s =
-    cond-ind (λ (o : Outcome). Kept R v (leaves v o)) (eqb (v .size) 0) (answered 0 0 0 (withAction v Kill)) (cond (ltb 4096 (length after)) (refused 11) (answered 0 0 0 (stored i after v)))
+    cond-ind (λ (o : Outcome KillRing). Kept R v (leaves v o)) (eqb (v .size) 0) (answered 0 0 0 (withAction v Kill)) (cond (ltb 4096 (length after)) (refused 11) (answered 0 0 0 (stored i after v)))
     (λ e. record { size = refl; sound = record { size = s .size; count = s .count; index = s .index; slots = s .slots; action = disabled-kill (v .size) (v .slots) (eqb-true _ _ e) } })
     (λ e.
-    cond-ind (λ (o : Outcome). Kept R v (leaves v o)) (ltb 4096 (length after)) (refused 11) (answered 0 0 0 (stored i after v))
+    cond-ind (λ (o : Outcome KillRing). Kept R v (leaves v o)) (ltb 4096 (length after)) (refused 11) (answered 0 0 0 (stored i after v))
     (λ f. same-kept R v s)
     (λ f.
     let b = target-below R v s (some-of _ (eqb-false _ _ e)) in
@@ -208,8 +210,8 @@ new-sound R size h = record { size = h; count = omega arith; index = refl; slots
 
 module _ (R : Repertoire) (l : Lent) where
   -- where the checks pass, the outcome decides
-  called-kept : (n : ℕ) (o : Outcome) → n ≡ 0 → Kept R (valueOf l) (leaves (valueOf l) o) → Kept R (valueOf l) (leaves (valueOf l) (called n o))
-  called-kept n o e k = subst (λ (i : ℕ). Kept R (valueOf l) (leaves (valueOf l) (called i o))) (sym e) k
+  called-kept : (n : ℕ) (o : Outcome KillRing) → n ≡ 0 → Kept R (valueOf l) (leaves (valueOf l) o) → Kept R (valueOf l) (leaves (valueOf l) (called n o))
+  called-kept n o e k = called-passed (λ (x : Outcome KillRing). Kept R (valueOf l) (leaves (valueOf l) x)) o 0 n e refl k
 
   -- what the checks pass is sound
   sound-of : (a b : Bool) → checked R l a b ≡ 0 → Sound R (valueOf l)

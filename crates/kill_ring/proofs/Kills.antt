@@ -10,6 +10,8 @@ use lib.ListN.{length, take, drop, length-append}
 use lib.Seq.{sets}
 use Rattle.unicode.specs.Repertoire.{Repertoire}
 use Rattle.unicode.specs.Text.{isText}
+use Rattle.checks.specs.Outcome.{Outcome, refused, answered, called}
+use Rattle.checks.proofs.Outcomes.{called-refused, called-passed}
 use Rattle.journal.specs.Layout.{le}
 use Rattle.buffer.specs.Edit.{inserted}
 use Rattle.buffer.proofs.Inserted.{inserted-end}
@@ -21,7 +23,7 @@ use Rattle.kill_ring.specs.declared.Mode.{Mode}
 use Rattle.kill_ring.specs.declared.Mode.the-variants.{Append, Prepend}
 use Rattle.kill_ring.specs.declared.ModeCode.{ModeCode}
 use Rattle.kill_ring.specs.declared.ModeCode.the-variants as code
-use Rattle.kill_ring.specs.Ring.{KillRing, Outcome, refused, answered, called, slotAt, withAction, joined, nextIndex, killIndex, killText, stored, killOut, resetOut}
+use Rattle.kill_ring.specs.Ring.{KillRing, slotAt, withAction, joined, nextIndex, killIndex, killText, stored, killOut, resetOut}
 use Rattle.kill_ring.specs.Calls.{Lent, lenAt, slotBytes, slotsFrom, valueOf, Held, Ringed, modeOf, killBy, killCall, checked}
 use Rattle.kill_ring.specs.Killed.{placeOf, slotOf, usedOf, killedInto, Put}
 use Rattle.kill_ring.proofs.Slots.{slots-length}
@@ -32,13 +34,12 @@ use Rattle.kill_ring.proofs.Puts.{Short, others, put-at, held-put}
 use Rattle.kill_ring.proofs.Rings.{put-length}
 
 -- ---- the checks of a kill
-pub ringed-refused : (l : Lent) (k n : ℕ) (o : Outcome) (r : Left) → k ≡ n → (k ≡ 0 → ⊥) → r ≡ alone k (l .ring) → Ringed l (called n o) r (l .slots) (l .lens)
-ringed-refused l zero n o r e h q = absurd (h refl)
-ringed-refused l (suc k) n o r e h q = subst (λ (i : ℕ). Ringed l (called i o) r (l .slots) (l .lens)) e (record { left = q; bytes = (refl, refl) })
+pub ringed-refused : (l : Lent) (k n : ℕ) (o : Outcome KillRing) (r : Left) → k ≡ n → (k ≡ 0 → ⊥) → r ≡ alone k (l .ring) → Ringed l (called n o) r (l .slots) (l .lens)
+ringed-refused l k n o r e h q = called-refused (λ (x : Outcome KillRing). Ringed l x r (l .slots) (l .lens)) o k n (sym e) h (record { left = q; bytes = (refl, refl) })
 
 -- where the checks pass, what the call does decides
-pub ringed-passed : (l : Lent) (k n : ℕ) (o : Outcome) (r : Left) (s t : List ℕ) → k ≡ n → k ≡ 0 → Ringed l o r s t → Ringed l (called n o) r s t
-ringed-passed l k n o r s t e z q = subst (λ (i : ℕ). Ringed l (called i o) r s t) (sym z ∙ e) q
+pub ringed-passed : (l : Lent) (k n : ℕ) (o : Outcome KillRing) (r : Left) (s t : List ℕ) → k ≡ n → k ≡ 0 → Ringed l o r s t → Ringed l (called n o) r s t
+ringed-passed l k n o r s t e z q = called-passed (λ (x : Outcome KillRing). Ringed l x r s t) o k n (sym e) z q
 
 -- ---- what a kill joins
 abbrev pub joins : Action → KillRing → List ℕ
@@ -236,7 +237,7 @@ module _ (R : Repertoire) (l : Lent) (p : Ready R l) where
       kill-full r u e k q =
           let z = used-most h in
           let f : ltb 4096 (length after) ≡ true = lt-ltb 4096 (length after) (omega (arith, after-length)) in
-          subst (λ (o : Outcome). Ringed l o r (l .slots) (l .lens)) (sym (out-with true f)) (record { left = q; bytes = (refl, refl) })
+          subst (λ (o : Outcome KillRing). Ringed l o r (l .slots) (l .lens)) (sym (out-with true f)) (record { left = q; bytes = (refl, refl) })
 
       -- the text in its slot, and its length beside it
       pub kill-done : (r : Left) (g : Ring) (u i at : ℕ) (s t : List ℕ) → u ≡ usedOf (l .lens) (l .ring) → length text ≤ 4096 - u → i ≡ slotOf (l .ring) → at ≡ placeOf m u
@@ -258,7 +259,7 @@ module _ (R : Repertoire) (l : Lent) (p : Ready R l) where
           let size : u + length text ≡ length after = ap (λ (n : ℕ). n + length text) eu ∙ sym big in
           let count = slots-length (l .slots) (l .lens) 0 (l .ring .count) in
           let le-count : i ≤ l .ring .count = omega arith in
-          subst (λ (o : Outcome). Ringed l o r s t) (sym (out-with false f))
+          subst (λ (o : Outcome KillRing). Ringed l o r s t) (sym (out-with false f))
           (subst (λ (j : ℕ). Ringed l (answered 0 0 0 (stored j after (valueOf l))) r s t) ei
           (record {
             left =

@@ -8,13 +8,14 @@ use borrow.Author.Tests.{le-ltb}
 use lib.ListN.{length}
 use Rattle.unicode.specs.Repertoire.{Repertoire}
 use Rattle.unicode.specs.Text.{isText}
+use Rattle.checks.specs.Outcome.{Outcome, refused, answered, called}
 use Rattle.kill_ring.specs.declared.Ring.{Ring}
 use Rattle.kill_ring.specs.declared.Left.{Left}
 use Rattle.kill_ring.specs.declared.Action.{Action}
 use Rattle.kill_ring.specs.declared.Action.the-variants.{Kill, Yank, Other}
 use Rattle.kill_ring.specs.declared.Mode.{Mode}
 use Rattle.kill_ring.specs.declared.ModeCode.the-variants as code
-use Rattle.kill_ring.specs.Ring.{KillRing, Outcome, refused, answered, called, isEmpty, empty, resetOut, yankOut, yanked, previousIndex, popOut, yankPopOut}
+use Rattle.kill_ring.specs.Ring.{KillRing, isEmpty, empty, resetOut, yankOut, yanked, previousIndex, popOut, yankPopOut}
 use Rattle.kill_ring.specs.Calls.{Lent, lent, valueOf, checked, newCall, resetCall, killBy, yankCall, yankPopCall, ringOf, leftOf, Held, Ringed}
 use Rattle.kill_ring.specs.Sound.{Sound}
 use Rattle.kill_ring.proofs.Passed.{Ready, passed}
@@ -36,7 +37,7 @@ held-next R v g slots lens sound bytes numbers held e =
     (record { ready = passes-ready R slots lens v sound bytes numbers held; value = found R slots lens v sound bytes numbers held })
 
 -- after any call that the checks pass
-pub next : (R : Repertoire) (l : Lent) (o : Outcome) (r : Left) (s t : List ℕ) → Ready R l → Kept R (valueOf l) (leaves (valueOf l) o) → Ringed l o r s t → length s ≡ length (l .slots)
+pub next : (R : Repertoire) (l : Lent) (o : Outcome KillRing) (r : Left) (s t : List ℕ) → Ready R l → Kept R (valueOf l) (leaves (valueOf l) o) → Ringed l o r s t → length s ≡ length (l .slots)
     → length t ≡ length (l .lens) → Next R (leaves (valueOf l) o) (r .ring) s t
 next R l (refused k) r s t p kept done a b =
     let same : lent s t (r .ring) ≡ l = ap₂ (λ (x y : List ℕ). lent x y (r .ring)) (done .bytes .0) (done .bytes .1) ∙ ap (λ (x : Left). lent (l .slots) (l .lens) (x .ring)) (done .left) in
@@ -45,17 +46,17 @@ next R l (answered k i n v) r s t p kept done a b =
     held-next R v (r .ring) s t (kept .sound) (omega (arith, kept .size, p .slots)) (omega (arith, kept .size, p .lens)) (done .bytes) (ap (λ (x : Left). x .ring) (done .left))
 
 -- ---- the calls that write no byte: the slots stay
-abbrev Same : KillRing → Outcome → Type 0
+abbrev Same : KillRing → Outcome KillRing → Type 0
 Same v (refused k) = Unit {0}
 Same v (answered k i n w) = w .slots ≡ v .slots
 
 -- a call that leaves the slots alone leaves every byte as it was
-quiet : (R : Repertoire) (l : Lent) (o : Outcome) (r : Left) → Ready R l → Same (valueOf l) o → r ≡ leftOf (l .ring) o → Ringed l o r (l .slots) (l .lens)
+quiet : (R : Repertoire) (l : Lent) (o : Outcome KillRing) (r : Left) → Ready R l → Same (valueOf l) o → r ≡ leftOf (l .ring) o → Ringed l o r (l .slots) (l .lens)
 quiet R l (refused k) r p h e = record { left = e; bytes = (refl, refl) }
 quiet R l (answered k i n w) r p h e = record { left = e; bytes = subst (Held (l .slots) (l .lens) 0) (sym h) (ready-held R l p) }
 
 -- a refusal leaves the slots alone too
-called-same : (v : KillRing) (n : ℕ) (o : Outcome) → Same v o → Same v (called n o)
+called-same : (v : KillRing) (n : ℕ) (o : Outcome KillRing) → Same v o → Same v (called n o)
 called-same v zero o h = h
 called-same v (suc n) o h = tt
 
@@ -76,7 +77,7 @@ pop-same v = go (v .action)
 
 module _ (R : Repertoire) (l : Lent) (r : Left) where
   -- what such a call leaves
-  quiet-next : (o : Outcome) → checked R l false false ≡ 0 → Same (valueOf l) o → Kept R (valueOf l) (leaves (valueOf l) o) → r ≡ leftOf (l .ring) o → Next R (leaves (valueOf l) o) (r .ring) (l .slots) (l .lens)
+  quiet-next : (o : Outcome KillRing) → checked R l false false ≡ 0 → Same (valueOf l) o → Kept R (valueOf l) (leaves (valueOf l) o) → r ≡ leftOf (l .ring) o → Next R (leaves (valueOf l) o) (r .ring) (l .slots) (l .lens)
   quiet-next o e h kept q = let p = passed R l false false e in next R l o r (l .slots) (l .lens) p kept (quiet R l o r p h q) refl refl
 
   -- reset

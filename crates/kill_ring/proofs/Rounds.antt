@@ -7,11 +7,12 @@ use mathlib.Core.List.{List, [], _∷_, _++_, append-assoc, append-nil}
 use borrow.Author.Tests.{ne-eqb, le-ltb}
 use lib.ListN.{length, length-append}
 use Rattle.unicode.specs.Repertoire.{Repertoire}
+use Rattle.checks.specs.Outcome.{answered}
 use Rattle.kill_ring.specs.declared.Action.{Action}
 use Rattle.kill_ring.specs.declared.Action.the-variants.{Kill, Yank, Other}
 use Rattle.kill_ring.specs.declared.Mode.{Mode}
 use Rattle.kill_ring.specs.declared.Mode.the-variants.{Append, Prepend}
-use Rattle.kill_ring.specs.Ring.{KillRing, answered, isEmpty, slotAt, withAction, joined, killIndex, killText, stored, killOut, yankOut, previousIndex, yanked, popOut, yankPopOut}
+use Rattle.kill_ring.specs.Ring.{KillRing, isEmpty, slotAt, withAction, joined, killIndex, killText, stored, killOut, yankOut, previousIndex, yanked, popOut, yankPopOut}
 use Rattle.kill_ring.specs.Sound.{Sound}
 use Rattle.kill_ring.proofs.Rings.{put-there, put-in, put-twice}
 use Rattle.kill_ring.proofs.Kills.{joins, kill-joins}

@@ -9,6 +9,7 @@ use lib.ListN.{length, getD, take, drop}
 use Rattle.unicode.specs.Repertoire.{Repertoire}
 use Rattle.unicode.specs.Text.{isText}
 use Rattle.checks.specs.Checks.{Tests, both, refusal, ownTests}
+use Rattle.checks.specs.Outcome.{Outcome, refused, answered, called}
 use Rattle.journal.specs.Layout.{numAt}
 use Rattle.kill_ring.specs.declared.Ring.{Ring}
 use Rattle.kill_ring.specs.declared.RingAnswer.{RingAnswer}
@@ -18,7 +19,7 @@ use Rattle.kill_ring.specs.declared.Action.the-variants.{Kill, Yank, Oth
 use Rattle.kill_ring.specs.declared.Mode.the-variants.{Append, Prepend}
 use Rattle.kill_ring.specs.declared.ModeCode.{ModeCode}
 use Rattle.kill_ring.specs.declared.ModeCode.the-variants as code
-use Rattle.kill_ring.specs.Ring.{KillRing, Outcome, refused, answered, called, empty, resetOut, killOut, yankOut, yankPopOut}
+use Rattle.kill_ring.specs.Ring.{KillRing, empty, resetOut, killOut, yankOut, yankPopOut}
 
 -- the two buffers that a call is lent, and the ring's record
 pub record Lent : Type 0 where
@@ -99,24 +100,24 @@ abbrev pub modeOf : ℕ → ModeCode
 modeOf k = getD modeList k code.Unknown
 
 -- new is lent no ring that is looked at
-abbrev pub newCall : ℕ → Outcome
+abbrev pub newCall : ℕ → Outcome KillRing
 newCall size = cond (ltb 16 size) (refused 2) (answered 0 0 0 (empty size))
 
 module _ (R : Repertoire) (l : Lent) where
-  abbrev pub resetCall : Outcome
+  abbrev pub resetCall : Outcome KillRing
   resetCall = called (checked R l false false) (resetOut (valueOf l))
 
-  abbrev pub killBy : List ℕ → ModeCode → Outcome
+  abbrev pub killBy : List ℕ → ModeCode → Outcome KillRing
   killBy text (code.Is m) = called (checked R l false (not (isText R text))) (killOut m text (valueOf l))
   killBy text code.Unknown = called (checked R l true (not (isText R text))) (resetOut (valueOf l))
 
-  abbrev pub killCall : List ℕ → ℕ → Outcome
+  abbrev pub killCall : List ℕ → ℕ → Outcome KillRing
   killCall text mode = killBy text (modeOf mode)
 
-  abbrev pub yankCall : Outcome
+  abbrev pub yankCall : Outcome KillRing
   yankCall = called (checked R l false false) (yankOut (valueOf l))
 
-  abbrev pub yankPopCall : Outcome
+  abbrev pub yankPopCall : Outcome KillRing
   yankPopCall = called (checked R l false false) (yankPopOut (valueOf l))
 
 -- ---- the answer, the record and the bytes of an outcome
@@ -137,7 +138,7 @@ abbrev pub ringOf : KillRing → Ring
 ringOf r = record { size = r .size; count = length (r .slots); index = r .index; action = actionNumber (r .action); yanked = yankSize (r .action) }
 
 -- the answer, and the ring's record afterwards: a refusal leaves it as it was
-abbrev pub leftOf : Ring → Outcome → Left
+abbrev pub leftOf : Ring → Outcome KillRing → Left
 leftOf r (refused k) = record { answer = says k 0 0; ring = r }
 leftOf r (answered k slot size v) = record { answer = says k slot size; ring = ringOf v }
 
@@ -147,11 +148,11 @@ Held slots lens i [] = Unit {0}
 Held slots lens i (s ∷ ss) = (lenAt lens i ≡ length s) × (take (length s) (drop (4096 * i) slots) ≡ s) × Held slots lens (suc i) ss
 
 -- a refusal changes no byte. The bytes past the slots' used lengths after an answer are the program's own: that the buffers keep their lengths is all that is said of them
-abbrev pub Bytes : Lent → Outcome → List ℕ → List ℕ → Type 0
+abbrev pub Bytes : Lent → Outcome KillRing → List ℕ → List ℕ → Type 0
 Bytes l (refused k) slots lens = (slots ≡ l .slots) × (lens ≡ l .lens)
 Bytes l (answered k slot size v) slots lens = Held slots lens 0 (v .slots)
 
 -- the contract of a kill: the whole answer with the ring's record, and both buffers
-pub record Ringed (l : Lent) (o : Outcome) (r : Left) (slots lens : List ℕ) : Type 0 where
+pub record Ringed (l : Lent) (o : Outcome KillRing) (r : Left) (slots lens : List ℕ) : Type 0 where
   pub left : r ≡ leftOf (l .ring) o
   pub bytes : Bytes l o slots lens

@@ -1,9 +1,10 @@
--- The kill ring on values: kill_ring.rs, KillRing without its listener.
+-- The kill ring on values: kill_ring.rs, KillRing without its listener. The two places that a call answers are a slot and a size.
 use Prim.Native.Nat.{ℕ, zero, suc, _+_, _-_}
 use mathlib.Core.Bool.{Bool, true, false, cond}
 use mathlib.Core.List.{List, [], _∷_, _++_}
 use lib.Dec.{eqb, ltb}
 use lib.ListN.{length, getD}
+use Rattle.checks.specs.Outcome.{Outcome, refused, answered}
 use Rattle.kill_ring.specs.declared.Action.{Action}
 use Rattle.kill_ring.specs.declared.Action.the-variants.{Kill, Yank, Other}
 use Rattle.kill_ring.specs.declared.Mode.{Mode}
@@ -29,16 +30,6 @@ putAt [] i text = text ∷ []
 putAt (s ∷ ss) zero text = text ∷ ss
 putAt (s ∷ ss) (suc i) text = s ∷ putAt ss i text
 
--- a refusal by its number; or the number 0 or 1, a slot, a size, and the ring afterwards
-pub data Outcome : Type 0 where
-  refused : ℕ → Outcome
-  answered : ℕ → ℕ → ℕ → KillRing → Outcome
-
--- the lowest check that refuses, or what the call does where none does
-abbrev pub called : ℕ → Outcome → Outcome
-called zero o = o
-called (suc k) o = refused (suc k)
-
 -- ---- new
 abbrev pub empty : ℕ → KillRing
 empty size = record { size = size; slots = []; index = 0; action = Other }
@@ -47,7 +38,7 @@ empty size = record { size = size; slots = []; index = 0; action = Other }
 abbrev pub withAction : KillRing → Action → KillRing
 withAction r a = record { size = r .size; slots = r .slots; index = r .index; action = a }
 
-abbrev pub resetOut : KillRing → Outcome
+abbrev pub resetOut : KillRing → Outcome KillRing
 resetOut r = answered 0 0 0 (withAction r Other)
 
 -- ---- kill
@@ -75,7 +66,7 @@ abbrev pub stored : ℕ → List ℕ → KillRing → KillRing
 stored i text r = record { size = r .size; slots = putAt (r .slots) i text; index = i; action = Kill }
 
 -- size 0 is disabled: the last action alone changes. 11: a slot would pass 4,096 bytes
-unfoldable pub killOut : Mode → List ℕ → KillRing → Outcome
+unfoldable pub killOut : Mode → List ℕ → KillRing → Outcome KillRing
 killOut m text r =
     cond (eqb (r .size) 0) (answered 0 0 0 (withAction r Kill))
     (cond (ltb 4096 (length (killText (r .action) m text r))) (refused 11)
@@ -85,17 +76,17 @@ killOut m text r =
 abbrev pub yanked : ℕ → KillRing → KillRing
 yanked i r = record { size = r .size; slots = r .slots; index = i; action = Yank (length (slotAt r i)) }
 
-unfoldable pub yankOut : KillRing → Outcome
+unfoldable pub yankOut : KillRing → Outcome KillRing
 yankOut r = cond (isEmpty (r .slots)) (answered 1 0 0 r) (answered 0 (r .index) 0 (yanked (r .index) r))
 
 -- ---- yank_pop: after a yank the slot before, round to the last, with the size of that yank; else 1
 abbrev pub previousIndex : KillRing → ℕ
 previousIndex r = cond (eqb (r .index) 0) (length (r .slots) - 1) (r .index - 1)
 
-abbrev pub popOut : Action → KillRing → Outcome
+abbrev pub popOut : Action → KillRing → Outcome KillRing
 popOut Kill r = answered 1 0 0 r
 popOut (Yank n) r = cond (isEmpty (r .slots)) (answered 1 0 0 r) (answered 0 (previousIndex r) n (yanked (previousIndex r) r))
 popOut Other r = answered 1 0 0 r
 
-unfoldable pub yankPopOut : KillRing → Outcome
+unfoldable pub yankPopOut : KillRing → Outcome KillRing
 yankPopOut r = popOut (r .action) r

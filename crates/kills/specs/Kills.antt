@@ -14,9 +14,10 @@ use Rattle.lines.specs.Lines.{startOfLine, endOfLine}
 use Rattle.lines.specs.declared.Range.{Range}
 use Rattle.lines.specs.declared.Range.the-variants.{Places, Nowhere}
 use Rattle.checks.specs.Checks.{ownTests}
+use Rattle.checks.specs.Outcome.{Outcome}
 use Rattle.copies.specs.Copy.{upTo, backTo, between, copied, isForeign}
 use Rattle.journal.specs.Layout.{Format}
-use Rattle.edit.specs.Plan.{cutting, Plan, once, nothing, Outcome}
+use Rattle.edit.specs.Plan.{State, cutting, Plan, once, nothing}
 use Rattle.edit.specs.Calls.{Lent, textOf, editCall}
 
 -- the first of two ranges that is somewhere
@@ -57,41 +58,41 @@ cutPlan pos Nowhere = nothing pos
 
 module _ (R : Repertoire) (F : Format) (l : Lent) where
   -- check 4 tries the character of a search
-  abbrev pub killOf : Movement → Outcome
+  abbrev pub killOf : Movement → Outcome State
   killOf mvt = editCall R F l (ownTests false (isForeign R mvt) false) (cutPlan (l .line .cursor) (killRange R (textOf l) (l .line .cursor) mvt))
 
-  abbrev pub killBy : MovementCode → Outcome
+  abbrev pub killBy : MovementCode → Outcome State
   killBy (code.Is mvt) = killOf mvt
   killBy code.Unknown = editCall R F l (ownTests true false false) (nothing (l .line .cursor))
 
   -- kill, by its movement's codes
-  abbrev pub killCall : ℕ → ℕ → ℕ → ℕ → ℕ → ℕ → Outcome
+  abbrev pub killCall : ℕ → ℕ → ℕ → ℕ → ℕ → ℕ → Outcome State
   killCall mvt n at word search ch = killBy (movementOf mvt n at word search ch)
 
   -- kill_line, kill_buffer, discard_line, discard_buffer, backspace
-  abbrev pub killLineCall : Outcome
+  abbrev pub killLineCall : Outcome State
   killLineCall = killOf m.EndOfLine
 
-  abbrev pub killBufferCall : Outcome
+  abbrev pub killBufferCall : Outcome State
   killBufferCall = killOf m.EndOfBuffer
 
-  abbrev pub discardLineCall : Outcome
+  abbrev pub discardLineCall : Outcome State
   discardLineCall = killOf m.BeginningOfLine
 
-  abbrev pub discardBufferCall : Outcome
+  abbrev pub discardBufferCall : Outcome State
   discardBufferCall = killOf m.BeginningOfBuffer
 
-  abbrev pub backspaceCall : ℕ → Outcome
+  abbrev pub backspaceCall : ℕ → Outcome State
   backspaceCall n = killOf (m.BackwardChar n)
 
   -- delete_prev_word, delete_word, delete_to: 3 BackwardWord, 4 ForwardWord, 5 ViCharSearch
-  abbrev pub deletePrevWordCall : ℕ → ℕ → Outcome
+  abbrev pub deletePrevWordCall : ℕ → ℕ → Outcome State
   deletePrevWordCall word n = killCall 3 n 0 word 0 0
 
-  abbrev pub deleteWordCall : ℕ → ℕ → ℕ → Outcome
+  abbrev pub deleteWordCall : ℕ → ℕ → ℕ → Outcome State
   deleteWordCall at word n = killCall 4 n at word 0 0
 
-  abbrev pub deleteToCall : ℕ → ℕ → ℕ → Outcome
+  abbrev pub deleteToCall : ℕ → ℕ → ℕ → Outcome State
   deleteToCall search ch n = killCall 5 n 0 0 search ch
 
 -- delete answers the two places between which it cut
@@ -99,5 +100,5 @@ abbrev pub placesPlan : ℕ → Range → Plan
 placesPlan pos (Places a b) = record { pieces = cutting a b ∷ []; cursor = a; number = 0; from = a; to = b }
 placesPlan pos Nowhere = nothing pos
 
-abbrev pub deleteCall : Repertoire → Format → Lent → ℕ → Outcome
+abbrev pub deleteCall : Repertoire → Format → Lent → ℕ → Outcome State
 deleteCall R F l n = editCall R F l (ownTests false false false) (placesPlan (l .line .cursor) (killRange R (textOf l) (l .line .cursor) (m.ForwardChar n)))

@@ -6,10 +6,11 @@ use mathlib.Core.Bool.{Bool, false}
 use mathlib.Core.List.{List}
 use lib.ListN.{length}
 use Rattle.unicode.specs.Repertoire.{catalogue}
+use Rattle.checks.specs.Outcome.{Outcome}
 use Rattle.journal.specs.Change.{insert}
 use Rattle.journal.specs.Layout.{narrow}
 use Rattle.edit.specs.declared.EditAnswer.{EditAnswer}
-use Rattle.edit.specs.Plan.{Plan, Outcome, typed, pasted, once, edited, changeOut}
+use Rattle.edit.specs.Plan.{State, Plan, typed, pasted, once, edited, changeOut}
 use Rattle.edit.specs.Calls.{Lent, textOf, sizesOf, stateOf, says, Edited, Ready}
 use Rattle.edit.proofs.Parts.{an-insert}
 use Rattle.edit.proofs.Made.{too-long, edited-as, outcome-as}
@@ -19,7 +20,7 @@ use Rattle.buffer.specs.Edit.{copies}
 use Rattle.buffer.proofs.Copies.{copies-length}
 
 -- a plan on what is lent
-abbrev pub carried : Lent → Plan → Outcome
+abbrev pub carried : Lent → Plan → Outcome State
 carried l p = edited catalogue narrow (sizesOf l) (length (l .text)) p (stateOf catalogue narrow l)
 
 module _ (l : Lent) where

@@ -8,8 +8,9 @@ use Rattle.utf8.specs.Chars.{boundary}
 use Rattle.unicode.specs.Repertoire.{Repertoire}
 use Rattle.unicode.specs.Text.{isText}
 use Rattle.checks.specs.Checks.{Tests}
+use Rattle.checks.specs.Outcome.{Outcome}
 use Rattle.journal.specs.Layout.{Format}
-use Rattle.edit.specs.Plan.{cutting, swapping, once, Outcome}
+use Rattle.edit.specs.Plan.{State, cutting, swapping, once}
 use Rattle.edit.specs.Calls.{Lent, textOf, editCall}
 
 module _ (R : Repertoire) (F : Format) (l : Lent) where
@@ -40,9 +41,9 @@ module _ (R : Repertoire) (F : Format) (l : Lent) where
       }
 
   -- delete_range: the cursor goes to the start
-  abbrev pub deleteRangeCall : ℕ → ℕ → Outcome
+  abbrev pub deleteRangeCall : ℕ → ℕ → Outcome State
   deleteRangeCall a b = editCall R F l (rangeTests a b) (once (cutting a b) a)
 
   -- replace: behind the text
-  abbrev pub replaceCall : ℕ → ℕ → List ℕ → Outcome
+  abbrev pub replaceCall : ℕ → ℕ → List ℕ → Outcome State
   replaceCall a b s = editCall R F l (replaceTests a b s) (once (swapping a b s) (a + length s))

@@ -10,11 +10,12 @@ use borrow.Author.Tests.{eqb-true, eqb-false, eq-eqb, ne-eqb}
 use Rattle.lists.proofs.Bools.{by-test, and-both, or-none}
 use Rattle.unicode.specs.Repertoire.{catalogue}
 use Rattle.checks.specs.declared.Line.{Line}
+use Rattle.checks.specs.Outcome.{Outcome, refused, answered}
 use Rattle.journal.specs.Change.{Change, turn}
 use Rattle.journal.specs.Layout.{Format}
 use Rattle.changeset.specs.declared.Log.{Log}
 use Rattle.edit.specs.declared.EditAnswer.{EditAnswer}
-use Rattle.edit.specs.Plan.{State, Outcome, refused, answered}
+use Rattle.edit.specs.Plan.{State}
 use Rattle.edit.specs.Calls.{Lent, lent, stateOf, says, Edited, Ready}
 use Rattle.retrace.specs.Retrace.{Trail, Tried, done, stops, undoing}
 use Rattle.undo.specs.Undo.{Waiting, owed, passing, settled, Walked, onTried, onSettled, walk, numberOf, trailOf, redoneState, redoWalk, behindNumber, redoOut}
@@ -65,12 +66,12 @@ redone {F} {l₀} e = record { ready = e .ready; out = redo-one (length (l₀ .t
 
 -- ---- a unit and those after it
 -- a 1 before them changes nothing
-behind-one : (o : Outcome) → behindNumber 1 o ≡ o
+behind-one : (o : Outcome State) → behindNumber 1 o ≡ o
 behind-one (refused k) = refl
 behind-one (answered k i j s) = refl
 
 -- the numbers of two before them, as one
-behind-behind : (a b : ℕ) (o : Outcome) → b ≤ 1 → behindNumber a (behindNumber b o) ≡ behindNumber (cond (eqb a 0 && eqb b 1) 0 b) o
+behind-behind : (a b : ℕ) (o : Outcome State) → b ≤ 1 → behindNumber a (behindNumber b o) ≡ behindNumber (cond (eqb a 0 && eqb b 1) 0 b) o
 behind-behind a b (refused k) h = refl
 behind-behind a zero (answered k i j s) h =
     by-test _ (eqb k 1) (λ e. by-test _ (eqb a 0) (λ f. rw (e, f)) (λ f. rw (e, f))) (λ e. by-test _ (eqb a 0) (λ f. rw (e, f) (rw e)) (λ f. rw (e, f)))
@@ -163,7 +164,7 @@ module _ {F : Format} {l₀ : Lent} {n : ℕ} {t : List ℕ} {a : Line} {g : Log
   -- none is left
   pub redo-ended : (eqb left 0 || eqb (g .redo .records) 0) ≡ true → {r : EditAnswer} → r ≡ says number a g → Edited F l₀ (redoOut (length (l₀ .text)) n (stateOf catalogue F l₀)) r t (l₀ .records) (l₀ .texts)
   redo-ended z {r} q =
-      subst (λ (o : Outcome). Edited F l₀ o r t (l₀ .records) (l₀ .texts))
+      subst (λ (o : Outcome State). Edited F l₀ o r t (l₀ .records) (l₀ .texts))
       (sym (k .same ∙ ap (behindNumber number) last ∙ behind-last number (stateOf catalogue F l) (k .low)))
       (subst (λ (b : EditAnswer). Edited F l₀ (answered number 0 0 (stateOf catalogue F l)) b t (l₀ .records) (l₀ .texts)) (sym q) (answers-as F l₀ t (says number a g) refl (k .ready)))
     where
@@ -212,7 +213,7 @@ module _ {F : Format} {l₀ : Lent} {n : ℕ} {t : List ℕ} {a : Line} {g : Log
     -- a stop ends them
     pub redo-stopped : 1 < j → {r : EditAnswer} → r ≡ says j (b .line) (b .log) → Edited F l₀ (redoOut (length (l₀ .text)) n (stateOf catalogue F l₀)) r t′ (l₀ .records) (l₀ .texts)
     redo-stopped y {r} q =
-        subst (λ (o : Outcome). Edited F l₀ o r t′ (l₀ .records) (l₀ .texts))
+        subst (λ (o : Outcome State). Edited F l₀ o r t′ (l₀ .records) (l₀ .texts))
         (sym
         (k .same
         ∙ ap (behindNumber number)

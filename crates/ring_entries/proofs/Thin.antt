@@ -36,9 +36,10 @@ use denote.Triple.Entry.{onEntry}
 use denote.Triple.Spec.{Meets, tripleOf}
 use denote.Triple.Walked.{says, Stays, stay-ref, stay-none-slice, walkOf, AllGo, goes-ref, goes-none-slice, Walks, ends-at, walked, walk-meets}
 use denote.Exit.{yes}
+use Rattle.checks.specs.Outcome.{Outcome}
 use Rattle.kill_ring.specs.declared.Ring.{Ring}
 use Rattle.kill_ring.specs.declared.Left.{Left}
-use Rattle.kill_ring.specs.Ring.{Outcome}
+use Rattle.kill_ring.specs.Ring.{KillRing}
 use Rattle.kill_ring.specs.Calls.{Lent, lent, leftOf}
 use Rattle.kill_ring.proofs.Ring as T
 use Rattle.kill_ring.proofs.Ring.Laws as T′
@@ -78,7 +79,7 @@ abbrev vals : Ring → List Val
 vals = LL.vals T.the-type T′.the-laws
 
 -- ---- the contracts by the outcome: of the callee, and of the function
-module _ (out : Lent → Outcome) where
+module _ (out : Lent → Outcome KillRing) where
   abbrev pub left : List ℕ → List ℕ → Ring → Left
   left s t h = leftOf h (out (lent s t h))
 
@@ -97,7 +98,7 @@ module _ (out : Lent → Outcome) where
     Core H A = tripleOf 𝓤 H A core.signature (closing 𝓤 H A core.ended coreClauses)
 
 -- ---- the walk
-module _ {M : Type 1} (𝓤 : URA M) (H : Heap 𝓤) (A : Atoms 𝓤) (W : Given 𝓤 H A) (out : Lent → Outcome) (κ κ′ κ″ : Lft) (q q′ q″ : Share) (s t : RefT (List ℕ)) (b o : ℕ) (γ : GName) (h : Ring) where
+module _ {M : Type 1} (𝓤 : URA M) (H : Heap 𝓤) (A : Atoms 𝓤) (W : Given 𝓤 H A) (out : Lent → Outcome KillRing) (κ κ′ κ″ : Lft) (q q′ q″ : Share) (s t : RefT (List ℕ)) (b o : ℕ) (γ : GName) (h : Ring) where
   abbrev Arg : Type 0
   Arg = RefT (List ℕ) × (RefT (List ℕ) × (RefT Ring × Unit {0}))
 
@@ -198,7 +199,7 @@ module _ {M : Type 1} (𝓤 : URA M) (H : Heap 𝓤) (A : Atoms 𝓤) (W : Given
         keep ! (0 ∷ 1 ∷ 2 ∷ 3 ∷ 4 ∷ 5 ∷ []) $ by ! (exits r e (LL.owed U.the-type U′.the-laws r (v ∷ []) is .0))))))))))))))
 
 -- ---- from the walk to the contract
-module _ {M : Type 1} (𝓤 : URA M) (H : Heap 𝓤) (A : Atoms 𝓤) (W : Given 𝓤 H A) (out : Lent → Outcome) (callee : Name) where
+module _ {M : Type 1} (𝓤 : URA M) (H : Heap 𝓤) (A : Atoms 𝓤) (W : Given 𝓤 H A) (out : Lent → Outcome KillRing) (callee : Name) where
   thin-walks : (C : Calls 𝓤 H) (Λ : Loops 𝓤 H) → FmC 𝓤 H (W .laws) C → Triple 𝓤 (C callee) (Core out 𝓤 H A) → Walks 𝓤 H A f.ended stayed (WpFn 𝓤 H C Λ (thin callee)) (thinClauses out 𝓤)
   thin-walks C Λ fm known =
       walked 𝓤 H A f.ended stayed (thinClauses out 𝓤) (WpFn 𝓤 H C Λ (thin callee)) (λ κs. (slice-vals, (slice-vals, (ptr-vals, tt))))

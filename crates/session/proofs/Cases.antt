@@ -21,6 +21,7 @@ use Rattle.lines.specs.Lines.{startOfLine, beforeNewline, endOfLine, linesDown,
 use Rattle.lines.specs.Columns.{nthCluster, lineAbove, lineBelow, lineUp, lineDown}
 use Rattle.checks.specs.Checks.{refusal}
 use Rattle.checks.specs.Answers.{says, places}
+use Rattle.checks.specs.Outcome.{answered}
 use Rattle.copies.specs.Copy.{copied, startsAfter, copyCall}
 use Rattle.movement.specs.Moves.{called, moveForward, moveToPrevWord, moveToNextWord, moveTo, moveToLineUp}
 use Rattle.journal.specs.Change.{edit, insert, delete}
@@ -31,7 +32,7 @@ use Rattle.journal.specs.Groups.{endAll, endsAny}
 use Rattle.changeset.specs.Logs.{overSizes, damaged}
 use Rattle.changeset.specs.Calls.{undos, redos}
 use Rattle.changeset.specs.Outcomes.{beginOut, endOut}
-use Rattle.edit.specs.Plan.{splice, textAfter, listAfter, tooLong, answered, edited}
+use Rattle.edit.specs.Plan.{splice, textAfter, listAfter, tooLong, edited}
 use Rattle.buffer.specs.Edit.{copies}
 use Rattle.edit_word.specs.EditWord.{actionList, editWordCall}
 use Rattle.transpose_words.specs.TransposeWords.{transposeWordsCall}
@@ -132,8 +133,8 @@ pub record Cases : Type 0 where
       × (after (typing 0x71 ∷ beginning ∷ cancelling 1 ∷ beginning ∷ typing 0x72 ∷ ending ∷ undoing 1 ∷ []) .text ≡ 0x71 ∷ [])
   -- ring of 2, kills a, b, c with resets: yank c, pops b, c
   pub p13 :
-      (ringCalls.yankCall catalogue (playedRing.lending (playedRing.after 2 (playedRing.killing (0x61 ∷ []) ∷ playedRing.resetting ∷ playedRing.killing (0x62 ∷ []) ∷ playedRing.resetting ∷ playedRing.killing (0x63 ∷ []) ∷ []))) ≡ ring.answered 0 0 0 (cb 0))
-      × (ringCalls.yankPopCall catalogue (playedRing.lending (cb 0)) ≡ ring.answered 0 1 1 (cb 1)) × (ringCalls.yankPopCall catalogue (playedRing.lending (cb 1)) ≡ ring.answered 0 0 1 (cb 0))
+      (ringCalls.yankCall catalogue (playedRing.lending (playedRing.after 2 (playedRing.killing (0x61 ∷ []) ∷ playedRing.resetting ∷ playedRing.killing (0x62 ∷ []) ∷ playedRing.resetting ∷ playedRing.killing (0x63 ∷ []) ∷ []))) ≡ answered 0 0 0 (cb 0))
+      × (ringCalls.yankPopCall catalogue (playedRing.lending (cb 0)) ≡ answered 0 1 1 (cb 1)) × (ringCalls.yankPopCall catalogue (playedRing.lending (cb 1)) ≡ answered 0 0 1 (cb 0))
 
 pub cases : Cases
 unfolding within one two lead3 three lead4 four firstOf first charsFrom validFrom startBefore scalar size isMember isControl isMark isAlnum isWhite widthOf isText isChar joined clusters wordList atList searchList columnAfter columnsAfter width sizes nextPos prevPos matches nthMatch afterCluster matchForward matchBackward isStartOfWord landsBehind marks graphemeIndices scan walk landsOn nextWord noWord landed nextWordPos prevWord prevWordPos startOfLine beforeNewline endOfLine nthCluster lineAbove lineBelow lineUp lineDown linesDown nLinesDown movements copied startsAfter refusal called isSmall isCapital upperOf lowerOf encode encodeAll caseAll cased firstAlnum skipWhitespace sizeOf textsAt changeAt wholeAt decodeAt note recordInsert recordInsertStr recordDelete undoRecords undoTexts allSmall fits overSizes damaged undos redos splice textAfter listAfter tooLong edited copies actionList beginOut endOut endAll endsAny misfit exchanging Retrace·undoing undos.walk undos.undoOut cancels.opens cancels.walkTo cancels.beginsDown cancels.cancelOut ring.putAt ring.killOut ring.yankOut ring.yankPopOut ringCalls.slotsFrom ringCalls.anyOver ringCalls.overSizes ringCalls.actionBreaks ringCalls.anyForeign ringCalls.damaged ringCalls.modeList

@@ -8,7 +8,8 @@ use lib.ListN.{length}
 use Rattle.unicode.specs.Repertoire.{Repertoire}
 use Rattle.journal.specs.Layout.{Format}
 use Rattle.checks.specs.Checks.{ownTests}
-use Rattle.edit.specs.Plan.{State, Outcome, called}
+use Rattle.checks.specs.Outcome.{Outcome, called}
+use Rattle.edit.specs.Plan.{State}
 use Rattle.edit.specs.Calls.{checked, stateOf}
 use Rattle.undo.specs.Undo.{undoOut, redoOut}
 use Rattle.session.specs.Sessions.{Buffers, Handed, lentFor, leaves}
@@ -19,7 +20,7 @@ use Rattle.session.proofs.Units.{no-marks, undo-keeps, redo-keeps, unit
 
 module _ (R : Repertoire) (F : Format) (Q : List ℕ → Type 0) (t₀ : List ℕ) where
   -- a call that is handed such a state passes its checks and finds the state
-  called-on : (before : Buffers) (s : State) (b : Buffers) → Handed F before s b → Inv R F Q t₀ s [] → (f : State → Outcome) → called (checked R F (lentFor F s b) (ownTests false false false)) (f (stateOf R F (lentFor F s b))) ≡ f s
+  called-on : (before : Buffers) (s : State) (b : Buffers) → Handed F before s b → Inv R F Q t₀ s [] → (f : State → Outcome State) → called (checked R F (lentFor F s b) (ownTests false false false)) (f (stateOf R F (lentFor F s b))) ≡ f s
   called-on before s b h v f =
       rw (passes R F Q t₀ before s [] v b h (omega (arith, no-marks (s .log .level) (s .log .undo) (v .here .groups)))) (ap f (found R F Q t₀ before s [] v b h))
 
@@ -41,13 +42,13 @@ module _ (R : Repertoire) (F : Format) (Q : List ℕ → Type 0) (t₀ : List �
     undo-kept s b n h v =
         let e = undid-is before s b n h v in
         let k = undo-keeps R F Q t₀ (length (b .text)) n s (fits s b h) v in
-        (subst (Answered R F) (sym e) (k .0), subst (λ (o : Outcome). Inv R F Q t₀ (leaves o s) []) (sym e) (k .1), ap (λ (o : Outcome). leaves o s) e)
+        (subst (Answered R F) (sym e) (k .0), subst (λ (o : Outcome State). Inv R F Q t₀ (leaves o s) []) (sym e) (k .1), ap (λ (o : Outcome State). leaves o s) e)
 
     redo-kept : (s : State) (b : Buffers) (n : ℕ) → Handed F before s b → Inv R F Q t₀ s [] → Answered R F (redid R F b n s) × (afterRedo R F b n s ≡ leaves (redoOut (length (b .text)) n s) s)
     redo-kept s b n h v =
         let e = redid-is before s b n h v in
         let k = redo-keeps R F Q t₀ (length (b .text)) n s (fits s b h) v in
-        (subst (Answered R F) (sym e) (k .0), ap (λ (o : Outcome). leaves o s) e)
+        (subst (Answered R F) (sym e) (k .0), ap (λ (o : Outcome State). leaves o s) e)
 
   -- ---- undoing to the end
   to-end : (before : Buffers) → Bound Q (length (before .text)) → (xs : List Undo) (s : State) → Inv R F Q t₀ s [] → AllHanded R F before xs s

@@ -11,15 +11,15 @@ use borrow.Author.Tests.{lt-leb, ne-eqb}
 use Rattle.lists.proofs.Bools.{and-both, by-test}
 use Rattle.unicode.specs.Repertoire.{Repertoire}
 use Rattle.checks.specs.Checks.{Tests, refusal, both, ownTests}
+use Rattle.checks.specs.Outcome.{Outcome, refused, called}
 use Rattle.journal.specs.Change.{Change, begin, end, edit}
 use Rattle.journal.specs.Layout.{Format}
-use Rattle.journal.specs.Groups.{endAll, endsAny, ended}
+use Rattle.journal.specs.Groups.{Log, endAll, endsAny, ended}
 use Rattle.journal.specs.Undo.{Places, allSmall, fits, lastInsertAt}
 use Rattle.changeset.specs.Logs.{logTests}
-use Rattle.changeset.specs.Outcomes as log
-use Rattle.changeset.specs.Outcomes.{beginOut, endOut}
+use Rattle.changeset.specs.Outcomes.{beginOut, endOut, placesOut, lastInsertOut}
 use Rattle.changeset.specs.Calls as logs
-use Rattle.edit.specs.Plan.{State, Outcome, refused, called}
+use Rattle.edit.specs.Plan.{State}
 use Rattle.edit.specs.Calls.{Lent, logLent, sizesOf, stateOf}
 use Rattle.session.specs.Calls.{Asked, loggedBy, outcomeOf}
 use Rattle.session.specs.Calls as asked
@@ -89,7 +89,7 @@ not-one t =
 
 module _ (R : Repertoire) (F : Format) (Q : List ℕ → Type 0) (t₀ : List ℕ) where
   -- the invariant of what an outcome leaves of a state, with the groups that are open then
-  abbrev pub Keeps : Asked → Outcome → State → List ℕ → Type 0
+  abbrev pub Keeps : Asked → Outcome State → State → List ℕ → Type 0
   Keeps a o s g = Inv R F Q t₀ (leaves o s) (openAfter a o g)
 
   -- a refusal by 2 or more changes nothing, and opens and closes no group
@@ -149,7 +149,7 @@ module _ (R : Repertoire) (F : Format) (Q : List ℕ → Type 0) (t₀ : List �
             (v .cursor) (and-both (allSmall (F .width) (endAll level u)) _ e .0)
 
     -- places found or none: all is as it was
-    last-insert-made : (p : Option Places) → Keeps asked.lastInsert (loggedBy R F l (log.placesOut p (s .log))) s g
+    last-insert-made : (p : Option Places) → Keeps asked.lastInsert (loggedBy R F l (placesOut p (s .log))) s g
     last-insert-made none = v
     last-insert-made (some p) = v
 
@@ -160,21 +160,21 @@ module _ (R : Repertoire) (F : Format) (Q : List ℕ → Type 0) (t₀ : List �
     held = subst (λ (x : State). Inv R F Q t₀ x g) (sym is) v
 
     -- refused by 2 or more, or what the call does
-    pub by-checks : (a : Asked) (n : ℕ) (o : Outcome) → (n ≡ 1 → ⊥) → (n ≡ 0 → Keeps a o (stateOf R F l) g) → Keeps a (called n o) s g
+    pub by-checks : (a : Asked) (n : ℕ) (o : Outcome State) → (n ≡ 1 → ⊥) → (n ≡ 0 → Keeps a o (stateOf R F l) g) → Keeps a (called n o) s g
     by-checks a zero o h k = subst (λ (x : State). Keeps a o x g) is (k refl)
     by-checks a (suc zero) o h k = absurd (h refl)
     by-checks a (suc (suc n)) o h k = refused-keeps a n s g v
 
     -- the log's refusals are the call's
-    logged : (n : ℕ) (o : log.Outcome) → called n (loggedBy R F l o) ≡ loggedBy R F l (log.called n o)
+    logged : (n : ℕ) (o : Outcome Log) → called n (loggedBy R F l o) ≡ loggedBy R F l (called n o)
     logged zero o = refl
     logged (suc n) o = refl
 
     -- so by the checks of a lent log
-    checked-keeps : (a : Asked) (o : log.Outcome) → Keeps a (loggedBy R F l o) (stateOf R F l) g → Keeps a (loggedBy R F l (log.called (logs.checked R F (logLent l) false) o)) s g
+    checked-keeps : (a : Asked) (o : Outcome Log) → Keeps a (loggedBy R F l o) (stateOf R F l) g → Keeps a (loggedBy R F l (called (logs.checked R F (logLent l) false) o)) s g
     checked-keeps a o k =
         let n = logs.checked R F (logLent l) false in
-        subst (λ (x : Outcome). Keeps a x s g) (logged n o) (by-checks a n (loggedBy R F l o) (not-one (both (logTests R F (l .log) (l .records) (l .texts)) (ownTests false false false))) (λ e. k))
+        subst (λ (x : Outcome State). Keeps a x s g) (logged n o) (by-checks a n (loggedBy R F l o) (not-one (both (logTests R F (l .log) (l .records) (l .texts)) (ownTests false false false))) (λ e. k))
 
     -- begin opens a group with the mark that it answers
     pub begin-keeps : Keeps asked.begin (outcomeOf R F l asked.begin) s g
@@ -186,4 +186,4 @@ module _ (R : Repertoire) (F : Format) (Q : List ℕ → Type 0) (t₀ : List �
 
     -- last_insert changes nothing
     pub last-insert-keeps : Keeps asked.lastInsert (outcomeOf R F l asked.lastInsert) s g
-    last-insert-keeps = checked-keeps asked.lastInsert (log.lastInsertOut (stateOf R F l .log)) (last-insert-made l g held (lastInsertAt (stateOf R F l .log .undo)))
+    last-insert-keeps = checked-keeps asked.lastInsert (lastInsertOut (stateOf R F l .log)) (last-insert-made l g held (lastInsertAt (stateOf R F l .log .undo)))

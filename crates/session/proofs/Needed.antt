@@ -11,6 +11,7 @@ use Rattle.cluster.specs.Clusters.{joined, clusters}
 use Rattle.motion.specs.Steps.{sizes, prevPos}
 use Rattle.copies.specs.Copy.{copied}
 use Rattle.checks.specs.Checks.{refusal}
+use Rattle.checks.specs.Outcome.{answered}
 use Rattle.journal.specs.Change.{begin, end, edit, insert, delete}
 use Rattle.journal.specs.Layout.{sizeOf, textsAt, changeAt, wholeAt, decodeAt}
 use Rattle.journal.specs.Recording.{note, recordInsert, recordDelete}
@@ -19,7 +20,7 @@ use Rattle.journal.specs.Groups.{endAll, endsAny}
 use Rattle.changeset.specs.Logs.{overSizes, damaged}
 use Rattle.changeset.specs.Calls.{undos, redos}
 use Rattle.changeset.specs.Outcomes.{beginOut, endOut}
-use Rattle.edit.specs.Plan.{answered, splice, textAfter, listAfter, tooLong, edited}
+use Rattle.edit.specs.Plan.{splice, textAfter, listAfter, tooLong, edited}
 use Rattle.retrace.specs.Retrace.{misfit, exchanging, undoing as Retrace·undoing}
 use Rattle.undo.specs.Undo.{walk, undoOut, redoOut}
 use Rattle.session.specs.Calls as calls

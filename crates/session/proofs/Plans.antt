@@ -17,10 +17,11 @@ use Rattle.keymap.specs.declared.Movement.the-variants as m
 use Rattle.keymap.specs.declared.MovementCode.{MovementCode}
 use Rattle.keymap.specs.declared.MovementCode.the-variants as code
 use Rattle.checks.specs.Checks.{Tests, ownTests}
+use Rattle.checks.specs.Outcome.{Outcome}
 use Rattle.checks.proofs.Fit.{Passed}
 use Rattle.copies.specs.Copy.{isForeign}
 use Rattle.journal.specs.Layout.{Format}
-use Rattle.edit.specs.Plan.{Plan, Outcome, once, nothing, cutting, swapping}
+use Rattle.edit.specs.Plan.{State, Plan, once, nothing, cutting, swapping}
 use Rattle.edit.specs.Calls.{Lent, textOf, checked, editCall}
 use Rattle.edit.proofs.Tests.{own-passed}
 use Rattle.edit.proofs.Suits.{PlanSuits, nothing-plan, cutting-suits, cutting-cursor, swapping-suits, swapping-cursor}
@@ -47,7 +48,7 @@ use Rattle.session.specs.Calls.{EditCall, editOutcome}
 use Rattle.session.specs.Calls as asked
 
 -- an outcome is that of a plan, tried by the call's own tests too; where all pass, the plan suits the text and its cursor stands between characters
-pub record Planned (R : Repertoire) (F : Format) (l : Lent) (o : Outcome) : Type 0 where
+pub record Planned (R : Repertoire) (F : Format) (l : Lent) (o : Outcome State) : Type 0 where
   pub own : Tests
   pub plan : Plan
   pub is : o ≡ editCall R F l own plan

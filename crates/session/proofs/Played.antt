@@ -4,10 +4,11 @@ use mathlib.Core.List.{List, [], _∷_, _++_}
 use lib.ListN.{length, replicate}
 use Rattle.unicode.specs.Repertoire.{catalogue}
 use Rattle.checks.specs.declared.Line.{Line}
+use Rattle.checks.specs.Outcome.{Outcome}
 use Rattle.journal.specs.Change.{Change}
 use Rattle.journal.specs.Layout.{narrow, encodeRecords, encodeTexts}
 use Rattle.changeset.specs.Calls.{row, logOf, truncateCall}
-use Rattle.edit.specs.Plan.{State, Outcome}
+use Rattle.edit.specs.Plan.{State}
 use Rattle.edit.specs.Calls.{Lent, lent, logLent}
 use Rattle.session.specs.Calls as calls
 use Rattle.session.specs.Calls.{Asked, loggedBy, outcomeOf}
@@ -36,7 +37,7 @@ lending s = lendingIn 16 s
 
 -- a call on what is lent
 abbrev pub Doing : Type 0
-Doing = Lent → Outcome
+Doing = Lent → Outcome State
 
 abbrev pub asking : Asked → Doing
 asking a l = outcomeOf catalogue narrow l a

@@ -3,8 +3,9 @@ use Prim.Native.Nat.{ℕ, _*_}
 use mathlib.Core.List.{List, [], _∷_, _++_}
 use lib.ListN.{length}
 use Rattle.unicode.specs.Repertoire.{catalogue}
+use Rattle.checks.specs.Outcome.{Outcome}
 use Rattle.journal.specs.Layout.{le}
-use Rattle.kill_ring.specs.Ring.{KillRing, Outcome, empty}
+use Rattle.kill_ring.specs.Ring.{KillRing, empty}
 use Rattle.kill_ring.specs.Calls.{Lent, lent, ringOf, resetCall, killCall}
 use Rattle.kill_ring.proofs.Kept.{leaves}
 use Rattle.session.proofs.Played.{buffer}
@@ -24,7 +25,7 @@ lending v = lent (buffer (4096 * v .size) (slotBytes (v .slots))) (buffer (2 * v
 
 -- a call on what is lent
 abbrev pub Doing : Type 0
-Doing = Lent → Outcome
+Doing = Lent → Outcome KillRing
 
 -- a text killed, appended
 abbrev pub killing : List ℕ → Doing

@@ -7,10 +7,11 @@ use mathlib.Core.List.{List, [], _∷_}
 use lib.ListN.{length}
 use Rattle.unicode.specs.Repertoire.{Repertoire, Lawful}
 use Rattle.checks.specs.Checks.{both, lineTests, ownTests}
+use Rattle.checks.specs.Outcome.{Outcome, called}
 use Rattle.journal.specs.Change.{Change, begin as Change·begin, end as Change·end, edit as Change·edit}
 use Rattle.journal.specs.Layout.{Format}
 use Rattle.changeset.specs.Logs.{logTests}
-use Rattle.edit.specs.Plan.{Piece, made, State, Outcome, called}
+use Rattle.edit.specs.Plan.{Piece, made, State}
 use Rattle.edit.specs.Calls.{Lent, textOf, sizesOf, checked, stateOf}
 use Rattle.undo.specs.Undo.{undoOut, redoOut}
 use Rattle.cancel.specs.Cancel.{cancelOut}
@@ -76,12 +77,12 @@ module _ (R : Repertoire) (law : Lawful R) (space : R .member 0x20 ≡ true) (F 
     edit-keeps : (x : EditCall) → New Q (length (l .text)) (planOf x .plan .pieces) (textOf l) → Keeps R F Q t₀ (edit x) (outcomeOf R F l (edit x)) s g
     edit-keeps x n =
         let p = planOf x in
-        subst (λ (o : Outcome). Keeps R F Q t₀ (edit x) o s g) (sym (p .is))
+        subst (λ (o : Outcome State). Keeps R F Q t₀ (edit x) o s g) (sym (p .is))
         (by-checks R F Q t₀ l s g is v (edit x) (checked R F l (p .own)) _ (not-one (both (lineTests R (l .text) (l .line)) (both (logTests R F (l .log) (l .records) (l .texts)) (p .own))))
         (λ e. plan-keeps R F Q t₀ (sizesOf l) (length (l .text)) (p .plan) (stateOf R F l) g n (p .suits e .0) (p .suits e .1) held))
 
     -- a call of the log that is lent the text too
-    log-keeps : (a : Asked) (f : State → Outcome) → Keeps R F Q t₀ a (f (stateOf R F l)) (stateOf R F l) g → Keeps R F Q t₀ a (called (checked R F l (ownTests false false false)) (f (stateOf R F l))) s g
+    log-keeps : (a : Asked) (f : State → Outcome State) → Keeps R F Q t₀ a (f (stateOf R F l)) (stateOf R F l) g → Keeps R F Q t₀ a (called (checked R F l (ownTests false false false)) (f (stateOf R F l))) s g
     log-keeps a f k = by-checks R F Q t₀ l s g is v a (checked R F l (ownTests false false false)) (f (stateOf R F l)) (not-one (both (lineTests R (l .text) (l .line)) (both (logTests R F (l .log) (l .records) (l .texts)) (ownTests false false false)))) (λ e. k)
 
     -- each call, where the texts that an edit leads to are of Q

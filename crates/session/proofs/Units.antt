@@ -9,9 +9,10 @@ use lib.ListN.{length}
 use Rattle.lists.proofs.Bools.{by-test}
 use Rattle.utf8.specs.Chars.{In}
 use Rattle.unicode.specs.Repertoire.{Repertoire}
+use Rattle.checks.specs.Outcome.{Outcome, refused, answered, numberIn}
 use Rattle.journal.specs.Change.{Change, begin, end, edit}
 use Rattle.journal.specs.Layout.{Format}
-use Rattle.edit.specs.Plan.{State, Outcome, refused, answered, numberIn}
+use Rattle.edit.specs.Plan.{State}
 use Rattle.undo.specs.Undo.{owed, Walked, walk, numberOf, trailOf, undoneState, undoWalk, undoOut, redoWalk, redoneState, behindNumber, redoOut}
 use Rattle.session.specs.Sessions.{leaves}
 use Rattle.session.specs.Demand.{Units, SameTextAndLog}
@@ -45,12 +46,12 @@ cond-le true k h = omega arith
 cond-le false k h = h
 
 -- a number behind another is 0 or 1 where it was so alone
-behind-le : (n : ℕ) (o : Outcome) → numberIn o ≤ 1 → numberIn (behindNumber n o) ≤ 1
+behind-le : (n : ℕ) (o : Outcome State) → numberIn o ≤ 1 → numberIn (behindNumber n o) ≤ 1
 behind-le n (refused k) h = h
 behind-le n (answered k a b s) h = cond-le (eqb n 0 && eqb k 1) k h
 
 -- and it leaves the same
-behind-leaves : (n : ℕ) (o : Outcome) (s : State) → leaves (behindNumber n o) s ≡ leaves o s
+behind-leaves : (n : ℕ) (o : Outcome State) (s : State) → leaves (behindNumber n o) s ≡ leaves o s
 behind-leaves n (refused k) s = refl
 behind-leaves n (answered k a b s′) s = refl
 
@@ -135,7 +136,7 @@ module _ (R : Repertoire) (F : Format) (Q : List ℕ → Type 0) (t₀ : List �
   -- by what it leaves
   redo-more : (C n : ℕ) (s : State) → Bound Q C → Inv R F Q t₀ s [] → afterRedo C (suc n) s ≡ afterRedo C n (afterOne C s)
   redo-more C n s h v =
-      ap (λ (o : Outcome). leaves o s) (redo-step C n s h v)
+      ap (λ (o : Outcome State). leaves o s) (redo-step C n s h v)
       ∙ behind-leaves (numberOf 0 (redoWalk C s .trail .undone)) (redoOut C n (afterOne C s)) s
       ∙ redo-leaves C n (afterOne C s) s (afterOne C s)
 
@@ -145,7 +146,7 @@ module _ (R : Repertoire) (F : Format) (Q : List ℕ → Type 0) (t₀ : List �
   redo-keeps C zero s h v = (omega arith, v)
   redo-keeps C (suc n) s h v =
       let i = redo-keeps C n (afterOne C s) h (one-keeps C s h v) in (
-        subst (λ (o : Outcome). numberIn o ≤ 1) (sym (redo-step C n s h v)) (behind-le (numberOf 0 (redoWalk C s .trail .undone)) (redoOut C n (afterOne C s)) (i .0)),
+        subst (λ (o : Outcome State). numberIn o ≤ 1) (sym (redo-step C n s h v)) (behind-le (numberOf 0 (redoWalk C s .trail .undone)) (redoOut C n (afterOne C s)) (i .0)),
         subst (λ (x : State). Inv R F Q t₀ x []) (sym (redo-more C n s h v)) (i .1),
       )
 
@@ -181,9 +182,9 @@ module _ (R : Repertoire) (F : Format) (Q : List ℕ → Type 0) (t₀ : List �
       → leaves (undoOut C′ m (leaves (undoOut C n s) s)) (leaves (undoOut C n s) s) ≡ leaves (undoOut C″ (n + m) s) s
   undo-sum C C′ C″ n m s h h′ h″ v i j =
       let s₁ = afterUndo C n s in
-      ap (λ (o : Outcome). leaves o s₁) (undo-cap C′ C m s₁ h′ h (undo-keeps C n s h v .1))
+      ap (λ (o : Outcome State). leaves o s₁) (undo-cap C′ C m s₁ h′ h (undo-keeps C n s h v .1))
       ∙ sum C n m s h v i j
-      ∙ ap (λ (o : Outcome). leaves o s) (undo-cap C C″ (n + m) s h h″ v)
+      ∙ ap (λ (o : Outcome State). leaves o s) (undo-cap C C″ (n + m) s h h″ v)
 
   -- ---- units
   -- a unit is one record at least

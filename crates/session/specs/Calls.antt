@@ -5,12 +5,13 @@ use mathlib.Core.Bool.{Bool}
 use mathlib.Core.List.{List}
 use Rattle.unicode.specs.Repertoire.{Repertoire}
 use Rattle.checks.specs.declared.LineAnswer.{LineAnswer}
+use Rattle.checks.specs.Outcome.{Outcome, refused, answered}
 use Rattle.movement.specs.Moves as moves
 use Rattle.copies.specs.Copy.{copyCall}
 use Rattle.journal.specs.Layout.{Format}
-use Rattle.changeset.specs.Outcomes as log
+use Rattle.journal.specs.Groups.{Log}
 use Rattle.changeset.specs.Calls as logs
-use Rattle.edit.specs.Plan.{Outcome, refused, answered}
+use Rattle.edit.specs.Plan.{State}
 use Rattle.edit.specs.Calls.{Lent, logLent, stateOf}
 use Rattle.kills.specs.Kills.{killCall, killLineCall, killBufferCall, discardLineCall, discardBufferCall, deleteCall, backspaceCall, deletePrevWordCall, deleteWordCall, deleteToCall}
 use Rattle.ranges.specs.Ranges.{replaceCall, deleteRangeCall}
@@ -70,7 +71,7 @@ pub data Asked : Type 0 where
 
 -- ---- what the call comes to, by the definition that the contract of its public function cites
 module _ (R : Repertoire) (F : Format) (l : Lent) where
-  abbrev pub editOutcome : EditCall → Outcome
+  abbrev pub editOutcome : EditCall → Outcome State
   editOutcome (update s pos) = updateCall R F l s pos
   editOutcome (insert c n) = insertCall R F l c n
   editOutcome (yank s n) = yankCall R F l s n
@@ -111,17 +112,17 @@ module _ (R : Repertoire) (F : Format) (l : Lent) where
   moveAnswer (moveTo s c n) = moves.moveTo R (l .text) (l .line) s c n
 
   -- a movement is lent the text to read: what its answer leaves is the cursor
-  abbrev pub movedBy : ℕ → LineAnswer → Outcome
+  abbrev pub movedBy : ℕ → LineAnswer → Outcome State
   movedBy zero a = answered 0 (a .from) (a .to) (record { text = stateOf R F l .text; cursor = a .line .cursor; log = stateOf R F l .log })
   movedBy (suc zero) a = answered 1 (a .from) (a .to) (record { text = stateOf R F l .text; cursor = a .line .cursor; log = stateOf R F l .log })
   movedBy (suc (suc k)) a = refused (suc (suc k))
 
   -- a call of the log is lent no text
-  abbrev pub loggedBy : log.Outcome → Outcome
-  loggedBy (log.refused k) = refused k
-  loggedBy (log.answered k a b g) = answered k a b (record { text = stateOf R F l .text; cursor = l .line .cursor; log = g })
+  abbrev pub loggedBy : Outcome Log → Outcome State
+  loggedBy (refused k) = refused k
+  loggedBy (answered k a b g) = answered k a b (record { text = stateOf R F l .text; cursor = l .line .cursor; log = g })
 
-  abbrev pub outcomeOf : Asked → Outcome
+  abbrev pub outcomeOf : Asked → Outcome State
   outcomeOf (edit x) = editOutcome x
   outcomeOf (move x) = movedBy (moveAnswer x .number) (moveAnswer x)
   outcomeOf begin = loggedBy (logs.beginCall R F (logLent l))

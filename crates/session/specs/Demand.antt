@@ -6,8 +6,9 @@ use mathlib.Core.List.{List, [], _∷_}
 use lib.ListN.{length}
 use Rattle.unicode.specs.Repertoire.{Repertoire}
 use Rattle.checks.specs.Checks.{ownTests}
+use Rattle.checks.specs.Outcome.{Outcome, numberIn}
 use Rattle.journal.specs.Layout.{Format}
-use Rattle.edit.specs.Plan.{State, Outcome, numberIn}
+use Rattle.edit.specs.Plan.{State}
 use Rattle.edit.specs.Calls.{Lent, checked}
 use Rattle.undo.specs.Undo.{undoCall, redoCall, undoOut}
 use Rattle.session.specs.Sessions.{Buffers, Handed, lentFor, leaves}
@@ -30,10 +31,10 @@ pub record SameTextAndLog (s s′ : State) : Type 0 where
   pub level : s′ .log .level ≡ s .log .level
 
 module _ (R : Repertoire) (F : Format) where
-  abbrev pub undid : Buffers → ℕ → State → Outcome
+  abbrev pub undid : Buffers → ℕ → State → Outcome State
   undid b n s = undoCall R F (lentFor F s b) n
 
-  abbrev pub redid : Buffers → ℕ → State → Outcome
+  abbrev pub redid : Buffers → ℕ → State → Outcome State
   redid b n s = redoCall R F (lentFor F s b) n
 
   -- what it leaves
@@ -44,7 +45,7 @@ module _ (R : Repertoire) (F : Format) where
   afterRedo b n s = leaves (redid b n s) s
 
   -- not refused, by any number
-  abbrev pub Answered : Outcome → Type 0
+  abbrev pub Answered : Outcome State → Type 0
   Answered o = numberIn o ≤ 1
 
   -- undo calls, one after the other

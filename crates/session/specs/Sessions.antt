@@ -6,9 +6,10 @@ use mathlib.Core.List.{List, [], _∷_}
 use lib.Dec.{eqb, leb}
 use lib.ListN.{length}
 use Rattle.unicode.specs.Repertoire.{Repertoire}
+use Rattle.checks.specs.Outcome.{Outcome, refused, answered, numberIn}
 use Rattle.journal.specs.Layout.{Format}
 use Rattle.changeset.specs.Calls.{logOf}
-use Rattle.edit.specs.Plan.{State, Outcome, refused, answered, numberIn}
+use Rattle.edit.specs.Plan.{State}
 use Rattle.edit.specs.Calls.{Lent, lent, Stored}
 use Rattle.session.specs.Calls.{Asked, edit, move, begin, end, lastInsert, undo, redo, cancel, outcomeOf}
 
@@ -45,11 +46,11 @@ pub record Call : Type 0 where
   pub asked : Asked
 
 -- ---- a call, and what it leaves
-abbrev pub step : Repertoire → Format → Call → State → Outcome
+abbrev pub step : Repertoire → Format → Call → State → Outcome State
 step R F c s = outcomeOf R F (lentFor F s (c .buffers)) (c .asked)
 
 -- a refusal changes nothing
-abbrev pub leaves : Outcome → State → State
+abbrev pub leaves : Outcome State → State → State
 leaves (refused k) s = s
 leaves (answered k a b s′) s = s′
 
@@ -63,7 +64,7 @@ lastOf b [] = b
 lastOf b (c ∷ cs) = lastOf (c .buffers) cs
 
 -- ---- open groups, by the marks of their begins
-abbrev pub markIn : Outcome → ℕ
+abbrev pub markIn : Outcome State → ℕ
 markIn (refused k) = 0
 markIn (answered k a b s) = a
 
@@ -73,7 +74,7 @@ below m [] = []
 below m (b ∷ bs) = cond (leb m b) (below m bs) (b ∷ below m bs)
 
 -- "a group is open from a begin that is not refused until the next end that is not refused, or a cancel answered 0 whose mark is no higher than that begin's"
-abbrev pub openAfter : Asked → Outcome → List ℕ → List ℕ
+abbrev pub openAfter : Asked → Outcome State → List ℕ → List ℕ
 openAfter (edit x) o g = g
 openAfter (move x) o g = g
 openAfter begin o g = cond (leb (numberIn o) 1) (markIn o ∷ g) g

@@ -11,8 +11,9 @@ use Rattle.motion.specs.declared.Found.{Found}
 use Rattle.motion.specs.declared.Found.the-variants.{At, Nothing}
 use Rattle.places.specs.Places.{onFrom, backFrom}
 use Rattle.checks.specs.Checks.{ownTests}
+use Rattle.checks.specs.Outcome.{Outcome}
 use Rattle.journal.specs.Layout.{Format}
-use Rattle.edit.specs.Plan.{splice, pasted, cutting, Plan, nothing, Outcome}
+use Rattle.edit.specs.Plan.{State, splice, pasted, cutting, Plan, nothing}
 use Rattle.edit.specs.Calls.{Lent, textOf, editCall}
 
 -- the cluster from p on is cut, and put in before the one in front of it; the cursor goes behind both
@@ -40,5 +41,5 @@ exchangeAt R t pos Nothing = nothing pos
 abbrev pub transposeCharsPlan : Repertoire → List ℕ → ℕ → Plan
 transposeCharsPlan R t pos = exchangeAt R t pos (startsAt R t pos)
 
-abbrev pub transposeCharsCall : Repertoire → Format → Lent → Outcome
+abbrev pub transposeCharsCall : Repertoire → Format → Lent → Outcome State
 transposeCharsCall R F l = editCall R F l (ownTests false false false) (transposeCharsPlan R (textOf l) (l .line .cursor))

@@ -5,8 +5,9 @@ use mathlib.Core.List.{List}
 use lib.Dec.{eqb, ltb}
 use Rattle.unicode.specs.Repertoire.{Repertoire}
 use Rattle.checks.specs.Checks.{ownTests}
+use Rattle.checks.specs.Outcome.{Outcome}
 use Rattle.journal.specs.Layout.{Format}
-use Rattle.edit.specs.Plan.{Plan, nothing, Outcome}
+use Rattle.edit.specs.Plan.{State, Plan, nothing}
 use Rattle.edit.specs.Calls.{Lent, textOf, editCall}
 use Rattle.word_pairs.specs.declared.Words.{Words}
 use Rattle.word_pairs.specs.WordPairs.{wordsAround, wordsPlan}
@@ -22,5 +23,5 @@ wordsOr t w = cond (isOne w) (nothing (w .end1)) (wordsPlan t w)
 abbrev pub transposeWordsPlan : Repertoire → List ℕ → ℕ → ℕ → Plan
 transposeWordsPlan R t n pos = wordsOr t (wordsAround R t n pos)
 
-abbrev pub transposeWordsCall : Repertoire → Format → Lent → ℕ → Outcome
+abbrev pub transposeWordsCall : Repertoire → Format → Lent → ℕ → Outcome State
 transposeWordsCall R F l n = editCall R F l (ownTests false false false) (transposeWordsPlan R (textOf l) n (l .line .cursor))

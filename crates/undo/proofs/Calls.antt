@@ -5,14 +5,15 @@ use mathlib.Core.Bool.{false}
 use mathlib.Core.List.{List}
 use Rattle.unicode.specs.Repertoire.{catalogue}
 use Rattle.checks.specs.Checks.{ownTests}
+use Rattle.checks.specs.Outcome.{Outcome, called}
 use Rattle.journal.specs.Layout.{narrow}
 use Rattle.edit.specs.declared.EditAnswer.{EditAnswer}
 use Rattle.edit.specs.declared.Own.{Own}
-use Rattle.edit.specs.Plan.{Outcome, called}
+use Rattle.edit.specs.Plan.{State}
 use Rattle.edit.specs.Calls.{Lent, says, Edited, own, checked}
 use Rattle.edit.proofs.Answers.{refused-by, passed-by}
 
-module _ (l : Lent) {o : Own} {k : ℕ} (f : o ≡ record { sizes = false; code = false; foreign = false; place = false; split = false }) (e : k ≡ checked catalogue narrow l (own o)) (out : Outcome) where
+module _ (l : Lent) {o : Own} {k : ℕ} (f : o ≡ record { sizes = false; code = false; foreign = false; place = false; split = false }) (e : k ≡ checked catalogue narrow l (own o)) (out : Outcome State) where
   is-checked : checked catalogue narrow l (ownTests false false false) ≡ k
   is-checked = sym (e ∙ ap (λ (a : Own). checked catalogue narrow l (own a)) f)
 

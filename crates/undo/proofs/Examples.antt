@@ -5,8 +5,9 @@ use mathlib.Core.Path.{_≡_, refl}
 use mathlib.Core.List.{List, [], _∷_}
 use Rattle.utf8.specs.Utf8.{within, one, two, lead3, three, lead4, four, firstOf, first}
 use Rattle.utf8.specs.Chars.{validFrom}
+use Rattle.checks.specs.Outcome.{answered}
 use Rattle.journal.specs.Change.{Change, begin, end, edit, insert, delete}
-use Rattle.edit.specs.Plan.{State, answered, splice}
+use Rattle.edit.specs.Plan.{State, splice}
 use Rattle.retrace.specs.Retrace.{misfit, exchanging, undoing}
 use Rattle.undo.specs.Undo.{walk, undoOut, redoOut}
 

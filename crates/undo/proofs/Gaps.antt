@@ -9,10 +9,11 @@ use lib.ListN.{length, take}
 use Rattle.buffer.specs.Gap.{gapped, shut}
 use Rattle.buffer.proofs.Gaps.{gap-closed}
 use Rattle.checks.specs.declared.Line.{Line}
+use Rattle.checks.specs.Outcome.{Outcome, refused, answered}
 use Rattle.journal.specs.Layout.{Format}
 use Rattle.changeset.specs.declared.Log.{Log}
 use Rattle.edit.specs.declared.EditAnswer.{EditAnswer}
-use Rattle.edit.specs.Plan.{State, Outcome, refused, answered}
+use Rattle.edit.specs.Plan.{State}
 use Rattle.edit.specs.Calls.{Lent, says, Edited}
 use Rattle.undo.specs.Undo.{Walked, numberOf, redoneState, redoWalk, behindNumber, redoOut}
 use Rattle.undo.specs.Steps.{Unmoved}
@@ -28,15 +29,15 @@ module _ {n : ℕ} {a : Line} {g : Log} {r : EditAnswer} (q : r ≡ says n a g) 
   ends-there gap b {F} {l} {back} {W} = subst (λ (x : EditAnswer). Ends F l back W r (shut (x .line .len) gap b)) (sym q)
 
 -- ---- undo and redo refuse nothing that the checks pass
-abbrev pub NotRefused : Outcome → Type 0
+abbrev pub NotRefused : Outcome State → Type 0
 NotRefused (refused k) = ⊥
 NotRefused (answered k i j s) = Unit {0}
 
-pub either-not-refused : (b : Bool) (x y : Outcome) → NotRefused x → NotRefused y → NotRefused (cond b x y)
+pub either-not-refused : (b : Bool) (x y : Outcome State) → NotRefused x → NotRefused y → NotRefused (cond b x y)
 either-not-refused true x y h i = h
 either-not-refused false x y h i = i
 
-behind-not-refused : (n : ℕ) (o : Outcome) → NotRefused o → NotRefused (behindNumber n o)
+behind-not-refused : (n : ℕ) (o : Outcome State) → NotRefused o → NotRefused (behindNumber n o)
 behind-not-refused n (refused k) h = h
 behind-not-refused n (answered k i j s) h = tt
 
@@ -49,7 +50,7 @@ redo-not-refused C (suc n) s =
     either-not-refused (eqb (w .stopped) 0) (behindNumber (numberOf 0 (w .trail .undone)) (redoOut C n t)) (answered (w .stopped) 0 0 t) (behind-not-refused (numberOf 0 (w .trail .undone)) (redoOut C n t) (redo-not-refused C n t)) tt
 
 -- ---- an answer says nothing of the buffer but its text
-left-same : (F : Format) (l : Lent) (o : Outcome) (r : EditAnswer) (t t′ : List ℕ) → NotRefused o → take (r .line .len) t′ ≡ take (r .line .len) t → Edited F l o r t (l .records) (l .texts) → Edited F l o r t′ (l .records) (l .texts)
+left-same : (F : Format) (l : Lent) (o : Outcome State) (r : EditAnswer) (t t′ : List ℕ) → NotRefused o → take (r .line .len) t′ ≡ take (r .line .len) t → Edited F l o r t (l .records) (l .texts) → Edited F l o r t′ (l .records) (l .texts)
 left-same F l (refused k) r t t′ h u e = absurd h
 left-same F l (answered k i j s) r t t′ h u e =
     let n = ap (λ (x : EditAnswer). x .line .len) (e .answer) in
@@ -61,7 +62,7 @@ left-same F l (answered k i j s) r t t′ h u e =
 -- the gap is closed behind it: t is the buffer with the gap, t′ the one without
 pub closed : {n : ℕ} {a : Line} {g : Log} {r : EditAnswer} → r ≡ says n a g → (gap : ℕ) (t : List ℕ) → gap ≤ a .len → a .len ≤ length t
     → (t′ : List ℕ) → length t′ ≡ length t → gapped (a .len) (a .len) t′ ≡ gapped (a .len) gap t
-    → {F : Format} {l : Lent} {o : Outcome} → NotRefused o → Edited F l o r (shut (a .len) gap t) (l .records) (l .texts) → Edited F l o r t′ (l .records) (l .texts)
+    → {F : Format} {l : Lent} {o : Outcome State} → NotRefused o → Edited F l o r (shut (a .len) gap t) (l .records) (l .texts) → Edited F l o r t′ (l .records) (l .texts)
 closed {a = a} {r = r} q gap t h k t′ i f {F} {l} {o} w e =
     let u : take (a .len) t′ ≡ take (a .len) (shut (a .len) gap t) = gap-closed (a .len) t t′ k i gap h f in
     left-same F l o r (shut (a .len) gap t) t′ w (subst (λ (x : EditAnswer). take (x .line .len) t′ ≡ take (x .line .len) (shut (a .len) gap t)) (sym q) u) e

@@ -9,12 +9,13 @@ use lib.ListN.{length}
 use borrow.Author.Tests.{eqb-true}
 use Rattle.lists.proofs.Bools.{never, and-both}
 use Rattle.unicode.specs.Repertoire.{catalogue}
+use Rattle.checks.specs.Outcome.{Outcome, answered}
 use Rattle.journal.specs.Change.{Change, turn}
 use Rattle.journal.specs.Layout.{Format}
 use Rattle.journal.specs.Groups as groups
 use Rattle.changeset.specs.declared.Log.{Log}
 use Rattle.changeset.specs.Calls as log
-use Rattle.edit.specs.Plan.{State, Outcome, answered}
+use Rattle.edit.specs.Plan.{State}
 use Rattle.edit.specs.Calls.{Lent, lent, stateOf, says, Edited, Ready}
 use Rattle.edit.specs.declared.EditAnswer.{EditAnswer}
 use Rattle.edit.proofs.Answers.{log-kept, length-kept, state-kept}
@@ -107,7 +108,7 @@ pub come-first : {F : Format} {l₀ : Lent} → Ready F l₀ → Come F l₀ (l�
 come-first h = record { ready = h; number = refl; text = refl; level = refl }
 
 -- what a walk has come to is its outcome
-abbrev pub outOf : Bool → Walked → ℕ → Outcome
+abbrev pub outOf : Bool → Walked → ℕ → Outcome State
 outOf back w level = answered (numberOf (w .stopped) (w .trail .undone)) 0 0 (stateAt (w .trail) (logBy back (w .from) (w .to) level))
 
 -- a walk that was to come to W is at its end: its answer is r, and the text's buffer t
@@ -130,7 +131,7 @@ answers-as F l₀ t r q h =
 
 -- so an end is an answer of the contract
 pub edited : {F : Format} {l₀ : Lent} {back : Bool} {W : Walked} {r : EditAnswer} {t : List ℕ} → Ends F l₀ back W r t → Edited F l₀ (outOf back W (l₀ .log .level)) r t (l₀ .records) (l₀ .texts)
-edited {F} {l₀} {back} {W} {r} {t} e = subst (λ (o : Outcome). Edited F l₀ o r t (l₀ .records) (l₀ .texts)) (sym (e .out)) (answers-as F l₀ t r (e .plain) (e .ready))
+edited {F} {l₀} {back} {W} {r} {t} e = subst (λ (o : Outcome State). Edited F l₀ o r t (l₀ .records) (l₀ .texts)) (sym (e .out)) (answers-as F l₀ t r (e .plain) (e .ready))
 
 module _ (back : Bool) {F : Format} {l₀ : Lent} {t : List ℕ} {s : Step} {g : Log} (c : Come F l₀ t s g) where
   abbrev l : Lent

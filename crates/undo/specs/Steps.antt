@@ -6,13 +6,14 @@ use mathlib.Core.List.{List, _∷_}
 use Rattle.unicode.specs.Repertoire.{catalogue}
 use Rattle.buffer.specs.Gap.{shut}
 use Rattle.checks.specs.declared.Line.{Line}
+use Rattle.checks.specs.Outcome.{answered}
 use Rattle.journal.specs.Change.{Change, turn}
 use Rattle.journal.specs.Layout.{Format}
 use Rattle.journal.specs.Groups as groups
 use Rattle.changeset.specs.declared.Log.{Log}
 use Rattle.changeset.specs.Calls.{logOf}
 use Rattle.edit.specs.declared.EditAnswer.{EditAnswer}
-use Rattle.edit.specs.Plan.{State, answered}
+use Rattle.edit.specs.Plan.{State}
 use Rattle.edit.specs.Calls.{Lent, lent, stateOf, Stored, Ready}
 use Rattle.retrace.specs.declared.Step.{Step}
 use Rattle.retrace.specs.Retrace.{Trail, Tried, done, stops, undoing, facing}

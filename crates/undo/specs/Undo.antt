@@ -7,9 +7,10 @@ use lib.Dec.{eqb}
 use lib.ListN.{length}
 use Rattle.unicode.specs.Repertoire.{Repertoire}
 use Rattle.checks.specs.Checks.{ownTests}
+use Rattle.checks.specs.Outcome.{Outcome, refused, answered, called}
 use Rattle.journal.specs.Change.{Change, begin, end, edit, turn}
 use Rattle.journal.specs.Layout.{Format}
-use Rattle.edit.specs.Plan.{State, Outcome, refused, answered, called}
+use Rattle.edit.specs.Plan.{State}
 use Rattle.edit.specs.Calls.{Lent, checked, stateOf}
 use Rattle.retrace.specs.Retrace.{Trail, Tried, done, stops, undoing}
 
@@ -71,14 +72,14 @@ trailOf s = record { text = s .text; cursor = s .cursor; undone = false }
 abbrev pub undoneState : Walked → ℕ → State
 undoneState w level = record { text = w .trail .text; cursor = w .trail .cursor; log = record { undo = w .from; redo = w .to; level = level } }
 
-abbrev pub undoOf : Walked → ℕ → Outcome
+abbrev pub undoOf : Walked → ℕ → Outcome State
 undoOf w level = answered (numberOf (w .stopped) (w .trail .undone)) 0 0 (undoneState w level)
 
 -- n = 0 acts as 1
 abbrev pub undoWalk : ℕ → ℕ → State → Walked
 undoWalk C n s = walk C (n - 1) (owed 0) (s .log .undo) (s .log .redo) (trailOf s)
 
-unfoldable pub undoOut : ℕ → ℕ → State → Outcome
+unfoldable pub undoOut : ℕ → ℕ → State → Outcome State
 undoOut C n s = undoOf (undoWalk C n s) (s .log .level)
 
 -- ---- redo: n times one unit; 0 where any of them gives 0, else 1; a stop ends them
@@ -89,21 +90,21 @@ abbrev pub redoneState : Walked → ℕ → State
 redoneState w level = record { text = w .trail .text; cursor = w .trail .cursor; log = record { undo = w .to; redo = w .from; level = level } }
 
 -- a 1 behind a 0 is a 0
-abbrev pub behindNumber : ℕ → Outcome → Outcome
+abbrev pub behindNumber : ℕ → Outcome State → Outcome State
 behindNumber n (refused k) = refused k
 behindNumber n (answered k a b s) = answered (cond (eqb n 0 && eqb k 1) 0 k) a b s
 
-abbrev pub orStopped : Walked → ℕ → (State → Outcome) → Outcome
+abbrev pub orStopped : Walked → ℕ → (State → Outcome State) → Outcome State
 orStopped w level go = cond (eqb (w .stopped) 0) (behindNumber (numberOf 0 (w .trail .undone)) (go (redoneState w level))) (answered (w .stopped) 0 0 (redoneState w level))
 
-unfoldable pub redoOut : ℕ → ℕ → State → Outcome
+unfoldable pub redoOut : ℕ → ℕ → State → Outcome State
 redoOut C zero s = answered 1 0 0 s
 redoOut C (suc n) s = orStopped (redoWalk C s) (s .log .level) (redoOut C n)
 
 -- ---- the calls: checks 2 to 8, then what they do
 module _ (R : Repertoire) (F : Format) (l : Lent) where
-  abbrev pub undoCall : ℕ → Outcome
+  abbrev pub undoCall : ℕ → Outcome State
   undoCall n = called (checked R F l (ownTests false false false)) (undoOut (length (l .text)) n (stateOf R F l))
 
-  abbrev pub redoCall : ℕ → Outcome
+  abbrev pub redoCall : ℕ → Outcome State
   redoCall n = called (checked R F l (ownTests false false false)) (redoOut (length (l .text)) n (stateOf R F l))

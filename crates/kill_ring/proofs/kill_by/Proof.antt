@@ -6,7 +6,8 @@ use borrow.Author.Needs.{needs}
 use denote.Ref.{now}
 use Rattle.unicode.specs.Repertoire.{catalogue}
 use Rattle.unicode.specs.Text.{isText}
-use Rattle.kill_ring.specs.Ring.{Outcome, killOut}
+use Rattle.checks.specs.Outcome.{Outcome}
+use Rattle.kill_ring.specs.Ring.{KillRing, killOut}
 use Rattle.kill_ring.specs.Calls.{Lent, lent, checked, valueOf}
 use Rattle.kill_ring.proofs.Passed.{Ready, passed}
 use Rattle.kill_ring.proofs.Value.{some-of, index-below}
@@ -22,7 +23,7 @@ given c = lent (now (c .args .slots)) (now (c .args .lens)) (c .args .ring)
 abbrev number : tie.Start → ℕ
 number c = checked catalogue (given c) false (not (isText catalogue (now (c .args .text))))
 
-abbrev killing : tie.Start → Outcome
+abbrev killing : tie.Start → Outcome KillRing
 killing c = killOut (c .args .m) (now (c .args .text)) (valueOf (given c))
 
 -- the number that refusal gives

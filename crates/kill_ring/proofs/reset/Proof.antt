@@ -4,7 +4,8 @@ use mathlib.Core.Bool.{false}
 use borrow.Author.Needs.{needs}
 use denote.Ref.{now}
 use Rattle.unicode.specs.Repertoire.{catalogue}
-use Rattle.kill_ring.specs.Ring.{Outcome, resetOut}
+use Rattle.checks.specs.Outcome.{Outcome}
+use Rattle.kill_ring.specs.Ring.{KillRing, resetOut}
 use Rattle.kill_ring.specs.Calls.{Lent, lent, checked, valueOf}
 use Rattle.kill_ring.proofs.Answers.{alone, left-refused, left-passed, reset-left}
 use Rattle.kill_ring.proofs.reset.Statement.{statement}
@@ -17,7 +18,7 @@ given c = lent (now (c .args .slots)) (now (c .args .lens)) (c .args .ring)
 abbrev number : tie.Start → ℕ
 number c = checked catalogue (given c) false false
 
-abbrev resetting : tie.Start → Outcome
+abbrev resetting : tie.Start → Outcome KillRing
 resetting c = resetOut (valueOf (given c))
 
 refusal-requires : tie.Need-refusal-requires

@@ -5,7 +5,8 @@ use mathlib.Core.Bool.{false}
 use borrow.Author.Needs.{needs}
 use denote.Ref.{now}
 use Rattle.unicode.specs.Repertoire.{catalogue}
-use Rattle.kill_ring.specs.Ring.{Outcome, yankOut}
+use Rattle.checks.specs.Outcome.{Outcome}
+use Rattle.kill_ring.specs.Ring.{KillRing, yankOut}
 use Rattle.kill_ring.specs.Calls.{Lent, lent, checked, valueOf}
 use Rattle.kill_ring.proofs.Passed.{Ready, passed}
 use Rattle.kill_ring.proofs.Value.{some-of, index-in}
@@ -20,7 +21,7 @@ given c = lent (now (c .args .slots)) (now (c .args .lens)) (c .args .ring)
 abbrev number : tie.Start → ℕ
 number c = checked catalogue (given c) false false
 
-abbrev yanking : tie.Start → Outcome
+abbrev yanking : tie.Start → Outcome KillRing
 yanking c = yankOut (valueOf (given c))
 
 -- the checks pass

@@ -7,8 +7,9 @@ use borrow.Author.Needs.{needs}
 use denote.Enum.Declared.{tagOf}
 use denote.Ref.{now}
 use Rattle.unicode.specs.Repertoire.{catalogue}
+use Rattle.checks.specs.Outcome.{Outcome}
 use Rattle.kill_ring.specs.declared.Action.the-variants.{Yank}
-use Rattle.kill_ring.specs.Ring.{Outcome, yankPopOut}
+use Rattle.kill_ring.specs.Ring.{KillRing, yankPopOut}
 use Rattle.kill_ring.specs.Calls.{Lent, lent, actionOf, checked, valueOf}
 use Rattle.kill_ring.proofs.Action.{the-type}
 use Rattle.kill_ring.proofs.Passed.{Ready, passed}
@@ -24,7 +25,7 @@ given c = lent (now (c .args .slots)) (now (c .args .lens)) (c .args .ring)
 abbrev number : tie.Start → ℕ
 number c = checked catalogue (given c) false false
 
-abbrev popping : tie.Start → Outcome
+abbrev popping : tie.Start → Outcome KillRing
 popping c = yankPopOut (valueOf (given c))
 
 -- the checks pass

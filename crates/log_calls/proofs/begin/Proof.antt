@@ -1,12 +1,13 @@
 use mathlib.Core.Path.{sym}
 use denote.Ref.{now}
 use Rattle.unicode.specs.Repertoire.{catalogue}
+use Rattle.checks.specs.Outcome.{called}
 use Rattle.journal.specs.Layout.{narrow}
 use Rattle.changeset.specs.Calls.{lent, sizesOf, valueOf, checked}
 use Rattle.changeset.proofs.Answers.{refused-by, passed-by, answered-as}
 use Rattle.records.proofs.Formats.{narrow-fit}
 use mathlib.Core.Bool.{false}
-use Rattle.changeset.specs.Outcomes.{called, beginOut}
+use Rattle.changeset.specs.Outcomes.{beginOut}
 use borrow.Author.Needs.{needs}
 use Rattle.log_calls.proofs.begin.Statement.{statement}
 use Rattle.log_calls.proofs.begin.Tie as tie

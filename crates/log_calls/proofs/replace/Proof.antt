@@ -1,12 +1,13 @@
 use mathlib.Core.Path.{sym, _∙_}
 use denote.Ref.{now}
 use Rattle.unicode.specs.Repertoire.{catalogue}
+use Rattle.checks.specs.Outcome.{called}
 use Rattle.journal.specs.Layout.{narrow}
 use Rattle.changeset.specs.Calls.{lent, sizesOf, valueOf, checked}
 use Rattle.changeset.proofs.Answers.{refused-by, passed-by, answered-as}
 use Rattle.records.proofs.Formats.{narrow-fit}
 use mathlib.Core.Bool.{Bool, not}
-use Rattle.changeset.specs.Outcomes.{called, recordOut}
+use Rattle.changeset.specs.Outcomes.{recordOut}
 use Rattle.changeset.proofs.Answers.{recorded-as}
 use Rattle.changeset.proofs.Passed.{own-passed}
 use mathlib.Core.Path.{ap₂}

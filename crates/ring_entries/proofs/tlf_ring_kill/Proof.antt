@@ -42,9 +42,10 @@ use denote.Triple.Table.{entered, cited}
 use denote.Triple.Walked.{says, Stays, stay-ref, gave-slice, stay-none, stay-none-slice, walkOf, AllGo, goes-ref, goes-gave-slice, goes-none, goes-none-slice, Walks, ends-at, walked, walk-meets}
 use denote.Exit.{yes}
 use Rattle.unicode.specs.Repertoire.{catalogue}
+use Rattle.checks.specs.Outcome.{Outcome}
 use Rattle.kill_ring.specs.declared.Ring.{Ring}
 use Rattle.kill_ring.specs.declared.Left.{Left}
-use Rattle.kill_ring.specs.Ring.{Outcome}
+use Rattle.kill_ring.specs.Ring.{KillRing}
 use Rattle.kill_ring.specs.Calls.{Lent, lent, killCall, Ringed}
 use Rattle.kill_ring.proofs.Ring as T
 use Rattle.kill_ring.proofs.Ring.Laws as T′
@@ -117,7 +118,7 @@ module _ {M : Type 1} (𝓤 : URA M) (H : Heap 𝓤) (A : Atoms 𝓤) (W : Given
   abbrev l : Lent
   l = lent ys zs h
 
-  abbrev out : Outcome
+  abbrev out : Outcome KillRing
   out = killCall catalogue l (s .now) n
 
   abbrev Post : Val → SProp 𝓤
