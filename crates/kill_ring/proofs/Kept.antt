@@ -11,7 +11,7 @@ use Rattle.lists.proofs.Bools.{by-less}
 use Rattle.unicode.specs.Repertoire.{Repertoire}
 use Rattle.unicode.specs.Text.{isText}
 use Rattle.unicode.proofs.Text.{text-nil, text-append}
-use Rattle.checks.specs.Outcome.{Outcome, refused, answered, called}
+use Rattle.checks.specs.Outcome.{Outcome, refused, answered, called, leaves}
 use Rattle.checks.proofs.Outcomes.{called-passed}
 use Rattle.kill_ring.specs.declared.Action.{Action}
 use Rattle.kill_ring.specs.declared.Action.the-variants.{Kill, Yank, Other}
@@ -25,11 +25,6 @@ use Rattle.kill_ring.proofs.Passed.{passed, own-passed}
 use Rattle.kill_ring.proofs.Value.{some-of, cond-ind}
 use Rattle.kill_ring.proofs.Rings.{put-over, put-behind}
 use Rattle.kill_ring.proofs.Found.{ready-sound}
-
--- the ring that an outcome leaves: a refusal leaves what was there
-abbrev pub leaves : KillRing → Outcome KillRing → KillRing
-leaves v (refused k) = v
-leaves v (answered k slot size w) = w
 
 -- ---- a ring of one size, sound
 pub record Kept (R : Repertoire) (v w : KillRing) : Type 0 where
@@ -84,14 +79,14 @@ same-kept : (R : Repertoire) (v : KillRing) → Sound R v → Kept R v v
 same-kept R v s = record { size = refl; sound = s }
 
 -- ---- reset, yank and yank_pop
-pub reset-kept : (R : Repertoire) (v : KillRing) → Sound R v → Kept R v (leaves v (resetOut v))
+pub reset-kept : (R : Repertoire) (v : KillRing) → Sound R v → Kept R v (leaves (resetOut v) v)
 reset-kept R v s = other-kept R v s
 
 -- yank
-pub yank-kept : (R : Repertoire) (v : KillRing) → Sound R v → Kept R v (leaves v (yankOut v))
+pub yank-kept : (R : Repertoire) (v : KillRing) → Sound R v → Kept R v (leaves (yankOut v) v)
 unfolding yankOut
 yank-kept R v s =
-    cond-ind (λ (o : Outcome KillRing). Kept R v (leaves v o)) (isEmpty (v .slots)) (answered 1 0 0 v) (answered 0 (v .index) 0 (yanked (v .index) v))
+    cond-ind (λ (o : Outcome KillRing). Kept R v (leaves o v)) (isEmpty (v .slots)) (answered 1 0 0 v) (answered 0 (v .index) 0 (yanked (v .index) v))
     (λ e. same-kept R v s)
     (λ e. yanked-kept R v (v .index) s (index-of (v .index) (v .slots) (s .index) e))
 
@@ -101,14 +96,14 @@ previous-below v h =
     cond-ind (λ (i : ℕ). i < length (v .slots)) (eqb (v .index) 0) (length (v .slots) - 1) (v .index - 1) (λ e. omega arith) (λ e. omega arith)
 
 -- yank_pop
-pub pop-kept : (R : Repertoire) (v : KillRing) → Sound R v → Kept R v (leaves v (yankPopOut v))
+pub pop-kept : (R : Repertoire) (v : KillRing) → Sound R v → Kept R v (leaves (yankPopOut v) v)
 unfolding yankPopOut
 pop-kept R v s = go (v .action)
   where
-    go : (a : Action) → Kept R v (leaves v (popOut a v))
+    go : (a : Action) → Kept R v (leaves (popOut a v) v)
     go Kill = same-kept R v s
     go (Yank n) =
-        cond-ind (λ (o : Outcome KillRing). Kept R v (leaves v o)) (isEmpty (v .slots)) (answered 1 0 0 v) (answered 0 (previousIndex v) n (yanked (previousIndex v) v))
+        cond-ind (λ (o : Outcome KillRing). Kept R v (leaves o v)) (isEmpty (v .slots)) (answered 1 0 0 v) (answered 0 (previousIndex v) n (yanked (previousIndex v) v))
         (λ e. same-kept R v s)
         (λ e. yanked-kept R v (previousIndex v) s (previous-below v (index-of (v .index) (v .slots) (s .index) e)))
     go Other = same-kept R v s
@@ -174,13 +169,13 @@ disabled-kill size [] e = e
 disabled-kill size (s ∷ ss) e = tt
 
 -- kill: a refusal too leaves a sound ring
-pub kill-kept : (R : Repertoire) (m : Mode) (text : List ℕ) (v : KillRing) → isText R text ≡ true → Sound R v → Kept R v (leaves v (killOut m text v))
+pub kill-kept : (R : Repertoire) (m : Mode) (text : List ℕ) (v : KillRing) → isText R text ≡ true → Sound R v → Kept R v (leaves (killOut m text v) v)
 unfolding killOut
 kill-kept R m text v t s =
-    cond-ind (λ (o : Outcome KillRing). Kept R v (leaves v o)) (eqb (v .size) 0) (answered 0 0 0 (withAction v Kill)) (cond (ltb 4096 (length after)) (refused 11) (answered 0 0 0 (stored i after v)))
+    cond-ind (λ (o : Outcome KillRing). Kept R v (leaves o v)) (eqb (v .size) 0) (answered 0 0 0 (withAction v Kill)) (cond (ltb 4096 (length after)) (refused 11) (answered 0 0 0 (stored i after v)))
     (λ e. record { size = refl; sound = record { size = s .size; count = s .count; index = s .index; slots = s .slots; action = disabled-kill (v .size) (v .slots) (eqb-true _ _ e) } })
     (λ e.
-    cond-ind (λ (o : Outcome KillRing). Kept R v (leaves v o)) (ltb 4096 (length after)) (refused 11) (answered 0 0 0 (stored i after v))
+    cond-ind (λ (o : Outcome KillRing). Kept R v (leaves o v)) (ltb 4096 (length after)) (refused 11) (answered 0 0 0 (stored i after v))
     (λ f. same-kept R v s)
     (λ f.
     let b = target-below R v s (some-of _ (eqb-false _ _ e)) in
@@ -210,27 +205,27 @@ new-sound R size h = record { size = h; count = omega arith; index = refl; slots
 
 module _ (R : Repertoire) (l : Lent) where
   -- where the checks pass, the outcome decides
-  called-kept : (n : ℕ) (o : Outcome KillRing) → n ≡ 0 → Kept R (valueOf l) (leaves (valueOf l) o) → Kept R (valueOf l) (leaves (valueOf l) (called n o))
-  called-kept n o e k = called-passed (λ (x : Outcome KillRing). Kept R (valueOf l) (leaves (valueOf l) x)) o 0 n e refl k
+  called-kept : (n : ℕ) (o : Outcome KillRing) → n ≡ 0 → Kept R (valueOf l) (leaves o (valueOf l)) → Kept R (valueOf l) (leaves (called n o) (valueOf l))
+  called-kept n o e k = called-passed (λ (x : Outcome KillRing). Kept R (valueOf l) (leaves x (valueOf l))) o 0 n e refl k
 
   -- what the checks pass is sound
   sound-of : (a b : Bool) → checked R l a b ≡ 0 → Sound R (valueOf l)
   sound-of a b e = ready-sound R l (passed R l a b e)
 
   -- reset
-  pub reset-leaves : checked R l false false ≡ 0 → Kept R (valueOf l) (leaves (valueOf l) (resetCall R l))
+  pub reset-leaves : checked R l false false ≡ 0 → Kept R (valueOf l) (leaves (resetCall R l) (valueOf l))
   reset-leaves e = called-kept (checked R l false false) (resetOut (valueOf l)) e (reset-kept R (valueOf l) (sound-of false false e))
 
   -- yank
-  pub yank-leaves : checked R l false false ≡ 0 → Kept R (valueOf l) (leaves (valueOf l) (yankCall R l))
+  pub yank-leaves : checked R l false false ≡ 0 → Kept R (valueOf l) (leaves (yankCall R l) (valueOf l))
   yank-leaves e = called-kept (checked R l false false) (yankOut (valueOf l)) e (yank-kept R (valueOf l) (sound-of false false e))
 
   -- yank_pop
-  pub pop-leaves : checked R l false false ≡ 0 → Kept R (valueOf l) (leaves (valueOf l) (yankPopCall R l))
+  pub pop-leaves : checked R l false false ≡ 0 → Kept R (valueOf l) (leaves (yankPopCall R l) (valueOf l))
   pop-leaves e = called-kept (checked R l false false) (yankPopOut (valueOf l)) e (pop-kept R (valueOf l) (sound-of false false e))
 
   -- kill, in any direction
-  pub kill-leaves : (text : List ℕ) (m : Mode) → checked R l false (not (isText R text)) ≡ 0 → Kept R (valueOf l) (leaves (valueOf l) (killBy R l text (code.Is m)))
+  pub kill-leaves : (text : List ℕ) (m : Mode) → checked R l false (not (isText R text)) ≡ 0 → Kept R (valueOf l) (leaves (killBy R l text (code.Is m)) (valueOf l))
   kill-leaves text m e =
       called-kept (checked R l false (not (isText R text))) (killOut m text (valueOf l)) e
       (kill-kept R m text (valueOf l) (not-false (isText R text) (own-passed R l false (not (isText R text)) e .1)) (sound-of false (not (isText R text)) e))

@@ -8,7 +8,7 @@ use borrow.Author.Tests.{le-ltb}
 use lib.ListN.{length}
 use Rattle.unicode.specs.Repertoire.{Repertoire}
 use Rattle.unicode.specs.Text.{isText}
-use Rattle.checks.specs.Outcome.{Outcome, refused, answered, called}
+use Rattle.checks.specs.Outcome.{Outcome, refused, answered, called, leaves}
 use Rattle.kill_ring.specs.declared.Ring.{Ring}
 use Rattle.kill_ring.specs.declared.Left.{Left}
 use Rattle.kill_ring.specs.declared.Action.{Action}
@@ -22,7 +22,7 @@ use Rattle.kill_ring.proofs.Passed.{Ready, passed}
 use Rattle.kill_ring.proofs.Value.{cond-ind}
 use Rattle.kill_ring.proofs.Kills.{ready-held}
 use Rattle.kill_ring.proofs.Found.{passes-ready, found}
-use Rattle.kill_ring.proofs.Kept.{leaves, Kept, new-sound, reset-leaves, yank-leaves, pop-leaves, kill-leaves}
+use Rattle.kill_ring.proofs.Kept.{Kept, new-sound, reset-leaves, yank-leaves, pop-leaves, kill-leaves}
 
 -- a ring's record and buffers that the next call is lent
 pub record Next (R : Repertoire) (v : KillRing) (g : Ring) (slots lens : List ℕ) : Type 0 where
@@ -37,8 +37,8 @@ held-next R v g slots lens sound bytes numbers held e =
     (record { ready = passes-ready R slots lens v sound bytes numbers held; value = found R slots lens v sound bytes numbers held })
 
 -- after any call that the checks pass
-pub next : (R : Repertoire) (l : Lent) (o : Outcome KillRing) (r : Left) (s t : List ℕ) → Ready R l → Kept R (valueOf l) (leaves (valueOf l) o) → Ringed l o r s t → length s ≡ length (l .slots)
-    → length t ≡ length (l .lens) → Next R (leaves (valueOf l) o) (r .ring) s t
+pub next : (R : Repertoire) (l : Lent) (o : Outcome KillRing) (r : Left) (s t : List ℕ) → Ready R l → Kept R (valueOf l) (leaves o (valueOf l)) → Ringed l o r s t → length s ≡ length (l .slots)
+    → length t ≡ length (l .lens) → Next R (leaves o (valueOf l)) (r .ring) s t
 next R l (refused k) r s t p kept done a b =
     let same : lent s t (r .ring) ≡ l = ap₂ (λ (x y : List ℕ). lent x y (r .ring)) (done .bytes .0) (done .bytes .1) ∙ ap (λ (x : Left). lent (l .slots) (l .lens) (x .ring)) (done .left) in
     record { ready = subst (Ready R) (sym same) p; value = ap valueOf same }
@@ -77,24 +77,24 @@ pop-same v = go (v .action)
 
 module _ (R : Repertoire) (l : Lent) (r : Left) where
   -- what such a call leaves
-  quiet-next : (o : Outcome KillRing) → checked R l false false ≡ 0 → Same (valueOf l) o → Kept R (valueOf l) (leaves (valueOf l) o) → r ≡ leftOf (l .ring) o → Next R (leaves (valueOf l) o) (r .ring) (l .slots) (l .lens)
+  quiet-next : (o : Outcome KillRing) → checked R l false false ≡ 0 → Same (valueOf l) o → Kept R (valueOf l) (leaves o (valueOf l)) → r ≡ leftOf (l .ring) o → Next R (leaves o (valueOf l)) (r .ring) (l .slots) (l .lens)
   quiet-next o e h kept q = let p = passed R l false false e in next R l o r (l .slots) (l .lens) p kept (quiet R l o r p h q) refl refl
 
   -- reset
-  pub reset-next : checked R l false false ≡ 0 → r ≡ leftOf (l .ring) (resetCall R l) → Next R (leaves (valueOf l) (resetCall R l)) (r .ring) (l .slots) (l .lens)
+  pub reset-next : checked R l false false ≡ 0 → r ≡ leftOf (l .ring) (resetCall R l) → Next R (leaves (resetCall R l) (valueOf l)) (r .ring) (l .slots) (l .lens)
   reset-next e q = quiet-next (resetCall R l) e (called-same (valueOf l) (checked R l false false) (resetOut (valueOf l)) refl) (reset-leaves R l e) q
 
   -- yank
-  pub yank-next : checked R l false false ≡ 0 → r ≡ leftOf (l .ring) (yankCall R l) → Next R (leaves (valueOf l) (yankCall R l)) (r .ring) (l .slots) (l .lens)
+  pub yank-next : checked R l false false ≡ 0 → r ≡ leftOf (l .ring) (yankCall R l) → Next R (leaves (yankCall R l) (valueOf l)) (r .ring) (l .slots) (l .lens)
   yank-next e q = quiet-next (yankCall R l) e (called-same (valueOf l) (checked R l false false) (yankOut (valueOf l)) (yank-same (valueOf l))) (yank-leaves R l e) q
 
   -- yank_pop
-  pub pop-next : checked R l false false ≡ 0 → r ≡ leftOf (l .ring) (yankPopCall R l) → Next R (leaves (valueOf l) (yankPopCall R l)) (r .ring) (l .slots) (l .lens)
+  pub pop-next : checked R l false false ≡ 0 → r ≡ leftOf (l .ring) (yankPopCall R l) → Next R (leaves (yankPopCall R l) (valueOf l)) (r .ring) (l .slots) (l .lens)
   pop-next e q = quiet-next (yankPopCall R l) e (called-same (valueOf l) (checked R l false false) (yankPopOut (valueOf l)) (pop-same (valueOf l))) (pop-leaves R l e) q
 
   -- ---- kill
   pub kill-next : (text : List ℕ) (m : Mode) (s t : List ℕ) → checked R l false (not (isText R text)) ≡ 0 → Ringed l (killBy R l text (code.Is m)) r s t → length s ≡ length (l .slots)
-      → length t ≡ length (l .lens) → Next R (leaves (valueOf l) (killBy R l text (code.Is m))) (r .ring) s t
+      → length t ≡ length (l .lens) → Next R (leaves (killBy R l text (code.Is m)) (valueOf l)) (r .ring) s t
   kill-next text m s t e done a b = next R l (killBy R l text (code.Is m)) r s t (passed R l false (not (isText R text)) e) (kill-leaves R l text m e) done a b
 
 -- ---- new: with any buffers that are long enough

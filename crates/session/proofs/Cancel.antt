@@ -11,6 +11,7 @@ use Rattle.lists.proofs.Bools.{by-test}
 use Rattle.utf8.specs.Chars.{In}
 use Rattle.unicode.specs.Repertoire.{Repertoire}
 use Rattle.unicode.specs.Text.{isText}
+use Rattle.checks.specs.Outcome.{leaves}
 use Rattle.journal.specs.Change.{Change, begin, end, edit, place, old, turn}
 use Rattle.journal.specs.Layout.{Format}
 use Rattle.journal.specs.Undo.{allSmall}
@@ -20,7 +21,7 @@ use Rattle.undo.specs.Undo.{Walked, trailOf}
 use Rattle.cancel.specs.Cancel.{opens, walkTo, beginsDown, cancelOut}
 use Rattle.cancel.proofs.Cancels.{opens-within}
 use Rattle.session.specs.Calls.{cancel}
-use Rattle.session.specs.Sessions.{leaves, below, openAfter}
+use Rattle.session.specs.Sessions.{below, openAfter}
 use Rattle.session.proofs.Invariant.{openMarks, Groups, Bound, Chain, Inv, no-redo}
 use Rattle.session.proofs.Links.{undo-link, cursor-link, text-link}
 use Rattle.session.proofs.Walks.{small-tail}

@@ -8,11 +8,11 @@ use lib.ListN.{length}
 use Rattle.unicode.specs.Repertoire.{Repertoire}
 use Rattle.journal.specs.Layout.{Format}
 use Rattle.checks.specs.Checks.{ownTests}
-use Rattle.checks.specs.Outcome.{Outcome, called}
+use Rattle.checks.specs.Outcome.{Outcome, called, leaves}
 use Rattle.edit.specs.Plan.{State}
 use Rattle.edit.specs.Calls.{checked, stateOf}
 use Rattle.undo.specs.Undo.{undoOut, redoOut}
-use Rattle.session.specs.Sessions.{Buffers, Handed, lentFor, leaves}
+use Rattle.session.specs.Sessions.{Buffers, Handed, lentFor}
 use Rattle.session.specs.Demand.{Undo, SameTextAndLog, undid, redid, afterUndo, afterRedo, Answered, undoAll, AllHanded, AllAnswered, Units, Demand3}
 use Rattle.session.proofs.Invariant.{Bound, Inv}
 use Rattle.session.proofs.Handed.{found, passes, few}

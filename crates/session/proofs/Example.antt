@@ -9,6 +9,7 @@ use Rattle.utf8.specs.Chars.{charsFrom, validFrom, startBefore}
 use Rattle.utf8.specs.Encode.{scalar, size, encode}
 use Rattle.unicode.specs.Repertoire.{catalogue, isMember, isControl, isMark, isAlnum}
 use Rattle.unicode.specs.Text.{isText, isChar}
+use Rattle.checks.specs.Outcome.{leaves}
 use Rattle.checks.specs.Checks.{refusal}
 use Rattle.journal.specs.Change.{Change, begin, end, edit, insert, delete}
 use Rattle.journal.specs.Layout.{narrow, sizeOf, textsAt, changeAt, wholeAt, decodeAt}
@@ -25,7 +26,7 @@ use Rattle.undo.specs.Undo.{walk, undoOut}
 use Rattle.cancel.specs.Cancel.{opens, walkTo, beginsDown, cancelOut}
 use Rattle.session.specs.Calls as calls
 use Rattle.session.specs.Calls.{Asked}
-use Rattle.session.specs.Sessions.{Buffers, Handed, Call, step, leaves, run, lastOf, below, openAfter, Allowed, Listed}
+use Rattle.session.specs.Sessions.{Buffers, Handed, Call, step, run, lastOf, below, openAfter, Allowed, Listed}
 use Rattle.session.specs.Demand.{Starts, Demand3}
 use Rattle.session.proofs.Played.{lending}
 use Rattle.session.proofs.Theorem.{buffersOf, demand-3-catalogue}

@@ -11,7 +11,7 @@ use borrow.Author.Tests.{lt-leb, ne-eqb}
 use Rattle.lists.proofs.Bools.{and-both, by-test}
 use Rattle.unicode.specs.Repertoire.{Repertoire}
 use Rattle.checks.specs.Checks.{Tests, refusal, both, ownTests}
-use Rattle.checks.specs.Outcome.{Outcome, refused, called}
+use Rattle.checks.specs.Outcome.{Outcome, refused, called, leaves}
 use Rattle.journal.specs.Change.{Change, begin, end, edit}
 use Rattle.journal.specs.Layout.{Format}
 use Rattle.journal.specs.Groups.{Log, endAll, endsAny, ended}
@@ -23,7 +23,7 @@ use Rattle.edit.specs.Plan.{State}
 use Rattle.edit.specs.Calls.{Lent, logLent, sizesOf, stateOf}
 use Rattle.session.specs.Calls.{Asked, loggedBy, outcomeOf}
 use Rattle.session.specs.Calls as asked
-use Rattle.session.specs.Sessions.{leaves, openAfter}
+use Rattle.session.specs.Sessions.{openAfter}
 use Rattle.session.proofs.Invariant.{Nest, Open, Groups, Chain, Inv, no-redo}
 
 -- ---- end's loop

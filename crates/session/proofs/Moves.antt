@@ -34,6 +34,7 @@ use Rattle.lines.specs.Columns.{lineUp, lineDown}
 use Rattle.lines.specs.declared.Range.{Range}
 use Rattle.lines.specs.declared.Range.the-variants.{Places, Nowhere}
 use Rattle.lines.proofs.Places.{start-of-line-place, end-of-line-place, line-up-place, line-down-place}
+use Rattle.checks.specs.Outcome.{leaves}
 use Rattle.checks.specs.Checks.{Tests, noTests, both, refusal, lineTests, ownTests}
 use Rattle.checks.specs.Answers.{says, unlessRefused, movedTo, answered}
 use Rattle.checks.specs.declared.Line.{Line}
@@ -47,7 +48,6 @@ use Rattle.edit.specs.Plan.{State}
 use Rattle.edit.specs.Calls.{Lent, textOf, stateOf}
 use Rattle.session.specs.Calls.{MoveCall, moveAnswer, movedBy}
 use Rattle.session.specs.Calls as asked
-use Rattle.session.specs.Sessions.{leaves}
 use Rattle.session.proofs.Invariant.{Inv}
 
 -- a movement is refused by n, or it answers

@@ -4,7 +4,7 @@ use mathlib.Core.Path.{_≡_, ap, subst, sym}
 use mathlib.Core.List.{List}
 use lib.ListN.{length, take}
 use Rattle.unicode.specs.Repertoire.{Repertoire}
-use Rattle.checks.specs.Outcome.{Outcome, refused, answered}
+use Rattle.checks.specs.Outcome.{Outcome, refused, answered, leaves}
 use Rattle.journal.specs.Layout.{Format}
 use Rattle.journal.specs.Groups.{Log}
 use Rattle.changeset.specs.Calls as logs
@@ -13,7 +13,7 @@ use Rattle.edit.specs.Plan.{State}
 use Rattle.edit.specs.Calls.{logLent, Edited, Stored}
 use Rattle.edit.specs.declared.EditAnswer.{EditAnswer}
 use Rattle.session.specs.Calls.{loggedBy}
-use Rattle.session.specs.Sessions.{Buffers, lentFor, leaves}
+use Rattle.session.specs.Sessions.{Buffers, lentFor}
 
 -- the state s stands in these bytes, and an answer has its line and its log
 pub record Leaves (F : Format) (s : State) (r : EditAnswer) (t rb tb : List ℕ) : Type 0 where

@@ -4,7 +4,7 @@ use mathlib.Core.List.{List, [], _∷_, _++_}
 use lib.ListN.{length, replicate}
 use Rattle.unicode.specs.Repertoire.{catalogue}
 use Rattle.checks.specs.declared.Line.{Line}
-use Rattle.checks.specs.Outcome.{Outcome}
+use Rattle.checks.specs.Outcome.{Outcome, leaves}
 use Rattle.journal.specs.Change.{Change}
 use Rattle.journal.specs.Layout.{narrow, encodeRecords, encodeTexts}
 use Rattle.changeset.specs.Calls.{row, logOf, truncateCall}
@@ -12,7 +12,6 @@ use Rattle.edit.specs.Plan.{State}
 use Rattle.edit.specs.Calls.{Lent, lent, logLent}
 use Rattle.session.specs.Calls as calls
 use Rattle.session.specs.Calls.{Asked, loggedBy, outcomeOf}
-use Rattle.session.specs.Sessions.{leaves}
 
 -- a text of len bytes with the cursor at a place
 abbrev pub at : ℕ → ℕ → Line

@@ -3,11 +3,10 @@ use Prim.Native.Nat.{ℕ, _*_}
 use mathlib.Core.List.{List, [], _∷_, _++_}
 use lib.ListN.{length}
 use Rattle.unicode.specs.Repertoire.{catalogue}
-use Rattle.checks.specs.Outcome.{Outcome}
+use Rattle.checks.specs.Outcome.{Outcome, leaves}
 use Rattle.journal.specs.Layout.{le}
 use Rattle.kill_ring.specs.Ring.{KillRing, empty}
 use Rattle.kill_ring.specs.Calls.{Lent, lent, ringOf, resetCall, killCall}
-use Rattle.kill_ring.proofs.Kept.{leaves}
 use Rattle.session.proofs.Played.{buffer}
 
 -- each slot in 4,096 bytes, and its length in 2
@@ -37,7 +36,7 @@ resetting l = resetCall catalogue l
 -- what they leave
 abbrev pub played : List Doing → KillRing → KillRing
 played [] v = v
-played (f ∷ fs) v = played fs (leaves v (f (lending v)))
+played (f ∷ fs) v = played fs (leaves (f (lending v)) v)
 
 -- from an empty ring of a size
 abbrev pub after : ℕ → List Doing → KillRing

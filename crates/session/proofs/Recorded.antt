@@ -15,6 +15,7 @@ use Rattle.utf8.specs.Chars.{In}
 use Rattle.unicode.specs.Repertoire.{Repertoire}
 use Rattle.unicode.specs.Text.{isText}
 use Rattle.unicode.proofs.Text.{text-append, text-cut, text-nil}
+use Rattle.checks.specs.Outcome.{leaves}
 use Rattle.journal.specs.Change.{Edit, insert, delete, replace, Change, begin, end, edit, place, old, new}
 use Rattle.journal.specs.Layout.{Format}
 use Rattle.journal.specs.Recording.{Joined, apart, joined, joinIf, join, onJoined, note}
@@ -22,7 +23,6 @@ use Rattle.journal.specs.Undo.{Sizes, allSmall, fits}
 use Rattle.edit.specs.Plan.{Piece, typed, pasted, cutting, swapping, Plan, State, Suits, AllSuit, splice, made, recorded, blank, notedOr, textAfter, listAfter, redoAfter, tooLong, planned, edited}
 use Rattle.edit.proofs.Parts.{part-none, part-between, part-text}
 use Rattle.edit.proofs.Pieces.{editAt, joinsAt, recorded-as, suits-text, made-text, blank-texts}
-use Rattle.session.specs.Sessions.{leaves}
 use Rattle.session.proofs.Invariant.{Nest, Groups, Link, Chain, Here, Inv}
 use Rattle.session.proofs.Links.{turned}
 

@@ -7,7 +7,7 @@ use mathlib.Core.List.{List, [], _∷_}
 use lib.ListN.{length}
 use Rattle.unicode.specs.Repertoire.{Repertoire, Lawful}
 use Rattle.checks.specs.Checks.{both, lineTests, ownTests}
-use Rattle.checks.specs.Outcome.{Outcome, called}
+use Rattle.checks.specs.Outcome.{Outcome, called, leaves}
 use Rattle.journal.specs.Change.{Change, begin as Change·begin, end as Change·end, edit as Change·edit}
 use Rattle.journal.specs.Layout.{Format}
 use Rattle.changeset.specs.Logs.{logTests}
@@ -16,7 +16,7 @@ use Rattle.edit.specs.Calls.{Lent, textOf, sizesOf, checked, stateOf}
 use Rattle.undo.specs.Undo.{undoOut, redoOut}
 use Rattle.cancel.specs.Cancel.{cancelOut}
 use Rattle.session.specs.Calls.{EditCall, editOutcome, Asked, edit, move, begin, end, lastInsert, undo, redo, cancel, outcomeOf}
-use Rattle.session.specs.Sessions.{Buffers, Handed, lentFor, Call, step, leaves, run, lastOf, openAfter, Allowed, Listed}
+use Rattle.session.specs.Sessions.{Buffers, Handed, lentFor, Call, step, run, lastOf, openAfter, Allowed, Listed}
 use Rattle.session.proofs.Invariant.{Bound, Chain, Inv}
 use Rattle.session.proofs.Handed.{found}
 use Rattle.session.proofs.Recorded.{New, plan-keeps}

@@ -6,12 +6,12 @@ use mathlib.Core.List.{List, [], _∷_}
 use lib.ListN.{length}
 use Rattle.unicode.specs.Repertoire.{Repertoire}
 use Rattle.checks.specs.Checks.{ownTests}
-use Rattle.checks.specs.Outcome.{Outcome, numberIn}
+use Rattle.checks.specs.Outcome.{Outcome, numberIn, leaves}
 use Rattle.journal.specs.Layout.{Format}
 use Rattle.edit.specs.Plan.{State}
 use Rattle.edit.specs.Calls.{Lent, checked}
 use Rattle.undo.specs.Undo.{undoCall, redoCall, undoOut}
-use Rattle.session.specs.Sessions.{Buffers, Handed, lentFor, leaves}
+use Rattle.session.specs.Sessions.{Buffers, Handed, lentFor}
 
 -- "the list of calls starts with both lists of the log empty, level 0, and a text, cursor and buffers that checks 2 to 6 pass"
 pub record Starts (R : Repertoire) (F : Format) (l : Lent) : Type 0 where

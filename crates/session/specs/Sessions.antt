@@ -6,7 +6,7 @@ use mathlib.Core.List.{List, [], _∷_}
 use lib.Dec.{eqb, leb}
 use lib.ListN.{length}
 use Rattle.unicode.specs.Repertoire.{Repertoire}
-use Rattle.checks.specs.Outcome.{Outcome, refused, answered, numberIn}
+use Rattle.checks.specs.Outcome.{Outcome, refused, answered, numberIn, leaves}
 use Rattle.journal.specs.Layout.{Format}
 use Rattle.changeset.specs.Calls.{logOf}
 use Rattle.edit.specs.Plan.{State}
@@ -48,11 +48,6 @@ pub record Call : Type 0 where
 -- ---- a call, and what it leaves
 abbrev pub step : Repertoire → Format → Call → State → Outcome State
 step R F c s = outcomeOf R F (lentFor F s (c .buffers)) (c .asked)
-
--- a refusal changes nothing
-abbrev pub leaves : Outcome State → State → State
-leaves (refused k) s = s
-leaves (answered k a b s′) s = s′
 
 unfoldable pub run : Repertoire → Format → List Call → State → State
 run R F [] s = s
