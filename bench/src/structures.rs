@@ -257,16 +257,18 @@ struct Row {
 
 fn rows() -> Vec<Row> {
     let middle = |_, len, _| len / 2;
+    let anywhere = |_, len, random| random % (len + 1);
     let kinds: [(&str, fn(usize, usize, usize) -> usize, bool); 5] = [
         ("a byte put in at one place", middle, true),
         ("a byte cut at one place", middle, false),
-        ("a byte put in anywhere", |_, len, random| random % (len + 1), true),
-        ("a byte cut anywhere", |_, len, random| random % (len + 1), false),
+        ("a byte put in anywhere", anywhere, true),
+        ("a byte cut anywhere", anywhere, false),
         ("a byte cut by turns at both ends", |i, len, _| i % 2 * len, false),
     ];
-    let sizes = [(1, 3_000, TEXT), (250, 750, TEXT), (1_000, 3_000, TEXT), (1_000, 120_000, LONG)];
-    let sized = |(name, place, puts)| sizes.map(|(count, bytes, room)| Row { name, count, bytes, room, place, puts });
-    kinds.into_iter().flat_map(sized).collect()
+    let row = |(name, place, puts), (count, bytes, room)| Row { name, count, bytes, room, place, puts };
+    let single = kinds[..2].iter().map(|kind| row(*kind, (1, 3_000, TEXT)));
+    let sizes = [(250, 750, TEXT), (1_000, 3_000, TEXT), (1_000, 120_000, LONG)];
+    single.chain(kinds.into_iter().flat_map(|kind| sizes.map(|size| row(kind, size)))).collect()
 }
 
 impl Row {
