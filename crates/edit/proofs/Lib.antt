@@ -9,7 +9,6 @@ pub mod Steps
 pub mod Held
 pub mod Left
 pub mod Rooms
-pub mod Pair
 pub mod Tests
 pub mod Cursor
 pub mod Suits

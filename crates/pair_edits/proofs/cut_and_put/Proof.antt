@@ -5,14 +5,14 @@ use Prim.Native.Nat.{_≤_}
 use borrow.Author.Tests.{not-true, not-false}
 use denote.Ref.{now}
 use Rattle.records.specs.Formats.{asFormat}
 use Rattle.edit.specs.Plan.{cutting, pasted}
 use Rattle.edit.specs.Calls.{lent}
 use Rattle.edit.proofs.Answers.{length-kept, nine, ten}
-use Rattle.edit.proofs.Pair.{cut-suits, pair-long, pair-short, pair-mid, pair-made}
+use Rattle.pair_edits.proofs.Pair.{cut-suits, pair-long, pair-short, pair-mid, pair-made}
 use Rattle.edit.proofs.Left.{next-suits}
 use borrow.Author.Needs.{needs}
-use Rattle.edit.proofs.cut_and_put.Statement.{statement}
-use Rattle.edit.proofs.cut_and_put.Tie as tie
+use Rattle.pair_edits.proofs.cut_and_put.Statement.{statement}
+use Rattle.pair_edits.proofs.cut_and_put.Tie as tie
 
 sub-left : tie.Need-sub-left
 sub-left c = (cut-suits (asFormat (c .before .before .before .before .args .f)) (lent (now (c .before .before .before .before .args .text)) (now (c .before .before .before .before .args .records)) (now (c .before .before .before .before .args .texts)) (c .before .before .before .before .args .line) (c .before .before .before .before .args .log)) ((c .before .before .before .before .pre) .1 .0) ((c .before .before .before .before .args .from)) ((c .before .before .before .before .args .to)) (c .before .before .before .before .args .at) (now (c .before .before .before .before .args .new)) ((c .before .before .before .before .pre) .1 .1)) .0

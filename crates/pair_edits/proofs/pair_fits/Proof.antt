@@ -10,13 +10,13 @@ use Rattle.cluster.specs.Clusters.{clustersOf}
 use Rattle.journal.specs.Recording.{isSingle}
 use Rattle.records.specs.Formats.{asFormat}
 use Rattle.records.proofs.Numbers.{top-max}
 use Rattle.edit.specs.Calls.{lent}
 use Rattle.edit.proofs.Answers.{length-kept}
 use Rattle.edit.proofs.Parts.{part-text, raw-part}
-use Rattle.edit.proofs.Pair.{cut-suits, first-narrow, second-narrow, pair-room}
+use Rattle.pair_edits.proofs.Pair.{cut-suits, first-narrow, second-narrow, pair-room}
 use borrow.Author.Needs.{needs}
-use Rattle.edit.proofs.pair_fits.Statement.{statement}
-use Rattle.edit.proofs.pair_fits.Tie as tie
+use Rattle.pair_edits.proofs.pair_fits.Statement.{statement}
+use Rattle.pair_edits.proofs.pair_fits.Tie as tie
 
 sub-is-single : tie.Need-sub-is-single
 sub-is-single c = (cut-suits (asFormat (c .before .before .before .before .args .f)) (lent (now (c .before .before .before .before .args .text)) (now (c .before .before .before .before .args .records)) (now (c .before .before .before .before .args .texts)) (c .before .before .before .before .args .line) (c .before .before .before .before .args .log)) ((c .before .before .before .before .pre) .1 .0) ((c .before .before .before .before .args .from)) ((c .before .before .before .before .args .to)) (c .before .before .before .before .args .at) (now (c .before .before .before .before .args .new)) ((c .before .before .before .before .pre) .1 .1 .0)) .0
