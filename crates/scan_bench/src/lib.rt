@@ -29,7 +29,8 @@ pub extern "C" fn tlf_bench_check_log(records: &[u8], texts: &[u8], log: Log) ->
 // The gap of a text of len bytes moved from a place to another. Places that do not fit move nothing.
 #[no_mangle]
 pub extern "C" fn tlf_bench_move_gap(s: &mut [u8], len: usize, from: usize, to: usize)
-    ensures { λ _. ⌜ ((from ≤ len) × (to ≤ len) × (len ≤ length (now (s .entry))) → gapped len to (now (s .exit)) ≡ gapped len from (now (s .entry))) ⌝ }
+    ensures fit { λ _. ⌜ ((from ≤ len) × (to ≤ len) × (len ≤ length (now (s .entry))) → gapped len to (now (s .exit)) ≡ gapped len from (now (s .entry))) ⌝ }
+    ensures unfit { λ _. ⌜ (((from ≤ len) × (to ≤ len) × (len ≤ length (now (s .entry))) → ⊥) → now (s .exit) ≡ now (s .entry)) ⌝ }
 {
     if s.len() < len {
         return;

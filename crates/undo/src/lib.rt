@@ -172,31 +172,6 @@ fn undo_noted(
     }
 }
 
-// undo_units, with room to note the sizes of the undo list's records.
-fn note_and_undo(
-    f: Format,
-    text: &mut [u8],
-    records: &[u8],
-    texts: &[u8],
-    sizes: &mut [u8],
-    line: Line,
-    log: Log,
-    n: usize,
-) -> EditAnswer
-    requires { ⌜ Fit f ⌝ }
-    requires { ⌜ Ready (asFormat f) (lent (now text) (now records) (now texts) line log) ⌝ }
-    requires { ⌜ log .undo .records ≤ length (now sizes) ⌝ }
-    ensures outcome { λ r. ⌜ Edited (asFormat f) (lent (now (text .entry)) (now (records .entry)) (now (texts .entry)) line log)
-        (undoOut (length (now (text .entry))) n (stateOf catalogue (asFormat f) (lent (now (text .entry)) (now (records .entry)) (now (texts .entry)) line log)))
-        r (now (text .exit)) (now (records .entry)) (now (texts .entry)) ⌝ }
-    ensures still { λ r. ⌜ (r .log ≡ log → now (text .exit) ≡ now (text .entry)) ⌝ }
-{
-    let u = log.undo;
-    let ur = u.records;
-    note_sizes(f, &records[..ur], sizes);
-    undo_noted(f, text, records, texts, sizes, line, log, n)
-}
-
 // Undo on a text and a log that the checks pass: the newest records, until n units are done. A unit is done where no End that
 // was passed waits for its Begin. An array for sizes is cleared at each call, so a short list has a short one.
 fn undo_units(
@@ -216,12 +191,15 @@ fn undo_units(
     ensures still { λ r. ⌜ (r .log ≡ log → now (text .exit) ≡ now (text .entry)) ⌝ }
 {
     let u = log.undo;
-    if u.records <= 1024 {
+    let ur = u.records;
+    if ur <= 1024 {
         let mut few = [0u8; 1024];
-        return note_and_undo(f, text, records, texts, &mut few, line, log, n);
+        note_sizes(f, &records[..ur], &mut few);
+        return undo_noted(f, text, records, texts, &few, line, log, n);
     }
     let mut sizes = [0u8; 32768];
-    note_and_undo(f, text, records, texts, &mut sizes, line, log, n)
+    note_sizes(f, &records[..ur], &mut sizes);
+    undo_noted(f, text, records, texts, &sizes, line, log, n)
 }
 
 // Where the log is as it was, no record was handled, and not a byte of the text's buffer is changed (still).

@@ -1,13 +1,43 @@
 use borrow.Author.Needs.{needs}
 use native.Mathlib.Omega.{arith}
+use mathlib.Core.Path.{sym}
+use lib.Seq.{length-take-le}
+use denote.Ref.{now}
+use Rattle.records.specs.Formats.{asFormat}
+use Rattle.changeset.proofs.Recorded.{lays, listed}
+use Rattle.edit.specs.Calls.{lent, logLent}
 use Rattle.undo.proofs.undo_units.Statement.{statement}
 use Rattle.undo.proofs.undo_units.Tie as tie
 
-slice-aggregate-note-and-undo : tie.Need-slice-aggregate-note-and-undo
-slice-aggregate-note-and-undo c = search needs
+slice-aggregate-note-sizes : tie.Need-slice-aggregate-note-sizes
+slice-aggregate-note-sizes c =
+    let s = c .before .before .before .before .before .before in
+    let a = s .args in
+    sym (length-take-le (a .log .undo .records) (now (a .records)) (omega (arith, s .pre .1 .log .hold .room)))
 
-note-and-undo-requires : tie.Need-note-and-undo-requires
-note-and-undo-requires c κs = search needs
+slice-aggregate-note-sizes-2 : tie.Need-slice-aggregate-note-sizes-2
+slice-aggregate-note-sizes-2 c = search needs
+
+note-sizes-requires : tie.Need-note-sizes-requires
+note-sizes-requires c κs =
+    let s = c .before .before .before .before .before .before .before in
+    let a = s .args in
+    let h = s .pre .1 in
+    let l = lent (now (a .text)) (now (a .records)) (now (a .texts)) (a .line) (a .log) in
+    let e = length-take-le (a .log .undo .records) (now (a .records)) (omega (arith, h .log .hold .room)) in
+    (s .pre .0, (listed (asFormat (a .f)) (logLent l) (h .log), omega (arith, e, c .before .before .if1 .taken)))
+
+slice-aggregate-undo-noted : tie.Need-slice-aggregate-undo-noted
+slice-aggregate-undo-noted c = search needs
+
+undo-noted-requires : tie.Need-undo-noted-requires
+undo-noted-requires c κs =
+    let s = c .before .before .before .before .before .before .before .before .before .before .before in
+    let a = s .args in
+    let h = s .pre .1 in
+    let l = lent (now (a .text)) (now (a .records)) (now (a .texts)) (a .line) (a .log) in
+    let n = c .before .before .before .note-sizes in
+    (s .pre .0, (h, (omega (arith, n .kept .1 .1 .0, c .before .before .before .before .before .before .if1 .taken), n .ensures _ _ (lays (asFormat (a .f)) (logLent l) (h .log)) .1)))
 
 same-length : tie.Need-same-length
 same-length c = search needs
@@ -15,14 +45,35 @@ same-length c = search needs
 returns : tie.Need-returns
 returns c = search needs
 
-slice-aggregate-note-and-undo-2 : tie.Need-slice-aggregate-note-and-undo-2
-slice-aggregate-note-and-undo-2 c = search needs
+slice-aggregate-note-sizes-3 : tie.Need-slice-aggregate-note-sizes-3
+slice-aggregate-note-sizes-3 c =
+    let s = c .before .before .before .before .before .before in
+    let a = s .args in
+    sym (length-take-le (a .log .undo .records) (now (a .records)) (omega (arith, s .pre .1 .log .hold .room)))
 
-note-and-undo-requires-2 : tie.Need-note-and-undo-requires-2
-note-and-undo-requires-2 c κs =
-    let s = c .before .before .before .before .before .before .before .before in
+slice-aggregate-note-sizes-4 : tie.Need-slice-aggregate-note-sizes-4
+slice-aggregate-note-sizes-4 c = search needs
+
+note-sizes-requires-2 : tie.Need-note-sizes-requires-2
+note-sizes-requires-2 c κs =
+    let s = c .before .before .before .before .before .before .before in
+    let a = s .args in
     let h = s .pre .1 in
-    (s .pre .0, (h, omega (arith, h .log .hold .room, h .log .records)))
+    let l = lent (now (a .text)) (now (a .records)) (now (a .texts)) (a .line) (a .log) in
+    let e = length-take-le (a .log .undo .records) (now (a .records)) (omega (arith, h .log .hold .room)) in
+    (s .pre .0, (listed (asFormat (a .f)) (logLent l) (h .log), omega (arith, e, h .log .hold .room, h .log .records)))
+
+slice-aggregate-undo-noted-2 : tie.Need-slice-aggregate-undo-noted-2
+slice-aggregate-undo-noted-2 c = search needs
+
+undo-noted-requires-2 : tie.Need-undo-noted-requires-2
+undo-noted-requires-2 c κs =
+    let s = c .before .before .before .before .before .before .before .before .before .before .before in
+    let a = s .args in
+    let h = s .pre .1 in
+    let l = lent (now (a .text)) (now (a .records)) (now (a .texts)) (a .line) (a .log) in
+    let n = c .before .before .before .note-sizes2 in
+    (s .pre .0, (h, (omega (arith, n .kept .1 .1 .0, h .log .hold .room, h .log .records), n .ensures _ _ (lays (asFormat (a .f)) (logLent l) (h .log)) .1)))
 
 same-length-2 : tie.Need-same-length-2
 same-length-2 c = search needs
@@ -34,11 +85,17 @@ pub undo-units-spec : {M : Type 1} → statement M
 undo-units-spec =
     tie.close
     (tie.spec
-    slice-aggregate-note-and-undo
-    note-and-undo-requires
+    slice-aggregate-note-sizes
+    slice-aggregate-note-sizes-2
+    note-sizes-requires
+    slice-aggregate-undo-noted
+    undo-noted-requires
     same-length
     returns
-    slice-aggregate-note-and-undo-2
-    note-and-undo-requires-2
+    slice-aggregate-note-sizes-3
+    slice-aggregate-note-sizes-4
+    note-sizes-requires-2
+    slice-aggregate-undo-noted-2
+    undo-noted-requires-2
     same-length-2
     returns-2)
