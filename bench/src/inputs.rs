@@ -25,6 +25,13 @@ pub fn text(piece: &str, len: usize) -> String {
     text
 }
 
+/// Numbers below 2^31 that follow no rule a reader would see, the same at each run.
+pub fn randoms() -> impl Iterator<Item = usize> {
+    std::iter::successors(Some(1_u64), |n| Some(n.wrapping_mul(6_364_136_223_846_793_005).wrapping_add(1)))
+        .skip(1)
+        .map(|n| (n >> 33) as usize)
+}
+
 /// What is typed: a space and a word by turns, as in English. A word joins the record of the space in front of it.
 const WORDS: [&str; 20] = [
     "rentals", "and", "leases", "of", "the", "parish", "box", "12", "with", "two", "maps", "1701", "to", "1749", "ink",

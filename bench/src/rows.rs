@@ -130,6 +130,7 @@ fn more() -> Vec<Row> {
         Row::new("undo of all units in one call, at both ends of 3,000", UnitsAtEndsOf3000, UndoAll, UNITS, UNIT_SIZES),
         Row::new("undo of 250 units in one call, at both ends", UnitsAtEndsOfText, UndoAll, BYTES, [960, 1_920, 3_840]),
         Row::new("undo of all units in one call, at both ends", UnitsAtBothEnds, UndoAll, units_and_text, UNIT_SIZES),
+        Row::new("undo of all units in one call, anywhere", UnitsAnywhere, UndoAll, units_and_text, UNIT_SIZES),
         Row::new("cancel of a group of words", Scene::Group, Cancel, "words", UNIT_SIZES).alone(),
     ]
 }

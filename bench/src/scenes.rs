@@ -1,6 +1,6 @@
 //! What stands in the buffers before a batch of calls.
 use crate::editor::Editor;
-use crate::inputs::{ENGLISH, MIXED, Session, text};
+use crate::inputs::{ENGLISH, MIXED, Session, randoms, text};
 use crate::sizes::SLOTS;
 
 #[derive(Clone, Copy)]
@@ -48,6 +48,8 @@ pub enum Scene {
     UnitsAtEndsOf3000,
     /// 250 spaces typed by turns at the start and at the end of a text of so many bytes, each a unit.
     UnitsAtEndsOfText,
+    /// So many spaces typed anywhere in a text three times as long, each a unit.
+    UnitsAnywhere,
     /// A group of so many words typed, not ended.
     Group,
     /// A ring of 16 slots with so many bytes each.
@@ -91,6 +93,16 @@ fn at_both_ends<E: Editor>(bytes: usize, units: usize) -> E {
     let mut e: E = placed(&text(ENGLISH, bytes), Start);
     for typed in 0..units {
         e.set_cursor(if typed % 2 == 0 { 0 } else { bytes + typed });
+        assert!(e.insert(' '));
+    }
+    e
+}
+
+/// Spaces typed anywhere in a text of so many bytes, each a unit.
+fn anywhere<E: Editor>(bytes: usize, units: usize) -> E {
+    let mut e: E = placed(&text(ENGLISH, bytes), Start);
+    for (typed, random) in (0..units).zip(randoms()) {
+        e.set_cursor(random % (bytes + typed + 1));
         assert!(e.insert(' '));
     }
     e
@@ -143,6 +155,7 @@ pub fn scene<E: Editor>(scene: Scene, size: usize, session: &Session<E>) -> E {
         UnitsAtBothEnds => at_both_ends(3 * size, size),
         UnitsAtEndsOf3000 => at_both_ends(3_000, size),
         UnitsAtEndsOfText => at_both_ends(size, 250),
+        UnitsAnywhere => anywhere(3 * size, size),
         Group => {
             let mut e = E::new("");
             assert!(e.begin());

@@ -1,9 +1,9 @@
-//! Three ways to hold a text while the records of a log are undone, in plain Rust and not proved: the gap that the library
-//! keeps, a list of pieces, a balanced tree of pieces. Each tries 12 and 9 at every record, as undo does.
+//! Four ways to hold a text while the records of a log are undone, in plain Rust and not proved: a gap, blocks (the library
+//! has both), a list of pieces, a balanced tree of pieces. Each tries 12 and 9 at every record, as undo does.
 use std::cell::RefCell;
 use std::ops::Range;
 
-use crate::inputs::{ENGLISH, text};
+use crate::inputs::{ENGLISH, randoms, text};
 use crate::sizes::TEXT;
 use crate::tables::{figure, grouped, head, line};
 use crate::timing::{Check, Figure, checks};
@@ -28,6 +28,7 @@ struct Undone {
 
 /// What a way needs besides the buffer, made beforehand.
 struct Spare {
+    blocks: Blocks,
     pieces: Vec<Piece>,
     nodes: Vec<Node>,
     text: Vec<u8>,
@@ -66,6 +67,108 @@ fn gap(buffer: &mut [u8], undone: &Undone, _: &mut Spare) -> Option<usize> {
         len = len - out + put.len();
     }
     move_gap(buffer, len, at, len);
+    Some(len)
+}
+
+// ---- Blocks of the text, each half full when the text is spread.
+
+const BLOCKS: usize = 32;
+
+/// The bytes of each block, one block behind the other, and how many of them are used.
+struct Blocks {
+    bytes: Vec<u8>,
+    used: [usize; BLOCKS],
+}
+
+impl Blocks {
+    fn new(room: usize) -> Blocks {
+        Blocks { bytes: vec![0; 2 * room.next_multiple_of(BLOCKS)], used: [0; BLOCKS] }
+    }
+
+    fn size(&self) -> usize {
+        self.bytes.len() / BLOCKS
+    }
+
+    fn block(&self, i: usize) -> &[u8] {
+        &self.bytes[i * self.size()..][..self.used[i]]
+    }
+
+    fn spread(&mut self, text: &[u8]) {
+        let (size, mut parts) = (self.size(), text.chunks(self.size() / 2));
+        for (i, used) in self.used.iter_mut().enumerate() {
+            let part = parts.next().unwrap_or_default();
+            self.bytes[i * size..][..part.len()].copy_from_slice(part);
+            *used = part.len();
+        }
+    }
+
+    fn gather(&self, buffer: &mut [u8]) {
+        let mut at = 0;
+        for block in (0..BLOCKS).map(|i| self.block(i)) {
+            buffer[at..at + block.len()].copy_from_slice(block);
+            at += block.len();
+        }
+    }
+
+    /// The block of a place, and the place in it. The text's end is in the last one.
+    fn find(&self, mut place: usize) -> (usize, usize) {
+        let mut i = 0;
+        while i < BLOCKS - 1 && self.used[i] <= place {
+            place -= self.used[i];
+            i += 1;
+        }
+        (i, place)
+    }
+
+    fn splits(&self, place: usize) -> bool {
+        let (i, at) = self.find(place);
+        self.block(i).get(at).is_some_and(|byte| is_tail(*byte))
+    }
+
+    fn take_out(&mut self, place: usize, mut out: usize) {
+        while out > 0 {
+            let (i, at) = self.find(place);
+            let (first, used) = (i * self.size(), self.used[i]);
+            let cut = out.min(used - at);
+            self.bytes.copy_within(first + at + cut..first + used, first + at);
+            self.used[i] -= cut;
+            out -= cut;
+        }
+    }
+
+    /// Puts a text in where its block has room for it; answers whether it has.
+    fn put_in(&mut self, place: usize, put: &[u8]) -> bool {
+        let (i, at) = self.find(place);
+        let (first, used) = (i * self.size(), self.used[i]);
+        if self.size() - used < put.len() {
+            return false;
+        }
+        self.bytes.copy_within(first + at..first + used, first + at + put.len());
+        self.bytes[first + at..][..put.len()].copy_from_slice(put);
+        self.used[i] += put.len();
+        true
+    }
+}
+
+fn blocks(buffer: &mut [u8], undone: &Undone, Spare { blocks, .. }: &mut Spare) -> Option<usize> {
+    let mut len = undone.text.len();
+    blocks.spread(&buffer[..len]);
+    for Record { place, out, put } in &undone.records {
+        let (end, put) = (place + out, &undone.texts[put.clone()]);
+        if end > len || blocks.splits(*place) || blocks.splits(end) || len - out + put.len() > buffer.len() {
+            return None;
+        }
+        blocks.take_out(*place, *out);
+        len -= out;
+        if !blocks.put_in(*place, put) {
+            blocks.gather(buffer);
+            buffer.copy_within(*place..len, place + put.len());
+            buffer[*place..][..put.len()].copy_from_slice(put);
+            blocks.spread(&buffer[..len + put.len()]);
+        }
+        len += put.len();
+    }
+    blocks.gather(buffer);
     Some(len)
 }
 
@@ -241,7 +344,7 @@ fn tree(buffer: &mut [u8], undone: &Undone, Spare { nodes, text, .. }: &mut Spar
 
 // ---- What is undone, and the table.
 
-const WAYS: [(&str, Undo); 3] = [("gap", gap), ("list of pieces", pieces), ("balanced tree", tree)];
+const WAYS: [(&str, Undo); 4] = [("gap", gap), ("blocks", blocks), ("list of pieces", pieces), ("balanced tree", tree)];
 
 /// A row: where the records lie, how many they are, the bytes of the text where none of theirs is in it, its buffer's size.
 struct Row {
@@ -274,10 +377,9 @@ fn rows() -> Vec<Row> {
 impl Row {
     /// Bytes are put in one after the other: by records that put them in, or by a person, so that records cut them again.
     fn undone(&self) -> Undone {
-        let (mut text, mut places, mut random) = (text(ENGLISH, self.bytes).into_bytes(), Vec::new(), 1_usize);
-        for i in 0..self.count {
-            random = random.wrapping_mul(6_364_136_223_846_793_005).wrapping_add(1);
-            let place = (self.place)(i, text.len(), random >> 33);
+        let (mut text, mut places) = (text(ENGLISH, self.bytes).into_bytes(), Vec::new());
+        for (i, random) in (0..self.count).zip(randoms()) {
+            let place = (self.place)(i, text.len(), random);
             text.insert(place, b'-');
             places.push(place);
         }
@@ -294,7 +396,8 @@ impl Row {
 impl Spare {
     fn new(undone: &Undone) -> Spare {
         let nodes = Vec::with_capacity(4 * undone.records.len() + 2);
-        Spare { pieces: Vec::with_capacity(FULL + 3), nodes, text: Vec::with_capacity(undone.room) }
+        let (blocks, text) = (Blocks::new(undone.room), Vec::with_capacity(undone.room));
+        Spare { blocks, pieces: Vec::with_capacity(FULL + 3), nodes, text }
     }
 }
 
@@ -318,7 +421,7 @@ fn check(way: Undo, undone: &Undone) -> Check<'_> {
 }
 
 pub fn measure() -> Vec<Figure> {
-    let three = |row: Row| {
+    let each = |row: Row| {
         let undone = row.undone();
         let first = left(gap, &undone);
         for (name, way) in WAYS {
@@ -326,17 +429,17 @@ pub fn measure() -> Vec<Figure> {
         }
         checks(WAYS.map(|(_, way)| check(way, &undone)))
     };
-    rows().into_iter().flat_map(three).collect()
+    rows().into_iter().flat_map(each).collect()
 }
 
 pub fn print(figures: &[Figure]) {
-    let [gap, pieces, tree] = WAYS.map(|(name, _)| name);
+    let [gap, blocks, pieces, tree] = WAYS.map(|(name, _)| name);
     head(
         "Ways to hold the text while records are undone, in Rust and not proved, nanoseconds a record",
-        &["records", "how many", "bytes of text", gap, pieces, tree],
+        &["records", "how many", "bytes of text", gap, blocks, pieces, tree],
     );
-    for (row, three) in rows().iter().zip(figures.chunks(WAYS.len())) {
+    for (row, each) in rows().iter().zip(figures.chunks(WAYS.len())) {
         let sizes = [row.name.into(), grouped(row.count), grouped(row.bytes)];
-        line(&[&sizes[..], &three.iter().map(figure).collect::<Vec<_>>()].concat());
+        line(&[&sizes[..], &each.iter().map(figure).collect::<Vec<_>>()].concat());
     }
 }

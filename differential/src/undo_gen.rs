@@ -1,5 +1,5 @@
 //! Inputs of undo, redo and cancel: counts, marks, and records that fit a text.
-use crate::checks::splits;
+use crate::checks::{MAX_TEXT, splits};
 use crate::edit_case::Case;
 use crate::edit_lists::{Call, Step};
 use crate::r#gen::{FIRST, Rng, boundary, drawn_text};
@@ -50,22 +50,39 @@ fn drawn_mark(rng: &mut Rng, changes: &Changeset) -> usize {
     }
 }
 
-/// The longest text of a record, and the longest piece of the text that it stands for.
-const LONGEST: usize = 4;
+/// What a text and the records that fit it are like: both are shorter, and the records of a list fewer, than said here.
+pub struct Shape {
+    text: usize,
+    records: usize,
+    /// The longest text of a record, and the longest piece of the text that it stands for.
+    longest: usize,
+    /// One record in so many is at any other place.
+    misplaced: usize,
+}
 
-/// A record that fits this text, which becomes what undoing or redoing it leaves. One in 24 is at any other place.
-fn fitting_record(rng: &mut Rng, text: &mut Vec<u8>, way: Way) -> Change<String> {
+pub const SMALL: Shape = Shape { text: 12, records: 8, longest: 4, misplaced: 24 };
+
+/// Texts and lists that are long enough for records to lie far from each other: the first are of characters, the last are
+/// longer than a block of the library.
+pub const FAR: [Shape; 3] = [
+    Shape { text: 4_000, records: 1_200, longest: 4, misplaced: 4_000 },
+    Shape { text: 4_000, records: 500, longest: 40, misplaced: 2_000 },
+    Shape { text: 3_000, records: 160, longest: 300, misplaced: 1_000 },
+];
+
+/// A record that fits this text, which becomes what undoing or redoing it leaves.
+fn fitting_record(rng: &mut Rng, text: &mut Vec<u8>, way: Way, shape: &Shape) -> Change<String> {
     let place = boundary(rng, text);
-    let mut end = place + rng.below(LONGEST + 1).min(text.len() - place);
+    let mut end = place + rng.below(shape.longest + 1).min(text.len() - place);
     while splits(text, end) {
         end -= 1;
     }
     let goes = String::from_utf8(text[place..end].to_vec()).unwrap();
-    let len = rng.below(LONGEST + 1);
+    let len = rng.below(shape.longest + 1);
     let comes = String::from_utf8(drawn_text(rng, len)).unwrap();
     text.splice(place..end, comes.bytes());
     let other = rng.pick(&[0, 1, text.len(), text.len() + 1, MAX_PLACE]);
-    let place = if rng.one_in(24) { other } else { place };
+    let place = if rng.one_in(shape.misplaced) { other } else { place };
     let (old, new) = if way == Way::Undo { (comes, goes) } else { (goes, comes) };
     match (old.is_empty(), new.is_empty()) {
         (true, _) if !rng.one_in(4) => Change::Insert(place, new),
@@ -79,15 +96,15 @@ const GROUPS: [usize; 3] = [2, 4, 100];
 
 /// Records that fit this text one after the other, the first to be met first, with Begins and Ends among them; the
 /// longest that the text becomes goes to `longest`.
-fn fitting_records(rng: &mut Rng, text: &str, way: Way, longest: &mut usize) -> Vec<Change<String>> {
+fn fitting_records(rng: &mut Rng, text: &str, way: Way, shape: &Shape, longest: &mut usize) -> Vec<Change<String>> {
     let mut text = text.as_bytes().to_vec();
     let mut all = Vec::new();
     let groups = rng.pick(&GROUPS);
-    for _ in 0..rng.below(8) {
+    for _ in 0..rng.below(shape.records) {
         while rng.one_in(groups) {
             all.push(rng.pick(&[&Change::Begin, &Change::End]).clone());
         }
-        all.push(fitting_record(rng, &mut text, way));
+        all.push(fitting_record(rng, &mut text, way, shape));
         *longest = text.len().max(*longest);
     }
     all
@@ -95,16 +112,17 @@ fn fitting_records(rng: &mut Rng, text: &str, way: Way, longest: &mut usize) -> 
 
 /// A text with its cursor and a log whose records fit it: the sizes of the buffers, and the steps from an empty text
 /// and an empty log on. Mostly the longest text just fits, or just does not.
-pub fn fitting(rng: &mut Rng) -> ([usize; 3], Vec<Step>) {
-    let len = rng.below(12);
+pub fn fitting(rng: &mut Rng, shape: &Shape) -> ([usize; 3], Vec<Step>) {
+    let len = rng.below(shape.text);
     let text = String::from_utf8(drawn_text(rng, len)).unwrap();
     let mut longest = len;
-    let mut undo = fitting_records(rng, &text, Way::Undo, &mut longest);
+    let mut undo = fitting_records(rng, &text, Way::Undo, shape, &mut longest);
     undo.reverse();
-    let redo = fitting_records(rng, &text, Way::Redo, &mut longest);
+    let redo = fitting_records(rng, &text, Way::Redo, shape, &mut longest);
     let mut bytes = Bytes::default();
     undo.iter().chain(&redo).for_each(|change| bytes.push(change));
-    let size = rng.pick(&[longest, longest, longest.saturating_sub(1), longest + 1, longest + 40]).max(len);
+    let size = rng.pick(&[longest, longest, longest.saturating_sub(1), longest + 1, longest + 40]);
+    let size = size.min(MAX_TEXT).max(len);
     let sizes = [size, bytes.records.len() + rng.below(3), bytes.texts.len() + rng.below(3)];
 
     let cursor = boundary(rng, text.as_bytes());

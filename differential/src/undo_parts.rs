@@ -1,5 +1,5 @@
-//! The inputs of undo, redo and cancel one by one, in six parts: every small list of groups, small texts with small
-//! records, foreign bytes, the largest texts and logs, faults, drawn lists.
+//! The inputs of undo, redo and cancel one by one, in seven parts: every small list of groups, small texts with small
+//! records, foreign bytes, the largest texts and logs, records far from each other, faults, drawn lists.
 use crate::checks::MAX_TEXT;
 use crate::edit_gen::{Habit, Whose, another_text, damaged, drawn_step, foreign_at};
 use crate::edit_lists::{Call, Played, Step};
@@ -12,7 +12,7 @@ use crate::log_model::Change;
 use crate::runner::Runner;
 use crate::tally::Tally;
 use crate::undo_calls::{CANCEL, ENTRIES, REDO, UNDO, row};
-use crate::undo_gen::{drawn_undo, fitting};
+use crate::undo_gen::{FAR, SMALL, drawn_undo, fitting};
 
 /// `n` comparisons, or the account of the first difference.
 pub fn run(n: u64, seed: u64, trace: bool, tally: &mut Tally) -> Result<(), String> {
@@ -22,6 +22,7 @@ pub fn run(n: u64, seed: u64, trace: bool, tally: &mut Tally) -> Result<(), Stri
     every_small_record(&mut runner, n / 6)?;
     foreign_anywhere(&mut runner, n / 12)?;
     largest(&mut runner, n)?;
+    far(&mut runner, seed, n)?;
     faults(&mut runner, &mut rng, n)?;
     drawn(&mut runner, &mut rng, n)
 }
@@ -180,6 +181,20 @@ fn largest(runner: &mut Runner, n: u64) -> Result<(), String> {
     Ok(())
 }
 
+/// A 64th of `n` comparisons, if so many are left: lists of records that lie far from each other in a long text.
+fn far(runner: &mut Runner, seed: u64, n: u64) -> Result<(), String> {
+    let (mut rng, limit) = (Rng::new(seed), n.min(runner.done + n / 64));
+    for shape in FAR.iter().cycle() {
+        if runner.done >= limit {
+            break;
+        }
+        let (sizes, steps) = fitting(&mut rng, shape);
+        let mut played = runner.list(sizes, &steps)?;
+        runner.go_on(&mut played, 16, limit, |case| Step::Call(drawn_undo(&mut rng, case)))?;
+    }
+    Ok(())
+}
+
 /// Calls on one text and log, each with faults of its own.
 const CALLS: usize = 4;
 
@@ -187,7 +202,7 @@ const CALLS: usize = 4;
 fn faults(runner: &mut Runner, rng: &mut Rng, n: u64) -> Result<(), String> {
     let limit = n.min(runner.done + n / 8);
     while runner.done < limit {
-        let (sizes, steps) = fitting(rng);
+        let (sizes, steps) = fitting(rng, &SMALL);
         let mut played = runner.list(sizes, &steps)?;
         runner.go_on(&mut played, CALLS, limit, |case| {
             let call = drawn_undo(rng, case);
@@ -204,7 +219,7 @@ fn drawn(runner: &mut Runner, rng: &mut Rng, n: u64) -> Result<(), String> {
             break;
         }
         if turn % 2 == 0 {
-            let (sizes, steps) = fitting(rng);
+            let (sizes, steps) = fitting(rng, &SMALL);
             let mut played = runner.list(sizes, &steps)?;
             runner.go_on(&mut played, rng.below(8), n, |case| Step::Call(drawn_undo(rng, case)))?;
         } else {

@@ -18,12 +18,6 @@ shut-length len at s = simp (length-append, length-take, length-drop) (omega ari
 pub shut-kept : (m i n j : ℕ) (b b′ : List ℕ) → length b′ ≡ length b → length (shut n j b′) ≡ length (shut m i b)
 shut-kept m i n j b b′ e = shut-length n j b′ ∙ e ∙ sym (shut-length m i b)
 
-pub plain-kept : (len gap : ℕ) (b : List ℕ) {k : ℕ} → length (shut len gap b) ≡ k → length b ≡ k
-plain-kept len gap b e = sym (shut-length len gap b) ∙ e
-
-pub plain-used : (len gap : ℕ) (b : List ℕ) → len ≤ length (shut len gap b) → len ≤ length b
-plain-used len gap b h = omega (arith, h, shut-length len gap b)
-
 module _ (len at : ℕ) (s : List ℕ) (h : at ≤ len) (k : len ≤ length s) where
   pub gapped-length : length (gapped len at s) ≡ len
   unfolding gapped
@@ -39,10 +33,6 @@ unfolding gapped
 gapped-end len s k =
     let e : len + (length s - len) ≡ length s = omega arith in
     ap (λ (n : ℕ). take len s ++ drop n s) e ∙ ap (λ (l : List ℕ). take len s ++ l) (drop-length s) ∙ append-nil (take len s)
-
-pub shut-end : (len : ℕ) (s : List ℕ) → len ≤ length s → shut len len s ≡ s
-unfolding shut
-shut-end len s h = ap₂ (λ (x y : List ℕ). x ++ y) (gapped-end len s h) (take-all (length s - len) (drop len s) (simp length-drop (omega arith))) ∙ take-append-drop len s
 
 -- and where there is none, it stands anywhere
 pub gapped-full : (len from to : ℕ) (s : List ℕ) → length s - len ≡ 0 → gapped len to s ≡ gapped len from s

@@ -6,5 +6,5 @@ pub mod Counts
 pub mod Steps
 pub mod Walks
 pub mod Units
-pub mod Gaps
+pub mod Laid
 pub mod Examples

@@ -1,89 +1,100 @@
-use borrow.Author.Needs.{needs}
-use native.Mathlib.Omega.{arith}
-use mathlib.Core.Path.{_≡_, sym, _∙_}
-use mathlib.Core.Bool.{true}
-use lib.ListN.{length}
-use borrow.Author.Tests.{not-true, not-false}
-use denote.Ref.{now}
-use Rattle.utf8.specs.Chars.{valid}
-use Rattle.unicode.specs.Repertoire.{catalogue}
+use Rattle.retrace.proofs.Exchanges.{ends-outside, cuts, too-long, stopped, exchanged}
+use Rattle.retrace.specs.Records.{HeldIn}
+use Rattle.held.proofs.Texts.{held-length}
+use Rattle.held.specs.Held.{heldText}
 use Rattle.unicode.proofs.Text.{text-valid}
-use Rattle.buffer.specs.Gap.{gapped}
-use Rattle.buffer.proofs.Gaps.{gapped-length}
-use Rattle.retrace.proofs.Exchanges.{ends-outside, cuts-first, cuts-last, too-long, stopped, exchanged}
+use Rattle.unicode.specs.Repertoire.{catalogue}
+use Rattle.utf8.specs.Chars.{valid}
+use denote.Ref.{now}
+use borrow.Author.Tests.{not-true, not-false}
+use lib.ListN.{length}
+use mathlib.Core.List.{List}
+use mathlib.Core.Bool.{true}
+use mathlib.Core.Path.{_≡_, sym, _∙_}
+use Prim.Native.Nat.{ℕ, _+_}
+use native.Mathlib.Omega.{arith}
+use borrow.Author.Needs.{needs}
 use Rattle.retrace.proofs.exchange.Statement.{statement}
 use Rattle.retrace.proofs.exchange.Tie as tie
 
--- the text is as long as it is said to be, and is UTF-8
-used : (s : tie.Start) → length (gapped (s .args .len) (s .args .at) (now (s .args .text))) ≡ s .args .len
-used s = gapped-length (s .args .len) (s .args .at) (now (s .args .text)) (s .pre .0 .0) (s .pre .0 .1)
+-- the text that is held: as long as it is said to be, and UTF-8
+abbrev text : (s : tie.Start) → List ℕ
+text s = heldText (s .args .len) (s .args .held) (now (s .args .text)) (now (s .args .room))
 
-is-valid : (s : tie.Start) → valid (gapped (s .args .len) (s .args .at) (now (s .args .text))) ≡ true
-is-valid s = text-valid catalogue (gapped (s .args .len) (s .args .at) (now (s .args .text))) (s .pre .1)
+used : (s : tie.Start) → length (text s) ≡ s .args .len
+used s = held-length (s .args .len) (s .args .held) (now (s .args .text)) (now (s .args .room)) (s .pre .0)
+
+is-valid : (s : tie.Start) → valid (text s) ≡ true
+is-valid s = text-valid catalogue (text s) (s .pre .1 .1)
+
+abbrev hold : (s : tie.Start) → HeldIn
+hold s = record { held = s .args .held; text = now (s .args .text); room = now (s .args .room) }
 
 add-end : tie.Need-add-end
 add-end c = search needs
 
 returns : tie.Need-returns
-returns c = let s = c .before .before .before in let a = s .args in let t = gapped (a .len) (a .at) (now (a .text)) in
-    stopped (length (now (a .text))) (a .place) (a .out) (now (a .put)) t 12 (now (a .text))
-    (ends-outside (length (now (a .text))) (a .place) (a .out) (now (a .put)) t (omega (arith, c .if1 .taken, used s)))
+returns c =
+    let s = c .before .before .before .before in let a = s .args in
+    stopped (length (now (a .text))) (a .place) (a .out) (now (a .put)) (text s) 12 (hold s)
+    (ends-outside (length (now (a .text))) (a .place) (a .out) (now (a .put)) (text s) (omega (arith, c .if1 .taken, used s)))
 
-is-edge-requires : tie.Need-is-edge-requires
-is-edge-requires c κs = search needs
+are-edges-requires : tie.Need-are-edges-requires
+are-edges-requires c κs = search needs
 
 same-length : tie.Need-same-length
 same-length c = search needs
 
-returns-2 : tie.Need-returns-2
-returns-2 c = let s = c .before .before .before .before .before .before in let a = s .args in let t = gapped (a .len) (a .at) (now (a .text)) in
-    stopped (length (now (a .text))) (a .place) (a .out) (now (a .put)) t 12 (now (a .text))
-    (cuts-first (length (now (a .text))) (a .place) (a .out) (now (a .put)) t (sym (c .before .is-edge .ensures .1 (is-valid s)) ∙ not-true _ (c .if2 .taken)))
-
-is-edge-requires-2 : tie.Need-is-edge-requires-2
-is-edge-requires-2 c κs = search needs
-
 same-length-2 : tie.Need-same-length-2
 same-length-2 c = search needs
 
-returns-3 : tie.Need-returns-3
-returns-3 c = let s = c .before .before .before .before .before .before .before .before .before in let a = s .args in let t = gapped (a .len) (a .at) (now (a .text)) in
-    stopped (length (now (a .text))) (a .place) (a .out) (now (a .put)) t 12 (now (a .text))
-    (cuts-last (length (now (a .text))) (a .place) (a .out) (now (a .put)) t (sym (c .before .is-edge2 .ensures .1 (is-valid s)) ∙ not-true _ (c .if3 .taken)))
+returns-2 : tie.Need-returns-2
+returns-2 c =
+    let s = c .before .before .before .before .before .before .before .before .before in let a = s .args in
+    stopped (length (now (a .text))) (a .place) (a .out) (now (a .put)) (text s) 12 (hold s)
+    (cuts (length (now (a .text))) (a .place) (a .out) (now (a .put)) (text s) (sym (c .before .before .are-edges .ensures .0 (is-valid s)) ∙ not-true _ (c .if2 .taken)))
 
 sub-left : tie.Need-sub-left
 sub-left c = search needs
 
-sub-if4 : tie.Need-sub-if4
-sub-if4 c = search needs
+sub-if3 : tie.Need-sub-if3
+sub-if3 c = search needs
 
 same-length-3 : tie.Need-same-length-3
 same-length-3 c = search needs
 
-returns-4 : tie.Need-returns-4
-returns-4 c = let s = c .before .before .before .before .before .before .before .before .before .before in let a = s .args in let t = gapped (a .len) (a .at) (now (a .text)) in let h = c .before .before .before .before .before .before .before .if1 .left in
-    stopped (length (now (a .text))) (a .place) (a .out) (now (a .put)) t 9 (now (a .text))
-    (too-long (length (now (a .text))) (a .place) (a .out) (now (a .put)) t (omega (arith, h, used s)) (sym (c .before .before .before .before .before .is-edge .ensures .1 (is-valid s)) ∙ not-false _ (c .before .before .before .before .if2 .left)) (sym (c .before .before .is-edge2 .ensures .1 (is-valid s)) ∙ not-false _ (c .before .if3 .left)) (omega (arith, h, used s, c .if4 .taken)))
-
-move-gap-requires : tie.Need-move-gap-requires
-move-gap-requires c κs = search needs
-
-write-at-requires : tie.Need-write-at-requires
-write-at-requires c κs = search needs
-
 same-length-4 : tie.Need-same-length-4
 same-length-4 c = search needs
 
-returns-5 : tie.Need-returns-5
-returns-5 c = let s = c .before .before .before .before .before .before .before .before .before .before .before .before .before .before .before .before .before .before in let a = s .args in let t = gapped (a .len) (a .at) (now (a .text)) in let h = c .before .before .before .before .before .before .before .before .before .before .before .before .before .before .before .if1 .left in let m = c .before .before .before .before .before .before .move-gap in
-    exchanged (length (now (a .text))) (a .place) (a .out) (now (a .put)) t (a .len) (now (a .text)) (m .last .0) _ (used s)
+returns-3 : tie.Need-returns-3
+returns-3 c =
+    let s = c .before .before .before .before .before .before .before .before .before .before in let a = s .args in
+    stopped (length (now (a .text))) (a .place) (a .out) (now (a .put)) (text s) 9 (hold s)
+    (too-long (length (now (a .text))) (a .place) (a .out) (now (a .put)) (text s) (omega (arith, c .before .before .before .before .before .before .if1 .left, used s)) (sym (c .before .before .before .are-edges .ensures .0 (is-valid s)) ∙ not-false _ (c .before .if2 .left)) (omega (arith, c .before .before .before .before .before .before .if1 .left, used s, c .if3 .taken)))
+
+replace-requires : tie.Need-replace-requires
+replace-requires c κs =
+    let s = c .before .before .before .before .before .before .before .before .before .before .before .before .before in
+    (s .pre .0, (c .before .before .before .before .before .before .are-edges .ensures .1, (s .pre .1 .0 .0, c .before .before .before .before .before .before .before .before .before .if1 .left, omega (arith, c .before .before .before .if3 .left, c .before .before .before .before .before .before .before .before .before .if1 .left, s .pre .0 .used))))
+
+same-length-5 : tie.Need-same-length-5
+same-length-5 c = search needs
+
+same-length-6 : tie.Need-same-length-6
+same-length-6 c = search needs
+
+returns-4 : tie.Need-returns-4
+returns-4 c =
+    let s = c .before .before .before .before .before .before .before .before .before .before .before .before .before .before .before .before .before .before in let a = s .args in
+    let r = c .before .before .before .before .replace in
+    let h = c .before .before .before .before .before .before .before .before .before .before .before .before .before .before .if1 .left in
+    exchanged (length (now (a .text))) (a .place) (a .out) (now (a .put)) (text s) (a .len) (hold s) _ (used s)
     (record {
       ends = omega (arith, h, used s);
-      first = sym (c .before .before .before .before .before .before .before .before .before .before .before .before .before .is-edge .ensures .1 (is-valid s)) ∙ not-false _ (c .before .before .before .before .before .before .before .before .before .before .before .before .if2 .left);
-      last = sym (c .before .before .before .before .before .before .before .before .before .before .is-edge2 .ensures .1 (is-valid s)) ∙ not-false _ (c .before .before .before .before .before .before .before .before .before .if3 .left);
-      room = omega (arith, h, used s, c .before .before .before .before .before .before .before .before .if4 .left, s .pre .0 .1);
+      edges = sym (c .before .before .before .before .before .before .before .before .before .before .before .are-edges .ensures .0 (is-valid s)) ∙ not-false _ (c .before .before .before .before .before .before .before .before .before .if2 .left);
+      room = omega (arith, h, used s, c .before .before .before .before .before .before .before .before .if3 .left, s .pre .0 .used);
     })
-    (omega (arith, m .kept .0, s .pre .0 .1)) (m .kept .0) (m .ensures .0) (c .before .before .write-at .ensures)
+    (r .ensures .1) (r .ensures .0)
 
 pub exchange-spec : {M : Type 1} → statement M
 exchange-spec =
@@ -91,17 +102,16 @@ exchange-spec =
     (tie.spec
     add-end
     returns
-    is-edge-requires
+    are-edges-requires
     same-length
-    returns-2
-    is-edge-requires-2
     same-length-2
-    returns-3
+    returns-2
     sub-left
-    sub-if4
+    sub-if3
     same-length-3
-    returns-4
-    move-gap-requires
-    write-at-requires
     same-length-4
-    returns-5)
+    returns-3
+    replace-requires
+    same-length-5
+    same-length-6
+    returns-4)

@@ -1,0 +1,4 @@
+-- Laws that several proofs cite.
+pub mod Contents
+pub mod Cuts
+pub mod Places
