@@ -62,12 +62,12 @@ pub struct Shape {
 
 pub const SMALL: Shape = Shape { text: 12, records: 8, longest: 4, misplaced: 24 };
 
-/// Texts and lists that are long enough for records to lie far from each other: the first are of characters, the last are
-/// longer than a block of the library.
+/// Texts and lists that are long enough for records to lie far from each other, so that the library goes over to blocks;
+/// the last put in more than a block then has room for.
 pub const FAR: [Shape; 3] = [
     Shape { text: 4_000, records: 1_200, longest: 4, misplaced: 4_000 },
     Shape { text: 4_000, records: 500, longest: 40, misplaced: 2_000 },
-    Shape { text: 3_000, records: 160, longest: 300, misplaced: 1_000 },
+    Shape { text: 3_000, records: 300, longest: 130, misplaced: 1_000 },
 ];
 
 /// A record that fits this text, which becomes what undoing or redoing it leaves.
