@@ -2,8 +2,9 @@
 use Prim.Native.Nat.{ℕ, _+_, _-_, _≤_, _<_}
 use native.Mathlib.Omega.{arith}
 use mathlib.Core.Path.{_≡_, refl, sym, ap, _∙_}
-use mathlib.Core.Bool.{cond}
+use mathlib.Core.Bool.{Bool, false, cond, _||_}
 use mathlib.Core.List.{List, _++_}
+use lib.Dec.{eqb, ltb}
 use lib.ListN.{length, take, drop, length-drop, length-append, take-append-drop}
 use lib.Seq.{length-take-le, take-all, take-at, take-take}
 use borrow.Author.Tests.{lt-ltb, le-ltb}
@@ -12,7 +13,7 @@ use Rattle.buffer.specs.Gap.{gapped}
 use Rattle.buffer.proofs.Gaps.{gapped-length, gapped-end, exchanged-before}
 use Rattle.blocks.specs.Blocks.{blocked}
 use Rattle.held.specs.declared.Held.{Held}
-use Rattle.held.specs.Held.{heldText, over, laid, plain, Holds}
+use Rattle.held.specs.Held.{heldText, over, laid, plain, Holds, farBy, heldNext}
 
 -- ---- x written over the front of a buffer
 -- the buffer stays as long
@@ -94,3 +95,26 @@ replaced-by-gap len at place out s m b x h i j k e f =
     ap (gapped (len - out + length x) (place + length x)) f
     ∙ exchanged-before m x len place out h (omega (arith, k)) (omega (arith, k))
     ∙ ap (λ (l : List ℕ). take place l ++ (x ++ drop (place + out) l)) e
+
+-- ---- the way that the text is held after a change
+-- below 8 what lies far is counted
+pub next-by-gap : (h : Held) (place n room : ℕ) → h .far < 8 → record { gap = place + n; far = h .far + farBy (h .gap) place room } ≡ heldNext h place n room
+unfolding heldNext
+next-by-gap h place n room k = ap (λ (b : Bool). record { gap = place + n; far = cond b (h .far + farBy (h .gap) place room) (h .far) }) (sym (lt-ltb (h .far) 8 k))
+
+-- and from 8 on nothing
+pub next-by-blocks : (h : Held) (place n room : ℕ) → 8 ≤ h .far → record { gap = place + n; far = h .far } ≡ heldNext h place n room
+unfolding heldNext
+next-by-blocks h place n room k = ap (λ (b : Bool). record { gap = place + n; far = cond b (h .far + farBy (h .gap) place room) (h .far) }) (sym (le-ltb (h .far) 8 k))
+
+-- without room for blocks nothing is far
+pub far-roomless : (gap place room : ℕ) → eqb room 8192 ≡ false → 0 ≡ farBy gap place room
+unfolding farBy
+far-roomless gap place room e = sym (rw e)
+
+-- and else what lies more than 512 bytes from the gap
+pub far-tested : (gap place room n : ℕ) (b : Bool) → room ≡ 8192 → ltb (gap + 512) place || ltb (place + 512) gap ≡ b → n ≡ cond b 1 0 → n ≡ farBy gap place room
+unfolding farBy
+far-tested gap place room n b e f g =
+    let w : farBy gap place room ≡ cond b 1 0 = rw (e, f) in
+    g ∙ sym w

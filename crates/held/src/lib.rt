@@ -8,7 +8,7 @@ ghost use lib.ListN.{length, take, drop};
 ghost use Rattle.utf8.specs.Chars.{valid, boundary, noTail};
 ghost use Rattle.buffer.specs.Gap.{gapped};
 ghost use Rattle.blocks.specs.Blocks.{blocked, Found};
-ghost use Rattle.held.specs.Held.{heldText, plain, Holds};
+ghost use Rattle.held.specs.Held.{heldText, plain, Holds, farBy, heldNext};
 use block_edits::replace_in;
 use blocks::Spot;
 use blocks::find;
@@ -130,7 +130,7 @@ fn replace_by_blocks(
 // 1 where a change lies more than 512 bytes from the gap and there is room for blocks, else 0.
 fn far_if(gap: usize, place: usize, room: usize) -> usize
     requires { ⌜ (gap ≤ 4096) × (place ≤ 4096) ⌝ }
-    ensures { λ r. ⌜ (r ≤ 1) × (r ≡ 1 → room ≡ 8192) ⌝ }
+    ensures { λ r. ⌜ (r ≡ farBy gap place room) × (r ≤ 1) × (r ≡ 1 → room ≡ 8192) ⌝ }
 {
     if room != 8192 {
         return 0;
@@ -158,6 +158,7 @@ pub fn replace(
     requires { ⌜ (length (now text) ≤ 4096) × (place + out ≤ len) × (len - out + length (now put) ≤ length (now text)) ⌝ }
     ensures text { λ r. ⌜ heldText (len - out + length (now (put .entry))) r (now (text .exit)) (now (room .exit)) ≡ take place (heldText len h (now (text .entry)) (now (room .entry))) ++ (now (put .entry) ++ drop (place + out) (heldText len h (now (text .entry)) (now (room .entry)))) ⌝ }
     ensures held { λ r. ⌜ Holds (len - out + length (now (put .entry))) r (now (text .exit)) (now (room .exit)) ⌝ }
+    ensures way { λ r. ⌜ r ≡ heldNext h place (length (now (put .entry))) (length (now (room .entry))) ⌝ }
 {
     let gap = place + put.len();
     if 8 <= h.far {

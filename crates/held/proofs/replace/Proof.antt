@@ -1,6 +1,6 @@
 -- `replace` meets its contract: by the way the text is held, and where it goes into blocks by both. Assumes nothing.
 use Rattle.held.proofs.Replaced.{replaced-length, replaced-held}
-use Rattle.held.proofs.Texts.{by-gap, by-blocks, moved-text}
+use Rattle.held.proofs.Texts.{by-gap, by-blocks, moved-text, next-by-gap, next-by-blocks}
 use Rattle.blocks.specs.Blocks.{blocked}
 use Rattle.buffer.proofs.Gaps.{gapped-length}
 use Rattle.buffer.specs.Gap.{gapped}
@@ -9,7 +9,7 @@ use lib.Seq.{length-take-le}
 use lib.ListN.{length}
 use native.Mathlib.Omega.{arith}
 use mathlib.Core.Path.{_≡_, refl, sym, ap, _∙_}
-use Prim.Native.Nat.{_+_, _-_}
+use Prim.Native.Nat.{ℕ, _+_, _-_}
 use borrow.Author.Needs.{needs}
 use Rattle.held.proofs.replace.Statement.{statement}
 use Rattle.held.proofs.replace.Tie as tie
@@ -46,7 +46,7 @@ returns c =
     let b = s .pre .0 .blocks i in
     let e = c .before .before .before .before .replace-by-blocks in (
       replaced-held (a .place) (a .out) (now (a .put)) (blocked (now (a .room))) _ _ _ (by-blocks (a .len) (a .h) (now (a .text)) (now (a .room)) i) (by-blocks (a .len - a .out + length (now (a .put))) (record { gap = a .place + length (now (a .put)); far = a .h .far }) _ _ i) (e .ensures),
-      record { used = omega (arith, s .pre .1 .1 .2, e .kept .0); gap = λ k. absurd (omega (arith, k, i)); blocks = λ _. (e .kept .1 .0 ∙ b .0, replaced-length (a .place) (a .out) (now (a .put)) (a .len) (blocked (now (a .room))) _ (s .pre .1 .1 .1) (b .1) (e .ensures)) },
+      (record { used = omega (arith, s .pre .1 .1 .2, e .kept .0); gap = λ k. absurd (omega (arith, k, i)); blocks = λ _. (e .kept .1 .0 ∙ b .0, replaced-length (a .place) (a .out) (now (a .put)) (a .len) (blocked (now (a .room))) _ (s .pre .1 .1 .1) (b .1) (e .ensures)) }, next-by-blocks (a .h) (a .place) (length (now (a .put))) (length (now (a .room))) i),
     )
 
 far-if-requires : tie.Need-far-if-requires
@@ -71,7 +71,7 @@ returns-2 c =
     let g = c .before .before .replace-by-gap in
     let f = a .h .far + c .before .before .before .before .before .before .far-if .result in (
       replaced-held (a .place) (a .out) (now (a .put)) (gapped (a .len) (a .h .gap) (now (a .text))) _ _ _ (by-gap (a .len) (a .h) (now (a .text)) (now (a .room)) (c .before .before .before .before .before .before .before .if1 .left)) (by-gap (a .len - a .out + length (now (a .put))) (record { gap = a .place + length (now (a .put)); far = f }) _ _ (c .before .before .before .before .if2 .taken)) (g .ensures),
-      record { used = omega (arith, s .pre .1 .1 .2, g .kept .0); gap = λ _. omega (arith, s .pre .1 .1 .1); blocks = λ k. absurd (omega (arith, c .before .before .before .before .if2 .taken, k)) },
+      (record { used = omega (arith, s .pre .1 .1 .2, g .kept .0); gap = λ _. omega (arith, s .pre .1 .1 .1); blocks = λ k. absurd (omega (arith, c .before .before .before .before .if2 .taken, k)) }, ap (λ (k : ℕ). record { gap = a .place + length (now (a .put)); far = a .h .far + k }) (c .before .before .before .before .before .before .far-if .ensures .0) ∙ next-by-gap (a .h) (a .place) (length (now (a .put))) (length (now (a .room))) (c .before .before .before .before .before .before .before .if1 .left)),
     )
 
 move-gap-requires : tie.Need-move-gap-requires
@@ -88,16 +88,16 @@ slice-aggregate-spread c = sym (length-take-le _ _ (omega arith))
 spread-requires : tie.Need-spread-requires
 spread-requires c κs =
     let s = c .before .before .before .before .before .before .before .before .before .before .before .before .before .before in let a = s .args in
-    (omega (arith, s .pre .0 .used, s .pre .1 .1 .0, length-take-le (a .len) (c .before .before .before .before .move-gap .last .0) (omega arith)), c .before .before .before .before .before .before .before .before .far-if .ensures .1 (omega arith))
+    (omega (arith, s .pre .0 .used, s .pre .1 .1 .0, length-take-le (a .len) (c .before .before .before .before .move-gap .last .0) (omega arith)), c .before .before .before .before .before .before .before .before .far-if .ensures .2 (omega arith))
 
 find-requires : tie.Need-find-requires
 find-requires c κs =
-    (c .before .before .before .spread .kept .1 .0 ∙ c .before .before .before .before .before .before .before .before .before .before .before .before .far-if .ensures .1 (omega arith), omega (arith, gone-length (c .before .before .before), c .before .before .before .before .before .before .before .before .before .before .before .before .before .before .before .before .before .before .pre .1 .1 .1))
+    (c .before .before .before .spread .kept .1 .0 ∙ c .before .before .before .before .before .before .before .before .before .before .before .before .far-if .ensures .2 (omega arith), omega (arith, gone-length (c .before .before .before), c .before .before .before .before .before .before .before .before .before .before .before .before .before .before .before .before .before .before .pre .1 .1 .1))
 
 replace-by-blocks-requires-2 : tie.Need-replace-by-blocks-requires-2
 replace-by-blocks-requires-2 c κs =
     let s = c .before .before .before .before .before .before .before .before .before .before .before .before .before .before .before .before .before .before .before .before .before in
-    ((c .before .before .before .before .before .before .spread .kept .1 .0 ∙ c .before .before .before .before .before .before .before .before .before .before .before .before .before .before .before .far-if .ensures .1 (omega arith), gone-length (c .before .before .before .before .before .before), c .before .before .find .ensures), (omega (arith, s .pre .1 .1 .0, c .before .before .before .before .before .before .before .before .before .before .before .move-gap .kept .0), s .pre .1 .1 .1, omega (arith, s .pre .0 .used, c .before .before .before .before .before .before .before .before .before .before .before .move-gap .kept .0), omega (arith, s .pre .1 .1 .2, c .before .before .before .before .before .before .before .before .before .before .before .move-gap .kept .0)))
+    ((c .before .before .before .before .before .before .spread .kept .1 .0 ∙ c .before .before .before .before .before .before .before .before .before .before .before .before .before .before .before .far-if .ensures .2 (omega arith), gone-length (c .before .before .before .before .before .before), c .before .before .find .ensures), (omega (arith, s .pre .1 .1 .0, c .before .before .before .before .before .before .before .before .before .before .before .move-gap .kept .0), s .pre .1 .1 .1, omega (arith, s .pre .0 .used, c .before .before .before .before .before .before .before .before .before .before .before .move-gap .kept .0), omega (arith, s .pre .1 .1 .2, c .before .before .before .before .before .before .before .before .before .before .before .move-gap .kept .0)))
 
 same-length-4 : tie.Need-same-length-4
 same-length-4 c = search needs
@@ -113,7 +113,7 @@ returns-3 c =
     let p = c .before .before .before .before .before .before .before .before .before .before .before in
     let e = c .before .before .before .before .replace-by-blocks2 in (
       replaced-held (a .place) (a .out) (now (a .put)) (blocked (p .spread .last .1 .0)) _ _ _ (by-gap (a .len) (a .h) (now (a .text)) (now (a .room)) (c .before .before .before .before .before .before .before .before .before .before .before .before .before .before .before .before .before .before .before .before .before .if1 .left) ∙ sym (gone p)) (by-blocks (a .len - a .out + length (now (a .put))) (record { gap = a .place + length (now (a .put)); far = f }) _ _ k) (e .ensures),
-      record { used = omega (arith, s .pre .1 .1 .2, e .kept .0, c .before .before .before .before .before .before .before .before .before .before .before .before .before .before .before .before .move-gap .kept .0); gap = λ z. absurd (omega (arith, z, k)); blocks = λ _. (e .kept .1 .0 ∙ p .spread .kept .1 .0 ∙ c .before .before .before .before .before .before .before .before .before .before .before .before .before .before .before .before .before .before .before .before .far-if .ensures .1 (omega (arith, k, c .before .before .before .before .before .before .before .before .before .before .before .before .before .before .before .before .before .before .before .before .before .if1 .left, c .before .before .before .before .before .before .before .before .before .before .before .before .before .before .before .before .before .before .before .before .far-if .ensures .0)), replaced-length (a .place) (a .out) (now (a .put)) (a .len) (blocked (p .spread .last .1 .0)) _ (s .pre .1 .1 .1) (gone-length p) (e .ensures)) },
+      (record { used = omega (arith, s .pre .1 .1 .2, e .kept .0, c .before .before .before .before .before .before .before .before .before .before .before .before .before .before .before .before .move-gap .kept .0); gap = λ z. absurd (omega (arith, z, k)); blocks = λ _. (e .kept .1 .0 ∙ p .spread .kept .1 .0 ∙ c .before .before .before .before .before .before .before .before .before .before .before .before .before .before .before .before .before .before .before .before .far-if .ensures .2 (omega (arith, k, c .before .before .before .before .before .before .before .before .before .before .before .before .before .before .before .before .before .before .before .before .before .if1 .left, c .before .before .before .before .before .before .before .before .before .before .before .before .before .before .before .before .before .before .before .before .far-if .ensures .1)), replaced-length (a .place) (a .out) (now (a .put)) (a .len) (blocked (p .spread .last .1 .0)) _ (s .pre .1 .1 .1) (gone-length p) (e .ensures)) }, ap (λ (k : ℕ). record { gap = a .place + length (now (a .put)); far = a .h .far + k }) (c .before .before .before .before .before .before .before .before .before .before .before .before .before .before .before .before .before .before .before .before .far-if .ensures .0) ∙ next-by-gap (a .h) (a .place) (length (now (a .put))) (length (now (a .room))) (c .before .before .before .before .before .before .before .before .before .before .before .before .before .before .before .before .before .before .before .before .before .if1 .left)),
     )
 
 pub replace-spec : {M : Type 1} → statement M

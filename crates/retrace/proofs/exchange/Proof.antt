@@ -94,7 +94,7 @@ returns-4 c =
       edges = sym (c .before .before .before .before .before .before .before .before .before .before .before .are-edges .ensures .0 (is-valid s)) ∙ not-false _ (c .before .before .before .before .before .before .before .before .before .if2 .left);
       room = omega (arith, h, used s, c .before .before .before .before .before .before .before .before .if3 .left, s .pre .0 .used);
     })
-    (r .ensures .1) (r .ensures .0)
+    (r .ensures .1 .0) (r .ensures .0)
 
 pub exchange-spec : {M : Type 1} → statement M
 exchange-spec =
