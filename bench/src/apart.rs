@@ -15,7 +15,6 @@ unsafe extern "C" {
     fn tlf_bench_check_text(text: *const u8, len: usize) -> bool;
     fn tlf_bench_check_log(records: *const u8, records_len: usize, texts: *const u8, texts_len: usize, log: Log)
     -> u32;
-    fn tlf_bench_move_gap(s: *mut u8, s_len: usize, len: usize, from: usize, to: usize);
 }
 
 fn scan(text: &[u8]) -> bool {
@@ -170,66 +169,17 @@ impl Whole {
     }
 }
 
-/// The bytes that a gap is moved over, and the sizes of the gap.
-const MOVED: usize = 4_000;
-const GAPS: [usize; 4] = [1, 10, 40, 1_000];
-
-type Move = fn(&mut [u8], bool);
-
-/// The gap to the text's start, so that all of it goes up, or to its end.
-fn move_gap(buffer: &mut [u8], up: bool) {
-    let (from, to) = if up { (MOVED, 0) } else { (0, MOVED) };
-    // SAFETY: one buffer, with its length.
-    unsafe { tlf_bench_move_gap(buffer.as_mut_ptr(), buffer.len(), MOVED, from, to) }
-}
-
-fn copy_within(buffer: &mut [u8], up: bool) {
-    let gap = buffer.len() - MOVED;
-    if up { buffer.copy_within(..MOVED, gap) } else { buffer.copy_within(gap.., 0) }
-}
-
-/// In nanoseconds a move.
-fn moved(gap: usize, by: Move, up: bool) -> Check<'static> {
-    let buffer = RefCell::new(vec![b'a'; MOVED + gap]);
-    let call = move || {
-        by(black_box(&mut buffer.borrow_mut()), black_box(up));
-        true
-    };
-    Check { call: Box::new(call), by: 1 }
-}
-
-/// Four figures for each gap: up and down, by the library and by Rust's `copy_within`.
-fn measure_moves() -> impl Iterator<Item = Figure> {
-    let four = |gap| {
-        [(move_gap as Move, true), (copy_within, true), (move_gap, false), (copy_within, false)]
-            .map(|(by, up)| moved(gap, by, up))
-    };
-    GAPS.into_iter().flat_map(move |gap| checks(four(gap)))
-}
-
-fn print_moves(figures: &[Figure]) {
-    head(
-        "A gap moved over 4,000 bytes, nanoseconds",
-        &["bytes of the gap", "bytes go up", "`copy_within`", "bytes go down", "`copy_within`"],
-    );
-    for (gap, four) in GAPS.iter().zip(figures.chunks(4)) {
-        line(&[&[grouped(*gap)], &four.iter().map(figure).collect::<Vec<_>>()[..]].concat());
-    }
-}
-
 pub fn measure_undo() -> Vec<Figure> {
     let both = |whole: Whole| {
         let list = whole.list();
         checks([true, false].map(|back| whole.check(&list, back)))
     };
-    wholes().into_iter().flat_map(both).chain(measure_moves()).collect()
+    wholes().into_iter().flat_map(both).collect()
 }
 
 pub fn print_undo(figures: &[Figure]) {
     head("A whole log in one call, nanoseconds a record", &["log", "records", "undo", "redo"]);
-    let (undo, moves) = figures.split_at(2 * wholes().len());
-    for (whole, pair) in wholes().iter().zip(undo.chunks(2)) {
+    for (whole, pair) in wholes().iter().zip(figures.chunks(2)) {
         line(&[whole.name.into(), grouped(whole.count), figure(&pair[0]), figure(&pair[1])]);
     }
-    print_moves(moves);
 }

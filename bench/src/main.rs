@@ -13,7 +13,6 @@ mod rows;
 mod rustyline;
 mod scenes;
 mod sizes;
-mod structures;
 mod tables;
 mod timing;
 
@@ -30,12 +29,11 @@ enum Table {
     Growth,
     Scan,
     Undo,
-    Structures,
 }
 use Table::*;
 
-const TABLES: [(&str, Table); 5] =
-    [("rustyline", Rustyline), ("growth", Growth), ("scan", Scan), ("undo", Undo), ("structures", Structures)];
+const TABLES: [(&str, Table); 4] =
+    [("rustyline", Rustyline), ("growth", Growth), ("scan", Scan), ("undo", Undo)];
 
 /// Tables whose figures are measured together, and the word by which this program is told to measure them.
 struct Sheet {
@@ -47,8 +45,7 @@ const FIRST: Sheet = Sheet { word: "rustyline", measure: || compared::measure(fa
 const FIRST_TWO: Sheet = Sheet { word: "growth", measure: || compared::measure(true) };
 const SCAN: Sheet = Sheet { word: "scan", measure: apart::measure_scan };
 const UNDO: Sheet = Sheet { word: "undo", measure: apart::measure_undo };
-const STRUCTURES: Sheet = Sheet { word: "structures", measure: structures::measure };
-const SHEETS: [Sheet; 5] = [FIRST, FIRST_TWO, SCAN, UNDO, STRUCTURES];
+const SHEETS: [Sheet; 4] = [FIRST, FIRST_TWO, SCAN, UNDO];
 
 /// In a run of this program: the figures, one to a line.
 fn tell(word: &str) {
@@ -103,9 +100,6 @@ fn print(tables: &[Table], runs: usize) -> Option<()> {
     if asked(Undo) {
         apart::print_undo(&figures(&UNDO, runs)?);
     }
-    if asked(Structures) {
-        structures::print(&figures(&STRUCTURES, runs)?);
-    }
     Some(())
 }
 
@@ -128,7 +122,7 @@ fn main() -> ExitCode {
         return ExitCode::SUCCESS;
     }
     let Some((runs, tables)) = asked(&words) else {
-        eprintln!("usage: bench/run [RUNS] [rustyline] [growth] [scan] [undo] [structures]");
+        eprintln!("usage: bench/run [RUNS] [rustyline] [growth] [scan] [undo]");
         return ExitCode::from(2);
     };
     print(&tables, runs).map_or(ExitCode::FAILURE, |()| ExitCode::SUCCESS)

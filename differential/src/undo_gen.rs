@@ -62,8 +62,7 @@ pub struct Shape {
 
 pub const SMALL: Shape = Shape { text: 12, records: 8, longest: 4, misplaced: 24 };
 
-/// Texts and lists that are long enough for records to lie far from each other, so that the library goes over to blocks;
-/// the last put in more than a block then has room for.
+/// Texts and lists that are long enough for records to lie far from each other; the last put in long texts.
 pub const FAR: [Shape; 3] = [
     Shape { text: 4_000, records: 1_200, longest: 4, misplaced: 4_000 },
     Shape { text: 4_000, records: 500, longest: 40, misplaced: 2_000 },

@@ -1,11 +1,10 @@
-// Bytes in a lent buffer: an insertion shifts the tail from its place onward, a cut closes the gap; or a gap stands in the text.
+// Bytes in a lent buffer: an insertion shifts the tail from its place onward, a cut closes the gap.
 ghost use mathlib.Core.Path.{_≡_};
 ghost use mathlib.Core.List.{_++_};
 ghost use Prim.Native.Nat.{_+_, _-_, _*_, _≤_};
 ghost use lib.ListN.{length, take, drop, replicate};
 ghost use lib.Seq.{sets};
 ghost use Rattle.buffer.specs.Edit.{shifted, inserted, cut, written, copies};
-ghost use Rattle.buffer.specs.Gap.{gapped};
 
 // Moves tail[..used] up by n places, from its end downward.
 fn shift_up(tail: &mut [u8], used: usize, n: usize)
@@ -108,33 +107,4 @@ pub fn fill(s: &mut [u8], at: usize, count: usize, b: u8)
         s[at + j] = b;
         j += 1;
     }
-}
-
-// Writes src over the bytes from a place on.
-pub fn write_at(s: &mut [u8], at: usize, src: &[u8])
-    requires { ⌜ at + length (now src) ≤ length (now s) ⌝ }
-    ensures { λ _. ⌜ now (s .exit) ≡ take at (now (s .entry)) ++ (now (src .entry) ++ drop (at + length (now (src .entry))) (now (s .entry))) ⌝ }
-{
-    write_front(&mut s[at..], src);
-}
-
-// Moves the gap of a text of len bytes from a place to another: the bytes between them change sides. No gap moves nothing, and
-// one that stays where it is changes not a byte.
-pub fn move_gap(s: &mut [u8], len: usize, from: usize, to: usize)
-    requires { ⌜ (from ≤ len) × ((to ≤ len) × (len ≤ length (now s))) ⌝ }
-    ensures text { λ _. ⌜ gapped len to (now (s .exit)) ≡ gapped len from (now (s .entry)) ⌝ }
-    ensures still { λ _. ⌜ (from ≡ to → now (s .exit) ≡ now (s .entry)) ⌝ }
-{
-    if from == to {
-        return;
-    }
-    let gap = s.len() - len;
-    if gap == 0 {
-        return;
-    }
-    if to < from {
-        shift_up(&mut s[to..], from - to, gap);
-        return;
-    }
-    cut_bytes(&mut s[from..to + gap], to - from + gap, 0, gap);
 }

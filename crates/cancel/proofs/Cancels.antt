@@ -26,8 +26,7 @@ use Rattle.undo.specs.declared.Passed.{Passed}
 use Rattle.undo.specs.Undo.{Walked, numberOf, trailOf}
 use Rattle.undo.specs.Steps.{trailBy, lineOf, PassesOne}
 use Rattle.undo.proofs.Seams.{held}
-use Rattle.undo.proofs.Walks.{walked, Come, come-first, outOf, edited, ended, stopped-there, stop-ended, goes, come-next, from-there, to-there, trail-there, tried-there}
-use Rattle.undo.proofs.Laid.{NotRefused, either-not-refused}
+use Rattle.undo.proofs.Walks.{walked, Come, come-first, outOf, edited, still, ended, stopped-there, stop-ended, goes, come-next, from-there, to-there, trail-there, tried-there}
 use Rattle.cancel.specs.Cancel.{opens, walkTo, beginsDown, cancelled, cancelOut}
 use Rattle.cancel.specs.Open.{openBegins}
 
@@ -89,13 +88,6 @@ module _ (C m : ℕ) (s : State) where
   unfolding cancelOut
   cancel-done e u r p f = rw (e, f)
 
--- it refuses nothing that the checks pass
-pub cancel-not-refused : (C m : ℕ) (s : State) → NotRefused (cancelOut C m s)
-unfolding cancelOut
-cancel-not-refused C m s =
-    let w = walkTo C m (s .log .undo) (s .log .redo) (trailOf s) in
-    either-not-refused (opens m (s .log .undo)) (cancelled w m s) (answered 1 0 0 s) (either-not-refused (eqb (w .stopped) 0) _ _ tt tt) tt
-
 -- nothing is done where the group is not open
 pub cancels-nothing : {F : Format} {l : Lent} (h : Ready F l) (m : ℕ) → opens m (stateOf catalogue F l .log .undo) ≡ false → {r : EditAnswer} → r ≡ says 1 (l .line) (l .log)
     → Edited F l (cancelOut (length (l .text)) m (stateOf catalogue F l)) r (l .text) (l .records) (l .texts)
@@ -122,7 +114,7 @@ to-next C m (suc n) x u r s p e f = rw (e, ne-eqb (length u) m (λ z. omega arit
 
 -- what is left of the walk is what the whole comes to
 pub record Cancelling (F : Format) (l₀ : Lent) (m : ℕ) (t : List ℕ) (s : Step) (g : Log) (n : ℕ) : Type 0 where
-  pub come : Come F l₀ t s g
+  pub come : Come F l₀ true t s g
   pub count : length (stateOf catalogue F (lent t (l₀ .records) (l₀ .texts) (lineOf s) g) .log .undo) ≡ m + n
   pub same :
       downTo (length (l₀ .text)) m n (stateOf catalogue F (lent t (l₀ .records) (l₀ .texts) (lineOf s) g) .log .undo) (stateOf catalogue F (lent t (l₀ .records) (l₀ .texts) (lineOf s) g) .log .redo)
@@ -138,10 +130,9 @@ module _ {F : Format} {l₀ : Lent} (h : Ready F l₀) (m : ℕ) (o : opens m (s
   mark-within e = omega (arith, opens-within m (st .log .undo) o)
 
   -- at its beginning
-  pub cancelling-first : {n : ℕ} → n ≡ length (st .log .undo) → {t : List ℕ} → t ≡ l₀ .text → Cancelling F l₀ m t (record { number = 0; len = l₀ .line .len; cursor = l₀ .line .cursor; undone = false }) (l₀ .log) (n - m)
-  cancelling-first {n} e i =
-      subst (λ (b : List ℕ). Cancelling F l₀ m b (record { number = 0; len = l₀ .line .len; cursor = l₀ .line .cursor; undone = false }) (l₀ .log) (n - m)) (sym i)
-      (record { come = come-first h; count = omega (arith, opens-within m (st .log .undo) o); same = go (n - m) (omega (arith, opens-within m (st .log .undo) o)) })
+  pub cancelling-first : {n : ℕ} → n ≡ length (st .log .undo) → Cancelling F l₀ m (l₀ .text) (record { number = 0; len = l₀ .line .len; cursor = l₀ .line .cursor; undone = false }) (l₀ .log) (n - m)
+  cancelling-first {n} e =
+      record { come = come-first h; count = omega (arith, opens-within m (st .log .undo) o); same = go (n - m) (omega (arith, opens-within m (st .log .undo) o)) }
     where
       go : (k : ℕ) → 0 < k → downTo (length (l₀ .text)) m k (st .log .undo) (st .log .redo) (trailOf st) ≡ walkTo (length (l₀ .text)) m (st .log .undo) (st .log .redo) (trailOf st)
       go zero z = absurd (omega arith)
@@ -168,11 +159,14 @@ module _ {F : Format} {l₀ : Lent} {m : ℕ} {t : List ℕ} {s : Step} {g : Log
 
     -- a record stops it
     pub cancel-stop : (p .step .number ≡ 0 → ⊥) → {r : EditAnswer} → r ≡ says (numberOf (p .step .number) (p .step .undone)) (lineOf (p .step)) (p .log)
-        → Edited F l₀ (cancelOut (length (l₀ .text)) m start) r t′ (l₀ .records) (l₀ .texts)
+        → Edited F l₀ (cancelOut (length (l₀ .text)) m start) r t′ (l₀ .records) (l₀ .texts) × (r .log ≡ l₀ .log → t′ ≡ l₀ .text)
     cancel-stop z {r} y =
         let a = at-record ∙ to-stop (length (l₀ .text)) m n x f (now .log .redo) (trailBy now (s .undone)) (p .step .number) h (stopped-there true (k .come) e p t′ q z) in
-        subst (λ (c : Outcome State). Edited F l₀ c r t′ (l₀ .records) (l₀ .texts)) (sym (cancel-stopped (length (l₀ .text)) m start o (λ b. z (sym (ap (λ (w : Walked). w .stopped) a) ∙ b))))
-        (edited (stop-ended true (k .come) e p t′ q z a y))
+        let w = stop-ended true (k .come) e p t′ q z a y in (
+          subst (λ (c : Outcome State). Edited F l₀ c r t′ (l₀ .records) (l₀ .texts)) (sym (cancel-stopped (length (l₀ .text)) m start o (λ b. z (sym (ap (λ (w : Walked). w .stopped) a) ∙ b))))
+              (edited w),
+          still w,
+        )
 
     -- one less is left
     pub cancelling-next : (i : length t′ ≡ length t) (z : p .step .number ≡ 0) → Cancelling F l₀ m t′ (p .step) (p .log) (n - 1)
@@ -192,23 +186,25 @@ module _ {F : Format} {l₀ : Lent} {m : ℕ} {t : List ℕ} {s : Step} {g : Log
 
   -- all are undone: they are dropped, and the redo list with them
   pub cancel-ended : opens m (start .log .undo) ≡ true → n ≤ 0 → {b : ℕ} → b ≡ beginsDown m (start .log .undo) → {r : EditAnswer} → r ≡ says 0 (lineOf s) (state (g .undo .records) (g .undo .texts) 0 0 (g .level - b))
-      → Edited F l₀ (cancelOut (length (l₀ .text)) m start) r t (l₀ .records) (l₀ .texts)
-  cancel-ended o h {b} e {r} q =
-      subst (λ (c : Outcome State). Edited F l₀ c r t (l₀ .records) (l₀ .texts))
-      (sym
-      (cancel-done (length (l₀ .text)) m start o (now .log .undo) (now .log .redo) (trailBy now (s .undone))
-      (sym (k .same) ∙ ap (λ (a : ℕ). downTo (length (l₀ .text)) m a (now .log .undo) (now .log .redo) (trailBy now (s .undone))) none)))
-      (record {
-        answer =
-            q ∙ ap (λ (a : ℕ). says 0 (lineOf s) (state (g .undo .records) (g .undo .texts) 0 0 a)) (ap₂ _-_ (k .come .level) e)
-            ∙ ap₂ (λ (a : ℕ) (c : Log). says 0 (record { len = a; cursor = s .cursor }) c) (sym (length-kept F l (k .come .ready)))
-            (held-state catalogue F (l₀ .records) (l₀ .texts) (g .undo .records) (g .undo .texts) 0 0 level (now .log .undo) [] alone);
-        bytes =
-            record {
-              text = state-kept F l (k .come .ready) (s .cursor) .text;
-              log = held-bytes catalogue F (l₀ .records) (l₀ .texts) (g .undo .records) (g .undo .texts) 0 0 level (now .log .undo) [] alone;
-            };
-      })
+      → Edited F l₀ (cancelOut (length (l₀ .text)) m start) r t (l₀ .records) (l₀ .texts) × (r .log ≡ l₀ .log → t ≡ l₀ .text)
+  cancel-ended o h {b} e {r} q = (
+    subst (λ (c : Outcome State). Edited F l₀ c r t (l₀ .records) (l₀ .texts))
+        (sym
+        (cancel-done (length (l₀ .text)) m start o (now .log .undo) (now .log .redo) (trailBy now (s .undone))
+        (sym (k .same) ∙ ap (λ (a : ℕ). downTo (length (l₀ .text)) m a (now .log .undo) (now .log .redo) (trailBy now (s .undone))) none)))
+        (record {
+          answer =
+              q ∙ ap (λ (a : ℕ). says 0 (lineOf s) (state (g .undo .records) (g .undo .texts) 0 0 a)) (ap₂ _-_ (k .come .level) e)
+              ∙ ap₂ (λ (a : ℕ) (c : Log). says 0 (record { len = a; cursor = s .cursor }) c) (sym (length-kept F l (k .come .ready)))
+              (held-state catalogue F (l₀ .records) (l₀ .texts) (g .undo .records) (g .undo .texts) 0 0 level (now .log .undo) [] alone);
+          bytes =
+              record {
+                text = state-kept F l (k .come .ready) (s .cursor) .text;
+                log = held-bytes catalogue F (l₀ .records) (l₀ .texts) (g .undo .records) (g .undo .texts) 0 0 level (now .log .undo) [] alone;
+              };
+        }),
+    (λ i. k .come .unmoved .same (ap (λ (a : Log). a .undo .records) (ap (λ (a : EditAnswer). a .log) (sym q) ∙ i))),
+  )
     where
       none : n ≡ 0
       none = omega arith

@@ -1,6 +1,5 @@
 // Cancel: document 01, with undo's walk over the records. Any text, cursor and log may be handed over: what is unfit is turned
-// away by a number of document 01. Records and their texts are only read. While records are walked the text is held with a gap
-// or in blocks, as in undo.
+// away by a number of document 01. Records and their texts are only read. The text is changed as edits change it, as in undo.
 ghost use mathlib.Core.Path.{_≡_};
 ghost use mathlib.Core.Bool.{true};
 ghost use Prim.Native.Nat.{_≤_};
@@ -18,13 +17,11 @@ use edit::EditAnswer;
 use edit::Own;
 use edit::refusal;
 use edit::says;
-use held::Held;
-use held::lay_out;
 use records::Format;
 use records::NARROW;
 use retrace::Step;
 use retrace::note_sizes;
-use undo::close;
+use undo::answer;
 use undo::one_if;
 use undo::undo_record;
 
@@ -57,7 +54,6 @@ fn open_begins(records: &[u8], sizes: &[u8], count: usize, mark: usize) -> usize
 fn cancel_noted(
     f: Format,
     text: &mut [u8],
-    room: &mut [u8],
     records: &[u8],
     texts: &[u8],
     sizes: &[u8],
@@ -85,23 +81,17 @@ fn cancel_noted(
         cursor: line.cursor,
         undone: false,
     };
-    let mut held = Held {
-        gap: line.len,
-        far: 0,
-    };
     let mut g = log;
     let mut left = count - mark;
     while 0 < left {
-        let p = undo_record(f, text, room, records, texts, sizes, s, held, g);
+        let p = undo_record(f, text, records, texts, sizes, s, g);
         s = p.step;
-        held = p.held;
         g = p.log;
         if s.number != 0 {
-            return close(text, room, s, held, g);
+            return answer(s, g);
         }
         left -= 1;
     }
-    lay_out(text, room, s.len, held);
     let u = g.undo;
     let last = Line {
         len: s.len,
@@ -110,11 +100,10 @@ fn cancel_noted(
     says(0, last, g.cancel(u.records, u.texts, begins))
 }
 
-// cancel_group, with room for blocks and to note the sizes of the undo list's records.
+// cancel_group, with room to note the sizes of the undo list's records.
 fn note_and_cancel(
     f: Format,
     text: &mut [u8],
-    room: &mut [u8],
     records: &[u8],
     texts: &[u8],
     sizes: &mut [u8],
@@ -140,7 +129,6 @@ fn note_and_cancel(
     cancel_noted(
         f,
         text,
-        room,
         records,
         texts,
         sizes,
@@ -152,7 +140,7 @@ fn note_and_cancel(
     )
 }
 
-// Cancel on a text and a log that the checks pass: the group of the mark undone and dropped. A short list has short arrays, as in
+// Cancel on a text and a log that the checks pass: the group of the mark undone and dropped. A short list has a short array, as in
 // undo.
 fn cancel_group(
     f: Format,
@@ -173,32 +161,10 @@ fn cancel_group(
     let u = log.undo;
     if u.records <= 1024 {
         let mut few = [0u8; 1024];
-        let mut none = [0u8; 1];
-        return note_and_cancel(
-            f,
-            text,
-            &mut none,
-            records,
-            texts,
-            &mut few,
-            line,
-            log,
-            mark,
-        );
+        return note_and_cancel(f, text, records, texts, &mut few, line, log, mark);
     }
     let mut sizes = [0u8; 32768];
-    let mut room = [0u8; 8192];
-    note_and_cancel(
-        f,
-        text,
-        &mut room,
-        records,
-        texts,
-        &mut sizes,
-        line,
-        log,
-        mark,
-    )
+    note_and_cancel(f, text, records, texts, &mut sizes, line, log, mark)
 }
 
 // Where the log is as it was, no record was handled, and not a byte of the text's buffer is changed (still).

@@ -1,26 +1,24 @@
-// The lines of a part of a text dedented, with a gap at the line's place: a byte of the text moves twice at most.
+// The lines of a part of a text dedented, one after the other: each is a cut, made and recorded as edits make them.
 ghost use mathlib.Core.Path.{_≡_};
 ghost use mathlib.Core.Bool.{true, false};
-ghost use Prim.Native.Nat.{_-_, _≤_};
-ghost use lib.ListN.{length, take, drop};
+ghost use Prim.Native.Nat.{_≤_};
+ghost use lib.ListN.{length, take};
 ghost use Rattle.lists.specs.Lists.{part};
 ghost use Rattle.utf8.specs.Chars.{In};
 ghost use Rattle.unicode.specs.Repertoire.{catalogue};
-ghost use Rattle.buffer.specs.Gap.{shut};
 ghost use Rattle.journal.specs.Layout.{narrow};
 ghost use Rattle.journal.specs.Undo.{fits};
 ghost use Rattle.edit.specs.Plan.{AllSuit, tooLong, listAfter, edited};
 ghost use Rattle.edit.specs.Calls.{lent, sizesOf, stateOf, Edited, Ready};
-ghost use Rattle.touched_lines.specs.Touched.{split, deleting as Touched·deleting, splits as Touched·splits};
+ghost use Rattle.touched_lines.specs.Touched.{split, splits as Touched·splits};
 ghost use Rattle.indent_plans.specs.IndentPlans.{dedented as Plans·dedented, dedentLines, indentPlan};
-use buffer::move_gap;
 use changeset::Log;
 use checks::Line;
 use edit::EditAnswer;
+use edit::cut_out;
 use edit::says;
-use gap_edits::cut_behind;
-use indent_plans::end_behind;
 use indent_plans::has_room;
+use lines::end_of_line;
 use records::NARROW;
 use touched_lines::count_cuts;
 use touched_lines::deleting;
@@ -35,16 +33,7 @@ fn dedented(at: usize, d: usize, pos: usize) -> usize
     if pos - at < d { at } else { pos - d }
 }
 
-// The bytes that a dedent by m cuts from the line behind the gap, which ends at a place.
-fn deleting_behind(text: &[u8], len: usize, at: usize, e: usize, m: usize) -> usize
-    requires { ⌜ (at ≤ e) × (e ≤ len) × (len ≤ length (now text)) ⌝ }
-    ensures { λ r. ⌜ r ≡ Touched·deleting catalogue m (take (e - at) (drop at (shut len at (now (text .entry))))) ⌝ }
-{
-    let gap = text.len() - len;
-    deleting(&text[at + gap..e + gap], m)
-}
-
-// The lines of a part dedented by m, one after the other. A gap stands at the line's place, and moves on from line to line.
+// The lines of a part dedented by m, one after the other.
 fn dedent_lines(
     text: &mut [u8],
     records: &mut [u8],
@@ -66,27 +55,23 @@ fn dedent_lines(
         (stateOf catalogue narrow (lent (now (text .entry)) (now (records .entry)) (now (texts .entry)) line log)))
         r (now (text .exit)) (now (records .exit)) (now (texts .exit)) ⌝ }
 {
-    move_gap(text, line.len, line.len, from);
     let mut line_now = line;
     let mut log_now = log;
     let mut cursor = line.cursor;
     let mut at = from;
     let mut end = to;
     loop {
-        let e = end_behind(text, line_now.len, at, at, end);
-        let d = deleting_behind(text, line_now.len, at, e, m);
-        let a = cut_behind(NARROW, text, records, texts, line_now, log_now, at, d);
+        let e = end_of_line(&text[..end], at);
+        let d = deleting(&text[at..e], m);
+        let a = cut_out(NARROW, text, records, texts, line_now, log_now, at, at + d);
         line_now = a.line;
         log_now = a.log;
         cursor = dedented(at, d, cursor);
-        let len = line_now.len;
         if e == end {
-            move_gap(text, len, at, len);
+            let len = line_now.len;
             return says(0, Line { len, cursor }, log_now);
         }
-        let next = e - d + 1;
-        move_gap(text, len, at, next);
-        at = next;
+        at = e - d + 1;
         end -= d;
     }
 }

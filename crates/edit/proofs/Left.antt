@@ -8,9 +8,8 @@ use lib.Dec.{leb, ltb}
 use lib.ListN.{length, take}
 use borrow.Author.Tests.{leb-true}
 use Rattle.lists.proofs.Bools.{and-both, or-none}
-use Rattle.utf8.specs.Chars.{boundary, In}
+use Rattle.utf8.specs.Chars.{In}
 use Rattle.unicode.specs.Repertoire.{Repertoire, catalogue}
-use Rattle.unicode.specs.Text.{isText}
 use Rattle.checks.specs.Outcome.{Outcome, answered}
 use Rattle.journal.specs.Change.{Change}
 use Rattle.journal.specs.Layout.{Format, top, AllGood}
@@ -70,50 +69,10 @@ unfolding listAfter
 after-first R F z x xs t u e = e
 
 module _ (F : Format) where
-  -- bytes moved in the buffer of a text that stays as it is: the checks pass it still
-  pub ready-moved : (l : Lent) (t : List ℕ) → Ready F l → length t ≡ length (l .text) → take (l .line .len) t ≡ textOf l → Ready F (lent t (l .records) (l .texts) (l .line) (l .log))
-  ready-moved l t h n e =
-      record {
-        small = omega (arith, h .small);
-        used = omega (arith, h .used);
-        text = ap (isText catalogue) e ∙ h .text;
-        within = h .within;
-        edge = ap (λ (s : List ℕ). boundary s (l .line .cursor)) e ∙ h .edge;
-        log = h .log;
-      }
-
   -- at first all is left
   pub begins : (l : Lent) (p : Plan) → Ready F l → AllSuit catalogue (p .pieces) (textOf l) → tooLong (length (l .text)) (p .pieces) (textOf l) ≡ false
       → fits F (sizesOf l) (listAfter catalogue (p .pieces) (textOf l) (stateOf catalogue F l .log .undo)) ≡ true → Left F l p (p .pieces) l
   begins l p h a b c = record { ready = h; text = refl; records = refl; texts = refl; suit = a; short = b; room = c; same = refl }
-
-  -- and as much is left
-  pub moved : (l₀ : Lent) (p : Plan) (xs : List Piece) (l : Lent) (t : List ℕ) → Left F l₀ p xs l → length t ≡ length (l .text) → take (l .line .len) t ≡ textOf l → Left F l₀ p xs (lent t (l .records) (l .texts) (l .line) (l .log))
-  moved l₀ p xs l t k n e =
-      record {
-        ready = ready-moved l t (k .ready) n e;
-        text = n ∙ k .text;
-        records = k .records;
-        texts = k .texts;
-        suit = subst (AllSuit catalogue xs) (sym e) (k .suit);
-        short = ap (tooLong (length (l₀ .text)) xs) e ∙ k .short;
-        room = ap (λ (s : List ℕ). fits F (sizesOf l₀) (listAfter catalogue xs s (stateOf catalogue F l .log .undo))) e ∙ k .room;
-        same = k .same ∙ ap (λ (s : List ℕ). edited catalogue F (sizesOf l₀) (length (l₀ .text)) (rest p xs) (record { text = s; cursor = l .line .cursor; log = stateOf catalogue F l .log })) (sym e);
-      }
-
-  -- the same, of the buffer as it was lent
-  pub moved-first : (l₀ : Lent) (p : Plan) (xs : List Piece) (l : Lent) (t : List ℕ) → Left F l₀ p xs l → length t ≡ length (l₀ .text) → take (l₀ .line .len) t ≡ textOf l₀ → Left F (lent t (l₀ .records) (l₀ .texts) (l₀ .line) (l₀ .log)) p xs l
-  moved-first l₀ p xs l t k n e =
-      record {
-        ready = k .ready;
-        text = k .text ∙ sym n;
-        records = k .records;
-        texts = k .texts;
-        suit = k .suit;
-        short = ap (λ (c : ℕ). tooLong c xs (textOf l)) n ∙ k .short;
-        room = k .room;
-        same = ap₂ (λ (c : ℕ) (s : List ℕ). edited catalogue F (sizesOf l₀) c p (record { text = s; cursor = l₀ .line .cursor; log = stateOf catalogue F l₀ .log })) n e ∙ k .same ∙ ap (λ (c : ℕ). edited catalogue F (sizesOf l₀) c (rest p xs) (stateOf catalogue F l)) (sym n);
-      }
 
   -- the next change suits the text
   pub next-suits : (l₀ : Lent) (p : Plan) (x : Piece) (xs : List Piece) (l : Lent) → Left F l₀ p (x ∷ xs) l → Suits catalogue x (textOf l)

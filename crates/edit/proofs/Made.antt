@@ -125,7 +125,7 @@ module _ (F : Format) (l : Lent) (h : Ready F l) (j : Bool) (x : Edit) (k a b : 
           let w = was-refused F (logLent l) (note j x u) (log.valueOf catalogue F (logLent l)) r rb tb q e in
           rw (no-nine, some, w .full) (record { answer = refl; bytes = record { text = refl; records = w .records; texts = w .texts } })
 
-      pub made-in : r .number ≡ 0 → (t : List ℕ) (m : ℕ) → m ≡ l .line .len - (b - a) + length n → take m t ≡ splice (textOf l) a b n → Edited F l outcome (says 0 (record { len = m; cursor = p }) (r .log)) t rb tb
+      made-in : r .number ≡ 0 → (t : List ℕ) (m : ℕ) → m ≡ l .line .len - (b - a) + length n → take m t ≡ splice (textOf l) a b n → Edited F l outcome (says 0 (record { len = m; cursor = p }) (r .log)) t rb tb
       unfolding changeOut
       made-in e t m f i =
           let w = took F (logLent l) (note j x u) (log.valueOf catalogue F (logLent l)) r rb tb q e in

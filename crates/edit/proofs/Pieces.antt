@@ -104,15 +104,6 @@ pub blank-delete : (p : ℕ) (s : List ℕ) → 0 < length s → blank (delete p
 blank-delete p [] h = absurd (omega arith)
 blank-delete p (b ∷ s) h = refl
 
--- one of no bytes is
-pub put-blank : (p : ℕ) (s : List ℕ) → length s ≡ 0 → blank (insert p s) ≡ true
-put-blank p [] e = refl
-put-blank p (b ∷ s) e = absurd (omega arith)
-
-pub cut-blank : (p : ℕ) (s : List ℕ) → length s ≡ 0 → blank (delete p s) ≡ true
-cut-blank p [] e = refl
-cut-blank p (b ∷ s) e = absurd (omega arith)
-
 module _ (R : Repertoire) where
   pub recorded-as : (x : Piece) (t : List ℕ) (u : List Change) → recorded R x t u ≡ notedOr (joinsAt R x t) (editAt x t) u
   unfolding recordInsert recordReplace

@@ -15,27 +15,21 @@ use Rattle.utf8.specs.Chars.{In}
 use Rattle.unicode.specs.Repertoire.{catalogue}
 use Rattle.unicode.specs.Text.{isText}
 use Rattle.lines.specs.Lines.{endOfLine}
-use Rattle.checks.specs.declared.Line.{Line}
 use Rattle.journal.specs.Layout.{narrow}
 use Rattle.journal.specs.Undo.{fits}
-use Rattle.buffer.specs.Gap.{gapped, shut}
-use Rattle.buffer.proofs.Gaps.{shut-length, shut-kept, gap-moved, gap-closed}
-use Rattle.changeset.specs.declared.Log.{Log}
 use Rattle.edit.specs.declared.EditAnswer.{EditAnswer}
 use Rattle.edit.specs.Plan.{splice, Piece, pasted, once, Plan, AllSuit, tooLong, listAfter, edited}
 use Rattle.edit.specs.Calls.{Lent, lent, textOf, sizesOf, stateOf, says, Edited, Ready}
 use Rattle.edit.proofs.Answers.{length-kept}
 use Rattle.edit.proofs.Made.{edited-as}
 use Rattle.edit.proofs.Splice.{splice-length, drop-splice}
-use Rattle.edit.proofs.Left.{Left, begins, moved, moved-first, next-suits, goes-on, ends, text-now}
-use Rattle.gap_edits.proofs.Behind.{used}
+use Rattle.edit.proofs.Left.{Left, begins, next-suits, goes-on, ends, text-now}
 use Rattle.touched_lines.specs.Touched.{split}
 use Rattle.touched_lines.proofs.Newlines.{split-some}
 use Rattle.indent_plans.specs.IndentPlans.{spaces, indentPieces, indentLines, indentCursor, indentPlan, pieceOf, indented}
 use Rattle.indent_plans.proofs.Suits.{piece-in, spaces-text}
 use Rattle.indent_plans.proofs.Counted.{space-member}
 use Rattle.indent_plans.proofs.FirstLine.{first-in, lines-last, lines-more, first-width}
-use Rattle.indent_plans.proofs.Gap.{opened-length, opened-text}
 
 -- ---- spaces
 pub take-spaces : (n k : ℕ) → n ≤ k → take n (spaces k) ≡ spaces n
@@ -131,191 +125,123 @@ module _ (l₀ : Lent) (m from to : ℕ) where
         low = omega (arith, moved-low from m (l₀ .line .cursor), e);
       }
 
-  -- bytes moved in the buffer of the text, which stays as it is
-  pub indent-moved : (l : Lent) (cursor at end left : ℕ) → Indenting l₀ m from to l cursor at end left → (t : List ℕ) → length t ≡ length (l .text) → take (l .line .len) t ≡ textOf l → Indenting l₀ m from to (lent t (l .records) (l .texts) (l .line) (l .log)) cursor at end left
-  indent-moved l cursor at end left k t n e =
-      record {
-        small = k .small;
-        bound = k .bound;
-        order = k .order;
-        within = k .within;
-        rest = subst (λ (x : List ℕ). Left narrow l₀ (linesPlan l₀ m from to) (pending m left at (split (part x (at + (m - left)) end))) (lent t (l .records) (l .texts) (l .line) (l .log))) (sym e)
-            (moved narrow l₀ (linesPlan l₀ m from to) (pending m left at (split (part (textOf l) (at + (m - left)) end))) l t (k .rest) n e);
-        moves = ap (λ (x : List ℕ). pendingCursor m at (split (part x (at + (m - left)) end)) cursor) e ∙ k .moves;
-        low = k .low;
-      }
+module _ {l₀ : Lent} {m from to : ℕ} {l : Lent} {cursor at end left : ℕ} (k : Indenting l₀ m from to l cursor at end left) where
+  abbrev t : List ℕ
+  t = textOf l
 
-  -- the same, of the buffer as it was lent
-  pub indent-moved-first : (l : Lent) (cursor at end left : ℕ) → Indenting l₀ m from to l cursor at end left → (t : List ℕ) → length t ≡ length (l₀ .text) → take (l₀ .line .len) t ≡ textOf l₀ → Indenting (lent t (l₀ .records) (l₀ .texts) (l₀ .line) (l₀ .log)) m from to l cursor at end left
-  indent-moved-first l cursor at end left k t n e =
-      let p : linesPlan l₀ m from to ≡ linesPlan (lent t (l₀ .records) (l₀ .texts) (l₀ .line) (l₀ .log)) m from to = ap (λ (x : List ℕ). indentPlan catalogue m false (l₀ .line .cursor) from (split (part x from to))) (sym e) in
-      record {
-        small = k .small;
-        bound = k .bound;
-        order = k .order;
-        within = k .within;
-        rest = subst (λ (y : Plan). Left narrow (lent t (l₀ .records) (l₀ .texts) (l₀ .line) (l₀ .log)) y (pending m left at (split (part (textOf l) (at + (m - left)) end))) l) p
-            (moved-first narrow l₀ (linesPlan l₀ m from to) (pending m left at (split (part (textOf l) (at + (m - left)) end))) l t (k .rest) n e);
-        moves = k .moves ∙ ap (λ (y : Plan). y .cursor) p;
-        low = k .low;
-      }
+  fit : end ≤ length t
+  fit = let z = k .within in omega (arith, length-kept narrow l (k .rest .ready))
 
-  module _ (l : Lent) (cursor at end left : ℕ) (k : Indenting l₀ m from to l cursor at end left) where
-    abbrev t : List ℕ
-    t = textOf l
+  -- ---- the line is done
+  module _ (none : left ≡ 0) {e : ℕ} (q : e ≡ endOfLine (take end (l .text)) (at + m)) where
+    here : at + (m - left) ≡ at + m
+    here = omega arith
 
-    fit : end ≤ length t
-    fit = let z = k .within in omega (arith, length-kept narrow l (k .rest .ready))
+    begun : at + m ≤ end
+    begun = let z = k .order in omega arith
 
-    -- ---- the line is done
-    module _ (none : left ≡ 0) (e : ℕ) (q : e ≡ endOfLine (take end (l .text)) (at + m)) where
-      here : at + (m - left) ≡ at + m
-      here = omega arith
+    q′ : e ≡ endOfLine (take end t) (at + m)
+    q′ = q ∙ ap (λ (x : List ℕ). endOfLine x (at + m)) (sym (take-take end (l .line .len) (l .text) (k .within)))
 
-      begun : at + m ≤ end
-      begun = let z = k .order in omega arith
+    pub done-within : (at + m ≤ e) × (e ≤ end)
+    done-within = first-in t (at + m) end e begun fit q′
 
-      q′ : e ≡ endOfLine (take end t) (at + m)
-      q′ = q ∙ ap (λ (x : List ℕ). endOfLine x (at + m)) (sym (take-take end (l .line .len) (l .text) (k .within)))
+    wide-line : length (part t (at + m) e) ≡ e - (at + m)
+    wide-line = first-width t (at + m) end e begun fit q′
 
-      pub done-within : (at + m ≤ e) × (e ≤ end)
-      done-within = first-in t (at + m) end e begun fit q′
+    pub indent-ends : e ≡ end → {a : EditAnswer} → a ≡ says 0 (record { len = l .line .len; cursor = cursor }) (l .log)
+        → Edited narrow l₀ (edited catalogue narrow (sizesOf l₀) (length (l₀ .text)) (linesPlan l₀ m from to) (stateOf catalogue narrow l₀)) a (l .text) (l .records) (l .texts)
+    unfolding indentLines indentCursor
+    indent-ends z {a} aq =
+        let y = ap (λ (i : ℕ). split (part t i end)) here ∙ lines-last t (at + m) end e begun fit q′ z in
+        let x : pending m left at (split (part t (at + (m - left)) end)) ≡ [] = ap (pending m left at) y ∙ pending-none m left at (part t (at + m) e) [] none in
+        let c : cursor ≡ linesPlan l₀ m from to .cursor = sym (ap (λ (xs : List (List ℕ)). pendingCursor m at xs cursor) y) ∙ k .moves in
+        edited-as narrow l₀ _ a _ (l .text) (l .records) (l .texts) (aq ∙ ap (λ (i : ℕ). says 0 (record { len = l .line .len; cursor = i }) (l .log)) c)
+        (ends narrow l₀ (linesPlan l₀ m from to) l (subst (λ (xs : List Piece). Left narrow l₀ (linesPlan l₀ m from to) xs l) x (k .rest)))
 
-      wide-line : length (part t (at + m) e) ≡ e - (at + m)
-      wide-line = first-width t (at + m) end e begun fit q′
+    pub indent-next-line : e < end → {c : ℕ} → c ≡ indented (e + 1) m cursor → Indenting l₀ m from to l c (e + 1) end m
+    indent-next-line h {c} cq =
+        let d = done-within in
+        let y = ap (λ (i : ℕ). split (part t i end)) here ∙ lines-more t (at + m) end e begun fit q′ h in
+        let w : at + m + length (part t (at + m) e) + 1 ≡ e + 1 = omega (arith, wide-line) in
+        let z : e + 1 + (m - m) ≡ e + 1 = omega arith in
+        let ys = split (part t (e + 1) end) in
+        let x : pending m left at (split (part t (at + (m - left)) end)) ≡ pending m m (e + 1) (split (part t (e + 1 + (m - m)) end)) =
+        ap (pending m left at) y ∙ pending-none m left at (part t (at + m) e) ys none ∙ ap (λ (i : ℕ). indentLines m i ys) w ∙ pending-all m (e + 1) ys ∙ ap (λ (i : ℕ). pending m m (e + 1) (split (part t i end))) (sym z)
+        in
+        let v : pendingCursor m at (split (part t (at + (m - left)) end)) cursor ≡ pendingCursor m (e + 1) (split (part t (e + 1 + (m - m)) end)) c =
+        ap (λ (xs : List (List ℕ)). pendingCursor m at xs cursor) y ∙ ap (λ (i : ℕ). indentCursor m i ys cursor) w ∙ pending-moved m (e + 1) ys cursor (split-some (part t (e + 1) end))
+        ∙ ap₂ (λ (i j : ℕ). pendingCursor m (e + 1) (split (part t i end)) j) (sym z) (sym cq)
+        in
+        record {
+          small = k .small;
+          bound = omega arith;
+          order = omega arith;
+          within = k .within;
+          rest = subst (λ (xs : List Piece). Left narrow l₀ (linesPlan l₀ m from to) xs l) x (k .rest);
+          moves = sym v ∙ k .moves;
+          low = omega (arith, moved-low (e + 1) m cursor, cq, k .low);
+        }
 
-      -- the last line; u is the buffer with the gap closed
-      pub indent-ends : e ≡ end → (u : List ℕ) → length u ≡ length (l .text) → take (l .line .len) u ≡ textOf l → (a : EditAnswer) → a ≡ says 0 (record { len = l .line .len; cursor = cursor }) (l .log)
-          → Edited narrow l₀ (edited catalogue narrow (sizesOf l₀) (length (l₀ .text)) (linesPlan l₀ m from to) (stateOf catalogue narrow l₀)) a u (l .records) (l .texts)
-      unfolding indentLines indentCursor
-      indent-ends z u lu eu a aq =
-          let y = ap (λ (i : ℕ). split (part t i end)) here ∙ lines-last t (at + m) end e begun fit q′ z in
-          let x : pending m left at (split (part t (at + (m - left)) end)) ≡ [] = ap (pending m left at) y ∙ pending-none m left at (part t (at + m) e) [] none in
-          let c : cursor ≡ linesPlan l₀ m from to .cursor = sym (ap (λ (xs : List (List ℕ)). pendingCursor m at xs cursor) y) ∙ k .moves in
-          edited-as narrow l₀ _ a _ u (l .records) (l .texts) (aq ∙ ap (λ (i : ℕ). says 0 (record { len = l .line .len; cursor = i }) (l .log)) c)
-          (ends narrow l₀ (linesPlan l₀ m from to) (lent u (l .records) (l .texts) (l .line) (l .log)) (moved narrow l₀ (linesPlan l₀ m from to) [] l u (subst (λ (xs : List Piece). Left narrow l₀ (linesPlan l₀ m from to) xs l) x (k .rest)) lu eu))
+  -- ---- a piece more
+  module _ (some : 0 < left) where
+    piece : pieceOf left ≤ left
+    piece = let w = piece-in left (λ e. omega arith) in omega (arith, w .2)
 
-      pub indent-next-line : e < end → (c : ℕ) → c ≡ indented (e + 1) m cursor → Indenting l₀ m from to l c (e + 1) end m
-      indent-next-line h c cq =
-          let d = done-within in
-          let y = ap (λ (i : ℕ). split (part t i end)) here ∙ lines-more t (at + m) end e begun fit q′ h in
-          let w : at + m + length (part t (at + m) e) + 1 ≡ e + 1 = omega (arith, wide-line) in
-          let z : e + 1 + (m - m) ≡ e + 1 = omega arith in
-          let ys = split (part t (e + 1) end) in
-          let x : pending m left at (split (part t (at + (m - left)) end)) ≡ pending m m (e + 1) (split (part t (e + 1 + (m - m)) end)) =
-          ap (pending m left at) y ∙ pending-none m left at (part t (at + m) e) ys none ∙ ap (λ (i : ℕ). indentLines m i ys) w ∙ pending-all m (e + 1) ys ∙ ap (λ (i : ℕ). pending m m (e + 1) (split (part t i end))) (sym z)
-          in
-          let v : pendingCursor m at (split (part t (at + (m - left)) end)) cursor ≡ pendingCursor m (e + 1) (split (part t (e + 1 + (m - m)) end)) c =
-          ap (λ (xs : List (List ℕ)). pendingCursor m at xs cursor) y ∙ ap (λ (i : ℕ). indentCursor m i ys cursor) w ∙ pending-moved m (e + 1) ys cursor (split-some (part t (e + 1) end))
-          ∙ ap₂ (λ (i j : ℕ). pendingCursor m (e + 1) (split (part t i end)) j) (sym z) (sym cq)
-          in
-          record {
-            small = k .small;
-            bound = omega arith;
-            order = omega arith;
-            within = k .within;
-            rest = subst (λ (xs : List Piece). Left narrow l₀ (linesPlan l₀ m from to) xs l) x (k .rest);
-            moves = sym v ∙ k .moves;
-            low = omega (arith, moved-low (e + 1) m cursor, cq, k .low);
-          }
+    first : (at′ : ℕ) → pending m left at (split (part t at′ end)) ≡ pasted at (spaces (pieceOf left)) ∷ pending m (left - pieceOf left) at (split (part t at′ end))
+    first at′ = let b = k .bound in let s = k .small in pending-put m left at (split (part t at′ end)) some (omega arith) (split-some (part t at′ end))
 
-    -- ---- a piece more
-    module _ (some : 0 < left) where
-      piece : pieceOf left ≤ left
-      piece = let w = piece-in left (λ e. omega arith) in omega (arith, w .2)
+    as-left : (ys : List Piece) → pending m left at (split (part t (at + (m - left)) end)) ≡ pasted at (spaces (pieceOf left)) ∷ ys → Left narrow l₀ (linesPlan l₀ m from to) (pasted at (spaces (pieceOf left)) ∷ ys) l
+    as-left ys z = subst (λ (xs : List Piece). Left narrow l₀ (linesPlan l₀ m from to) xs l) z (k .rest)
 
-      first : (at′ : ℕ) → pending m left at (split (part t at′ end)) ≡ pasted at (spaces (pieceOf left)) ∷ pending m (left - pieceOf left) at (split (part t at′ end))
-      first at′ = let b = k .bound in let s = k .small in pending-put m left at (split (part t at′ end)) some (omega arith) (split-some (part t at′ end))
+    pub put-suits : In t at at
+    put-suits = next-suits narrow l₀ (linesPlan l₀ m from to) (pasted at (spaces (pieceOf left))) _ l (as-left _ (first (at + (m - left)))) .0
 
-      as-left : (ys : List Piece) → pending m left at (split (part t (at + (m - left)) end)) ≡ pasted at (spaces (pieceOf left)) ∷ ys → Left narrow l₀ (linesPlan l₀ m from to) (pasted at (spaces (pieceOf left)) ∷ ys) l
-      as-left ys z = subst (λ (xs : List Piece). Left narrow l₀ (linesPlan l₀ m from to) xs l) z (k .rest)
+    module _ {n : ℕ} (nq : n ≡ pieceOf left) where
+      pub put-within : (0 < n) × (n ≤ 32) × (n ≤ left)
+      put-within = let w = piece-in left (λ e. omega arith) in (omega (arith, w .0), omega (arith, w .1), omega (arith, piece))
 
-      pub put-suits : In t at at
-      put-suits = next-suits narrow l₀ (linesPlan l₀ m from to) (pasted at (spaces (pieceOf left))) _ l (as-left _ (first (at + (m - left)))) .0
+      pub put-text : {s : List ℕ} → s ≡ take n (spaces 32) → isText catalogue s ≡ true
+      put-text e = let w = put-within in ap (isText catalogue) (e ∙ take-spaces n 32 (w .1)) ∙ spaces-text catalogue space-member n
 
-      module _ (n : ℕ) (nq : n ≡ pieceOf left) where
-        pub put-within : (0 < n) × (n ≤ 32) × (n ≤ left)
-        put-within = let w = piece-in left (λ e. omega arith) in (omega (arith, w .0), omega (arith, w .1), omega (arith, piece))
+      module _ {s : List ℕ} (sq : s ≡ take n (spaces 32)) {r : EditAnswer} {tn rb tb : List ℕ} (o : Edited narrow l (edited catalogue narrow (sizesOf l) (length (l .text)) (once (pasted at s) at) (stateOf catalogue narrow l)) r tn rb tb)
+          (lt : length tn ≡ length (l .text)) (lr : length rb ≡ length (l .records)) (ls : length tb ≡ length (l .texts)) where
+        o′ : Edited narrow l (edited catalogue narrow (sizesOf l) (length (l .text)) (once (pasted at (spaces (pieceOf left))) at) (stateOf catalogue narrow l)) r tn rb tb
+        o′ =
+            let w = put-within in
+            subst (λ (x : List ℕ). Edited narrow l (edited catalogue narrow (sizesOf l) (length (l .text)) (once (pasted at x) at) (stateOf catalogue narrow l)) r tn rb tb) (sq ∙ take-spaces n 32 (w .1) ∙ ap spaces nq) o
 
-        pub put-text : (s : List ℕ) → s ≡ take n (spaces 32) → isText catalogue s ≡ true
-        put-text s e = let w = put-within in ap (isText catalogue) (e ∙ take-spaces n 32 (w .1)) ∙ spaces-text catalogue space-member n
-
-        module _ (s : List ℕ) (sq : s ≡ take n (spaces 32)) (r : EditAnswer) (tn rb tb : List ℕ) (o : Edited narrow l (edited catalogue narrow (sizesOf l) (length (l .text)) (once (pasted at s) at) (stateOf catalogue narrow l)) r tn rb tb)
-            (lt : length tn ≡ length (l .text)) (lr : length rb ≡ length (l .records)) (ls : length tb ≡ length (l .texts)) where
-          o′ : Edited narrow l (edited catalogue narrow (sizesOf l) (length (l .text)) (once (pasted at (spaces (pieceOf left))) at) (stateOf catalogue narrow l)) r tn rb tb
-          o′ =
-              let w = put-within in
-              subst (λ (x : List ℕ). Edited narrow l (edited catalogue narrow (sizesOf l) (length (l .text)) (once (pasted at x) at) (stateOf catalogue narrow l)) r tn rb tb) (sq ∙ take-spaces n 32 (w .1) ∙ ap spaces nq) o
-
-          pub indent-put : Indenting l₀ m from to (lent tn rb tb (r .line) (r .log)) cursor at (end + n) (left - n)
-          indent-put =
-              let w = put-within in
-              let b = k .bound in
-              let i = put-suits in
-              let i₁ = i .1 in
-              let y₀ = first (at + (m - left)) in
-              let u : take (r .line .len) tn ≡ splice t at at (spaces (pieceOf left)) = text-now narrow l₀ (linesPlan l₀ m from to) (pasted at (spaces (pieceOf left))) _ l (as-left _ y₀) r tn rb tb o′ lt lr ls in
-              let g : length (spaces (pieceOf left)) ≡ n = length-replicate {A = ℕ} (pieceOf left) 0x20 ∙ sym nq in
-              let a : at + (m - (left - n)) ≡ at + length (spaces (pieceOf left)) + (m - left) = omega arith in
-              let z : end + n - (at + (m - (left - n))) ≡ end - (at + (m - left)) = omega arith in
-              let p : part (take (r .line .len) tn) (at + (m - (left - n))) (end + n) ≡ part t (at + (m - left)) end =
-              ap₂ (λ (c : ℕ) (x : List ℕ). take c (drop (at + (m - (left - n))) x)) z u
-              ∙ ap (take (end - (at + (m - left)))) (ap (λ (c : ℕ). drop c (splice t at at (spaces (pieceOf left)))) a ∙ drop-splice t at at (spaces (pieceOf left)) (m - left) i₁)
-              in
-              let y : pending m left at (split (part t (at + (m - left)) end)) ≡ pasted at (spaces (pieceOf left)) ∷ pending m (left - n) at (split (part (take (r .line .len) tn) (at + (m - (left - n))) (end + n))) =
-              y₀ ∙ ap₂ (λ (c : ℕ) (x : List ℕ). pasted at (spaces (pieceOf left)) ∷ pending m (left - c) at (split x)) (sym nq) (sym p)
-              in
-              let x = goes-on narrow l₀ (linesPlan l₀ m from to) (pasted at (spaces (pieceOf left))) _ l (as-left _ y) r tn rb tb o′ lt lr ls in
-              let c = length-take-le (r .line .len) tn (x .ready .used) in
-              let j = splice-length t at at (spaces (pieceOf left)) (omega arith) i₁ in
-              let h = ap length u in
-              record {
-                small = k .small;
-                bound = fewer left n m b;
-                order = further at m left n end b (w .2) (k .order);
-                within = longer end (length t) at (length (spaces (pieceOf left))) n (r .line .len) fit (sym c ∙ h ∙ j) g;
-                rest = x;
-                moves = ap (λ (v : List ℕ). pendingCursor m at (split v) cursor) p ∙ k .moves;
-                low = k .low;
-              }
-
--- ---- with a gap at the line's place: it is opened at the first line
-module _ (s₀ rb tb : List ℕ) (line : Line) (g : Log) (from to : ℕ) (h : Ready narrow (lent s₀ rb tb line g)) (a : from ≤ to) (b : to ≤ line .len) (s : List ℕ) (n : length s ≡ length s₀) (e : gapped (line .len) from s ≡ gapped (line .len) (line .len) s₀) (m : ℕ) where
-  abbrev l₀ : Lent
-  l₀ = lent s₀ rb tb line g
-
-  abbrev l₁ : Lent
-  l₁ = lent (shut (line .len) from s) rb tb line g
-
-  pub indent-opens : m ≤ 256 → AllSuit catalogue (linesPlan l₀ m from to .pieces) (textOf l₀) → tooLong (length s₀) (linesPlan l₀ m from to .pieces) (textOf l₀) ≡ false
-      → fits narrow (sizesOf l₀) (listAfter catalogue (linesPlan l₀ m from to .pieces) (textOf l₀) (stateOf catalogue narrow l₀ .log .undo)) ≡ true → (c : ℕ) → c ≡ indented from m (line .cursor) → Indenting l₁ m from to l₁ c from to m
-  indent-opens k u i r c q =
-      let x = opened-length s₀ rb tb line g from to h a b s n e in
-      let y = opened-text s₀ rb tb line g from to h a b s n e in
-      indent-moved-first l₀ m from to l₁ c from to m (indent-moved l₀ m from to l₀ c from to m (indent-begins l₀ m from to k h a b u i r c q) (l₁ .text) x y) (l₁ .text) x y
-
--- it is moved from line to line, and closed behind the last
-module _ (l₁ : Lent) (m from to : ℕ) (s rb tb : List ℕ) (line : Line) (g : Log) (cursor at end left : ℕ) (k : Indenting l₁ m from to (lent (shut (line .len) at s) rb tb line g) cursor at end left) where
-  abbrev l : Lent
-  l = lent (shut (line .len) at s) rb tb line g
-
-  pub gap-at : (at ≤ line .len) × (line .len ≤ length s)
-  gap-at = let o = k .order in let w = k .within in (omega arith, used narrow s rb tb line g at (k .rest .ready))
-
-  module _ (u : List ℕ) (lu : length u ≡ length s) where
-    module _ (none : left ≡ 0) (e : ℕ) (q : e ≡ endOfLine (take end (shut (line .len) at s)) (at + m)) where
-      pub indent-on : e < end → gapped (line .len) (e + 1) u ≡ gapped (line .len) at s → (c : ℕ) → c ≡ indented (e + 1) m cursor → Indenting l₁ m from to (lent (shut (line .len) (e + 1) u) rb tb line g) c (e + 1) end m
-      indent-on h i c cq =
-          let w = k .within in
-          indent-moved l₁ m from to l c (e + 1) end m (indent-next-line l₁ m from to l cursor at end left k none e q h c cq) (shut (line .len) (e + 1) u) (shut-kept (line .len) at (line .len) (e + 1) s u lu)
-          (gap-moved (line .len) s u (gap-at .1) lu at (e + 1) (gap-at .0) (omega arith) i)
-
-      pub indent-done : e ≡ end → gapped (line .len) (line .len) u ≡ gapped (line .len) at s → (t : List ℕ) → length t ≡ length (l₁ .text) → take (l₁ .line .len) t ≡ textOf l₁ → (a : EditAnswer)
-          → a ≡ says 0 (record { len = line .len; cursor = cursor }) g
-          → Edited narrow (lent t (l₁ .records) (l₁ .texts) (l₁ .line) (l₁ .log)) (edited catalogue narrow (sizesOf l₁) (length t) (linesPlan (lent t (l₁ .records) (l₁ .texts) (l₁ .line) (l₁ .log)) m from to) (stateOf catalogue narrow (lent t (l₁ .records) (l₁ .texts) (l₁ .line) (l₁ .log)))) a u rb tb
-      indent-done z i t n v a aq =
-          indent-ends (lent t (l₁ .records) (l₁ .texts) (l₁ .line) (l₁ .log)) m from to l cursor at end left (indent-moved-first l₁ m from to l cursor at end left k t n v) none e q z u
-          (lu ∙ sym (shut-length (line .len) at s)) (gap-closed (line .len) s u (gap-at .1) lu at (gap-at .0) i) a aq
+        pub indent-put : Indenting l₀ m from to (lent tn rb tb (r .line) (r .log)) cursor at (end + n) (left - n)
+        indent-put =
+            let w = put-within in
+            let b = k .bound in
+            let i = put-suits in
+            let i₁ = i .1 in
+            let y₀ = first (at + (m - left)) in
+            let u : take (r .line .len) tn ≡ splice t at at (spaces (pieceOf left)) = text-now narrow l₀ (linesPlan l₀ m from to) (pasted at (spaces (pieceOf left))) _ l (as-left _ y₀) r tn rb tb o′ lt lr ls in
+            let g : length (spaces (pieceOf left)) ≡ n = length-replicate {A = ℕ} (pieceOf left) 0x20 ∙ sym nq in
+            let a : at + (m - (left - n)) ≡ at + length (spaces (pieceOf left)) + (m - left) = omega arith in
+            let z : end + n - (at + (m - (left - n))) ≡ end - (at + (m - left)) = omega arith in
+            let p : part (take (r .line .len) tn) (at + (m - (left - n))) (end + n) ≡ part t (at + (m - left)) end =
+            ap₂ (λ (c : ℕ) (x : List ℕ). take c (drop (at + (m - (left - n))) x)) z u
+            ∙ ap (take (end - (at + (m - left)))) (ap (λ (c : ℕ). drop c (splice t at at (spaces (pieceOf left)))) a ∙ drop-splice t at at (spaces (pieceOf left)) (m - left) i₁)
+            in
+            let y : pending m left at (split (part t (at + (m - left)) end)) ≡ pasted at (spaces (pieceOf left)) ∷ pending m (left - n) at (split (part (take (r .line .len) tn) (at + (m - (left - n))) (end + n))) =
+            y₀ ∙ ap₂ (λ (c : ℕ) (x : List ℕ). pasted at (spaces (pieceOf left)) ∷ pending m (left - c) at (split x)) (sym nq) (sym p)
+            in
+            let x = goes-on narrow l₀ (linesPlan l₀ m from to) (pasted at (spaces (pieceOf left))) _ l (as-left _ y) r tn rb tb o′ lt lr ls in
+            let c = length-take-le (r .line .len) tn (x .ready .used) in
+            let j = splice-length t at at (spaces (pieceOf left)) (omega arith) i₁ in
+            let h = ap length u in
+            record {
+              small = k .small;
+              bound = fewer left n m b;
+              order = further at m left n end b (w .2) (k .order);
+              within = longer end (length t) at (length (spaces (pieceOf left))) n (r .line .len) fit (sym c ∙ h ∙ j) g;
+              rest = x;
+              moves = ap (λ (v : List ℕ). pendingCursor m at (split v) cursor) p ∙ k .moves;
+              low = k .low;
+            }
 
 -- ---- the turns left: each line's bytes, and the spaces of the first
 abbrev pub turns : ℕ → ℕ → ℕ → ℕ → ℕ

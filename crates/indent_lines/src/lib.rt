@@ -1,4 +1,5 @@
-// The lines of a part of a text indented, with a gap at the line's place: a byte of the text moves twice at most.
+// The lines of a part of a text indented, one after the other: each piece of spaces is an insertion, made and recorded as edits
+// make them.
 ghost use mathlib.Core.Path.{_≡_};
 ghost use mathlib.Core.Bool.{true, false};
 ghost use Prim.Native.Nat.{_+_, _≤_, _<_};
@@ -12,14 +13,13 @@ ghost use Rattle.edit.specs.Plan.{AllSuit, tooLong, listAfter, edited};
 ghost use Rattle.edit.specs.Calls.{lent, sizesOf, stateOf, Edited, Ready};
 ghost use Rattle.touched_lines.specs.Touched.{split};
 ghost use Rattle.indent_plans.specs.IndentPlans.{pieceOf, indentLines, indented as Plans·indented, indentPlan};
-use buffer::move_gap;
 use changeset::Log;
 use checks::Line;
 use edit::EditAnswer;
+use edit::put_in;
 use edit::says;
-use gap_edits::put_behind;
-use indent_plans::end_behind;
 use indent_plans::has_room;
+use lines::end_of_line;
 use records::NARROW;
 use touched_lines::count_lines;
 
@@ -38,8 +38,7 @@ fn piece(m: usize) -> usize
     if m < 32 { m } else { 32 }
 }
 
-// The lines of a part indented by m, one after the other. A gap stands at the line's place; a turn puts a piece in behind it, or
-// moves it to the next line.
+// The lines of a part indented by m, one after the other. A turn puts a piece in, or goes to the next line.
 fn indent_lines(
     text: &mut [u8],
     records: &mut [u8],
@@ -63,7 +62,6 @@ fn indent_lines(
         r (now (text .exit)) (now (records .exit)) (now (texts .exit)) ⌝ }
 {
     let spaces = [0x20u8; 32];
-    move_gap(text, line.len, line.len, from);
     let mut line_now = line;
     let mut log_now = log;
     let mut cursor = indented(from, m, line.cursor);
@@ -72,21 +70,18 @@ fn indent_lines(
     let mut left = m;
     loop {
         if left == 0 {
-            let len = line_now.len;
-            let e = end_behind(text, len, at, at + m, end);
+            let e = end_of_line(&text[..end], at + m);
             if e == end {
-                move_gap(text, len, at, len);
+                let len = line_now.len;
                 return says(0, Line { len, cursor }, log_now);
             }
-            let next = e + 1;
-            move_gap(text, len, at, next);
-            at = next;
+            at = e + 1;
             left = m;
             cursor = indented(at, m, cursor);
             continue;
         }
         let n = piece(left);
-        let a = put_behind(
+        let a = put_in(
             NARROW,
             text,
             records,
@@ -95,6 +90,7 @@ fn indent_lines(
             log_now,
             at,
             &spaces[..n],
+            at,
         );
         line_now = a.line;
         log_now = a.log;

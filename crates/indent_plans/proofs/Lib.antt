@@ -4,4 +4,3 @@ pub mod Cursors
 pub mod Counted
 pub mod Rooms
 pub mod FirstLine
-pub mod Gap

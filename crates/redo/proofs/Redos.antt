@@ -19,10 +19,10 @@ use Rattle.edit.specs.Plan.{State}
 use Rattle.edit.specs.Calls.{Lent, lent, stateOf, says, Edited, Ready}
 use Rattle.retrace.specs.Retrace.{Trail, Tried, done, stops, undoing}
 use Rattle.undo.specs.Undo.{Waiting, owed, passing, settled, Walked, onTried, onSettled, walk, numberOf, trailOf, redoneState, redoWalk, behindNumber, redoOut}
-use Rattle.undo.specs.Steps.{stateAt, Redone}
+use Rattle.undo.specs.Steps.{stateAt, Unmoved, Redone}
 use Rattle.undo.proofs.Seams.{none-next}
 use Rattle.undo.proofs.Passes.{Numbered, numbered}
-use Rattle.undo.proofs.Walks.{outOf, answers-as, Ends}
+use Rattle.undo.proofs.Walks.{outOf, answers-as, unmoved-first, unmoved-both, Ends}
 
 -- ---- the number that stops a walk is over 1
 abbrev Over : ℕ → Type 0
@@ -62,7 +62,7 @@ redo-one C s = one-out (redoWalk C s .stopped) (redoWalk C s .trail .undone) (re
 
 -- where its walk ends
 pub redone : {F : Format} {l₀ : Lent} {r : EditAnswer} {t : List ℕ} → Ends F l₀ false (redoWalk (length (l₀ .text)) (stateOf catalogue F l₀)) r t → Redone F l₀ r t
-redone {F} {l₀} e = record { ready = e .ready; out = redo-one (length (l₀ .text)) (stateOf catalogue F l₀) ∙ e .out }
+redone {F} {l₀} e = record { ready = e .ready; out = redo-one (length (l₀ .text)) (stateOf catalogue F l₀) ∙ e .out; unmoved = e .unmoved }
 
 -- ---- a unit and those after it
 -- a 1 before them changes nothing
@@ -151,11 +151,11 @@ pub record Redoing (F : Format) (l₀ : Lent) (n : ℕ) (t : List ℕ) (a : Line
   pub text : length t ≡ length (l₀ .text)
   pub low : number ≤ 1
   pub same : redoOut (length (l₀ .text)) n (stateOf catalogue F l₀) ≡ behindNumber number (redoOut (length (l₀ .text)) left (stateOf catalogue F (lent t (l₀ .records) (l₀ .texts) a g)))
+  pub unmoved : Unmoved (l₀ .log .redo .records) (g .redo .records) (l₀ .text) t
 
 -- at their beginning
-pub redoing-first : {F : Format} {l₀ : Lent} → Ready F l₀ → (n : ℕ) {t : List ℕ} → t ≡ l₀ .text → Redoing F l₀ n t (l₀ .line) (l₀ .log) 1 n
-redoing-first {F} {l₀} h n e =
-    subst (λ (b : List ℕ). Redoing F l₀ n b (l₀ .line) (l₀ .log) 1 n) (sym e) (record { ready = h; text = refl; low = omega arith; same = sym (behind-one _) })
+pub redoing-first : {F : Format} {l₀ : Lent} → Ready F l₀ → (n : ℕ) → Redoing F l₀ n (l₀ .text) (l₀ .line) (l₀ .log) 1 n
+redoing-first h n = record { ready = h; text = refl; low = omega arith; same = sym (behind-one _); unmoved = unmoved-first }
 
 module _ {F : Format} {l₀ : Lent} {n : ℕ} {t : List ℕ} {a : Line} {g : Log} {number left : ℕ} (k : Redoing F l₀ n t a g number left) where
   abbrev l : Lent
@@ -173,6 +173,10 @@ module _ {F : Format} {l₀ : Lent} {n : ℕ} {t : List ℕ} {a : Line} {g : Log
           by-test _ (eqb left 0)
           (λ e. ap (λ (i : ℕ). redoOut (length (l₀ .text)) i (stateOf catalogue F l)) (eqb-true left 0 e) ∙ redo-zero (length (l₀ .text)) (stateOf catalogue F l))
           (λ e. redo-none (length (l₀ .text)) left (stateOf catalogue F l) (none-next (k .ready) (eqb-true (g .redo .records) 0 (rw e at z))))
+
+  -- where the log is as it was, not a byte of the text's buffer is changed
+  pub ended-still : {r : EditAnswer} → r ≡ says number a g → r .log ≡ l₀ .log → t ≡ l₀ .text
+  ended-still q e = k .unmoved .same (ap (λ (i : Log). i .redo .records) (ap (λ (b : EditAnswer). b .log) (sym q) ∙ e))
 
   -- one is left
   pub more-left : (eqb left 0 || eqb (g .redo .records) 0) ≡ false → 0 < left
@@ -208,6 +212,7 @@ module _ {F : Format} {l₀ : Lent} {n : ℕ} {t : List ℕ} {a : Line} {g : Log
               (ap (λ (m : ℕ). redoOut (length (l₀ .text)) m (stateOf catalogue F l)) taken ∙ step-on (length (l₀ .text)) (stateOf catalogue F l) (b .number) (stateOf catalogue F l′) one (low-number y) (left - 1))
               ∙ behind-behind number (b .number) (redoOut (length (l₀ .text)) (left - 1) (stateOf catalogue F l′)) (low-number y)
               ∙ ap (λ (m : ℕ). behindNumber m (redoOut (length (l₀ .text)) (left - 1) (stateOf catalogue F l′))) (sym e);
+          unmoved = unmoved-both (k .unmoved) (d .unmoved);
         }
 
     -- a stop ends them
@@ -223,3 +228,6 @@ module _ {F : Format} {l₀ : Lent} {n : ℕ} {t : List ℕ} {a : Line} {g : Log
       where
         high : 1 < b .number
         high = by-test _ (eqb number 0 && eqb (b .number) 1) (λ f. absurd (omega (arith, rw f at e))) (λ f. omega (arith, rw f at e))
+
+    pub stopped-still : {r : EditAnswer} → r ≡ says j (b .line) (b .log) → r .log ≡ l₀ .log → t′ ≡ l₀ .text
+    stopped-still q i = unmoved-both (k .unmoved) (d .unmoved) .same (ap (λ (g : Log). g .redo .records) (ap (λ (c : EditAnswer). c .log) (sym q) ∙ i))

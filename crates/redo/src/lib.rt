@@ -1,26 +1,23 @@
 // Redo: undo.rs, redo of Changeset, and document 01 for the stops 12 and 9. Any text, cursor and log may be handed over: what is
 // unfit is turned away by a number of document 01. Records and their texts are only read: the seam between the two lists moves.
-// While records are walked the text is held with a gap or in blocks, as in undo.
+// The text is changed as edits change it, as in undo.
 ghost use mathlib.Core.Path.{_≡_};
 ghost use mathlib.Core.Bool.{false, cond, _&&_};
-ghost use Prim.Native.Nat.{_≤_, _<_};
+ghost use Prim.Native.Nat.{_<_};
 ghost use lib.Dec.{eqb};
 ghost use lib.ListN.{length};
 ghost use Rattle.unicode.specs.Repertoire.{catalogue};
 ghost use Rattle.journal.specs.Layout.{narrow};
-ghost use Rattle.held.specs.Held.{laid, Holds};
 ghost use Rattle.records.specs.Formats.{asFormat, Fit};
 ghost use Rattle.edit.specs.Calls.{lent, stateOf, Edited, Ready};
 ghost use Rattle.undo.specs.Undo.{redoOut, redoCall};
-ghost use Rattle.undo.specs.Steps.{lentHeld, lentBy, PassesOne, Unmoved, Redone};
+ghost use Rattle.undo.specs.Steps.{lentBy, PassesOne, Redone};
 use changeset::Log;
 use checks::Line;
 use edit::EditAnswer;
 use edit::Own;
 use edit::refusal;
 use edit::says;
-use held::Held;
-use held::lay_out;
 use keymap::RepeatCount;
 use records::Format;
 use records::NARROW;
@@ -36,69 +33,45 @@ use undo::one_if;
 fn redo_record(
     f: Format,
     text: &mut [u8],
-    room: &mut [u8],
     records: &[u8],
     texts: &[u8],
     s: Step,
-    held: Held,
     log: Log,
 ) -> Passed
     requires { ⌜ Fit f ⌝ }
-    requires { ⌜ Ready (asFormat f) (lentBy (now text) (now room) held (now records) (now texts) s log) ⌝ }
+    requires { ⌜ Ready (asFormat f) (lentBy (now text) (now records) (now texts) s log) ⌝ }
     requires { ⌜ (s .number ≡ 0) × (0 < log .redo .records) ⌝ }
-    requires { ⌜ Holds (s .len) held (now text) (now room) ⌝ }
-    ensures pass { λ q. ⌜ PassesOne (asFormat f) (lentBy (now (text .entry)) (now (room .entry)) held (now (records .entry)) (now (texts .entry)) s log) false (s .undone) q (laid (q .step .len) (q .held) (now (text .exit)) (now (room .exit))) ⌝ }
-    ensures held { λ q. ⌜ Holds (q .step .len) (q .held) (now (text .exit)) (now (room .exit)) ⌝ }
-    ensures still { λ q. ⌜ ((q .step .number ≡ 0 → ⊥) → (now (text .exit) ≡ now (text .entry)) × (q .step .len ≡ s .len) × (q .held ≡ held) × (q .log ≡ log)) ⌝ }
+    ensures { λ q. ⌜ PassesOne (asFormat f) (lentBy (now (text .entry)) (now (records .entry)) (now (texts .entry)) s log) false (s .undone) q (now (text .exit)) ⌝ }
 {
     let u = log.undo;
     let at = u.records;
     let t = u.texts;
     let r = read_record(f, records, at);
-    let traced = retrace(text, room, texts, s, held, r, t, false);
-    let step = traced.step;
-    let held = traced.held;
+    let step = retrace(text, texts, s, r, t, false);
     let kind = r.kind;
     if step.number != 0 {
-        return Passed {
-            step,
-            held,
-            log,
-            kind,
-        };
+        return Passed { step, log, kind };
     }
     let end = at + record_size(f, records[at] as usize);
     Passed {
         step,
-        held,
         log: log.move_seam(end, t + (r.old + r.new)),
         kind,
     }
-}
-
-// One unit redone: its answer, and how the text is held.
-struct RedoAnswer {
-    answer: EditAnswer,
-    held: Held,
 }
 
 // The records of one unit redone. A record redone is passed turned round: a Begin as an End, an End as a Begin.
 fn redo_unit(
     f: Format,
     text: &mut [u8],
-    room: &mut [u8],
     records: &[u8],
     texts: &[u8],
     line: Line,
-    held: Held,
     log: Log,
-) -> RedoAnswer
+) -> EditAnswer
     requires { ⌜ Fit f ⌝ }
-    requires { ⌜ Ready (asFormat f) (lentHeld (now text) (now room) held (now records) (now texts) line log) ⌝ }
-    requires { ⌜ Holds (line .len) held (now text) (now room) ⌝ }
-    ensures unit { λ r. ⌜ Redone (asFormat f) (lentHeld (now (text .entry)) (now (room .entry)) held (now (records .entry)) (now (texts .entry)) line log) (r .answer) (laid (r .answer .line .len) (r .held) (now (text .exit)) (now (room .exit))) ⌝ }
-    ensures held { λ r. ⌜ Holds (r .answer .line .len) (r .held) (now (text .exit)) (now (room .exit)) ⌝ }
-    ensures still { λ r. ⌜ Unmoved (log .redo .records) (r .answer .log .redo .records) (now (text .entry)) (now (text .exit)) (line .len) (r .answer .line .len) held (r .held) ⌝ }
+    requires { ⌜ Ready (asFormat f) (lent (now text) (now records) (now texts) line log) ⌝ }
+    ensures { λ r. ⌜ Redone (asFormat f) (lent (now (text .entry)) (now (records .entry)) (now (texts .entry)) line log) r (now (text .exit)) ⌝ }
 {
     let mut s = Step {
         number: 0,
@@ -106,35 +79,24 @@ fn redo_unit(
         cursor: line.cursor,
         undone: false,
     };
-    let mut h = held;
     let mut g = log;
     let mut ends: usize = 0;
     let mut begins: usize = 0;
     loop {
         let d = g.redo;
         if d.records == 0 {
-            return RedoAnswer {
-                answer: answer(s, g),
-                held: h,
-            };
+            return answer(s, g);
         }
-        let p = redo_record(f, text, room, records, texts, s, h, g);
+        let p = redo_record(f, text, records, texts, s, g);
         s = p.step;
-        h = p.held;
         g = p.log;
         if s.number != 0 {
-            return RedoAnswer {
-                answer: answer(s, g),
-                held: h,
-            };
+            return answer(s, g);
         }
         ends += one_if(p.kind, 1);
         begins += one_if(p.kind, 2);
         if ends <= begins {
-            return RedoAnswer {
-                answer: answer(s, g),
-                held: h,
-            };
+            return answer(s, g);
         }
     }
 }
@@ -149,55 +111,8 @@ fn behind(number: u32, k: u32) -> u32
     k
 }
 
-// redo_units with room for blocks: n times the records of one unit. A stop ends them; where no record is left to redo, the units
-// left would change nothing.
-fn redo_with_room(
-    f: Format,
-    text: &mut [u8],
-    room: &mut [u8],
-    records: &[u8],
-    texts: &[u8],
-    line: Line,
-    log: Log,
-    n: usize,
-) -> EditAnswer
-    requires { ⌜ Fit f ⌝ }
-    requires { ⌜ Ready (asFormat f) (lent (now text) (now records) (now texts) line log) ⌝ }
-    ensures outcome { λ r. ⌜ Edited (asFormat f) (lent (now (text .entry)) (now (records .entry)) (now (texts .entry)) line log)
-        (redoOut (length (now (text .entry))) n (stateOf catalogue (asFormat f) (lent (now (text .entry)) (now (records .entry)) (now (texts .entry)) line log)))
-        r (now (text .exit)) (now (records .entry)) (now (texts .entry)) ⌝ }
-    ensures still { λ r. ⌜ (r .log ≡ log → now (text .exit) ≡ now (text .entry)) ⌝ }
-{
-    let mut line_now = line;
-    let mut held = Held {
-        gap: line.len,
-        far: 0,
-    };
-    let mut log_now = log;
-    let mut number: u32 = 1;
-    let mut left = n;
-    loop {
-        let d = log_now.redo;
-        if (left == 0) | (d.records == 0) {
-            lay_out(text, room, line_now.len, held);
-            return says(number, line_now, log_now);
-        }
-        let u = redo_unit(f, text, room, records, texts, line_now, held, log_now);
-        held = u.held;
-        let a = u.answer;
-        line_now = a.line;
-        log_now = a.log;
-        number = behind(number, a.number);
-        if 1 < number {
-            lay_out(text, room, line_now.len, held);
-            return says(number, line_now, log_now);
-        }
-        left -= 1;
-    }
-}
-
-// Redo on a text and a log that the checks pass: n times the records of one unit. A short list has no room for blocks, as in
-// undo.
+// Redo on a text and a log that the checks pass: n times the records of one unit. A stop ends them; where no record is left to
+// redo, the units left would change nothing.
 fn redo_units(
     f: Format,
     text: &mut [u8],
@@ -214,13 +129,24 @@ fn redo_units(
         r (now (text .exit)) (now (records .entry)) (now (texts .entry)) ⌝ }
     ensures still { λ r. ⌜ (r .log ≡ log → now (text .exit) ≡ now (text .entry)) ⌝ }
 {
-    let d = log.redo;
-    if d.records <= 1024 {
-        let mut none = [0u8; 1];
-        return redo_with_room(f, text, &mut none, records, texts, line, log, n);
+    let mut line_now = line;
+    let mut log_now = log;
+    let mut number: u32 = 1;
+    let mut left = n;
+    loop {
+        let d = log_now.redo;
+        if (left == 0) | (d.records == 0) {
+            return says(number, line_now, log_now);
+        }
+        let a = redo_unit(f, text, records, texts, line_now, log_now);
+        line_now = a.line;
+        log_now = a.log;
+        number = behind(number, a.number);
+        if 1 < number {
+            return says(number, line_now, log_now);
+        }
+        left -= 1;
     }
-    let mut room = [0u8; 8192];
-    redo_with_room(f, text, &mut room, records, texts, line, log, n)
 }
 
 // Where the log is as it was, no record was handled, and not a byte of the text's buffer is changed (still).

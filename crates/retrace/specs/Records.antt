@@ -5,8 +5,6 @@ use mathlib.Core.Bool.{cond}
 use mathlib.Core.List.{List, [], _∷_, reverse}
 use lib.Dec.{eqb}
 use lib.ListN.{length, getD, take, drop}
-use Rattle.held.specs.declared.Held.{Held}
-use Rattle.held.specs.Held.{heldText, Holds}
 use Rattle.unicode.specs.Repertoire.{Repertoire}
 use Rattle.journal.specs.Change.{Change, begin, end, edit, place, old, new}
 use Rattle.journal.specs.Layout.{Format, numAt, firstLen, secondLen, recordOf, textsOf, Layout}
@@ -49,22 +47,14 @@ SizesOf F sizes (c ∷ u) = (getD sizes (length (undoRecords F (c ∷ u)) - 1) 0
 abbrev pub Noted : Repertoire → Format → List ℕ → ℕ → List ℕ → Type 0
 Noted R F rs count sizes = (ts : List ℕ) (us : List Change) → Layout R F rs ts us → (count ≡ length us) × SizesOf F sizes (reverse us)
 
--- ---- what a record undone does to the bytes; a stop changes nothing
--- how a text is held, its buffer and its blocks
-pub record HeldIn : Type 0 where
-  pub held : Held
-  pub text : List ℕ
-  pub room : List ℕ
-
--- in a text that is held, by the number k: b before, b' after
-abbrev pub Exchanged : Tried → ℕ → HeldIn → HeldIn → Type 0
-Exchanged (done s) k b b' = (k ≡ 0) × Holds (length (s .text)) (b' .held) (b' .text) (b' .room) × (heldText (length (s .text)) (b' .held) (b' .text) (b' .room) ≡ s .text)
+-- ---- what a record undone does to the bytes: b is the text's buffer before, b' after; a stop changes nothing
+abbrev pub Exchanged : Tried → ℕ → List ℕ → List ℕ → Type 0
+Exchanged (done s) k b b' = (k ≡ 0) × (take (length (s .text)) b' ≡ s .text)
 Exchanged (stops n) k b b' = (k ≡ n) × (b' ≡ b)
 
 abbrev pub stepTo : Trail → Step
 stepTo s = record { number = 0; len = length (s .text); cursor = s .cursor; undone = s .undone }
 
--- in the text's buffer, b before and b' after, with the text laid at its front
 abbrev pub Retraced : Tried → Step → Step → List ℕ → List ℕ → Type 0
 Retraced (done s) q r b b' = (r ≡ stepTo s) × (take (length (s .text)) b' ≡ s .text)
 Retraced (stops n) q r b b' = (r ≡ record { number = n; len = q .len; cursor = q .cursor; undone = q .undone }) × (b' ≡ b)

@@ -1,8 +1,8 @@
 -- The laws of a link: its record is undone without a stop, and turned round it leads back. Assumes nothing.
 use Prim.Native.Nat.{ℕ, _+_, _-_, _≤_}
 use native.Mathlib.Omega.{arith}
-use mathlib.Core.Path.{_≡_, ap, ap₂, _∙_}
-use mathlib.Core.Bool.{Bool, true, _&&_}
+use mathlib.Core.Path.{_≡_, ap, _∙_}
+use mathlib.Core.Bool.{true}
 use mathlib.Core.List.{List, _++_}
 use lib.ListN.{length, length-append}
 use lib.Seq.{take-append-seam, drop-append-seam, take-append-add, drop-append-add}
@@ -41,7 +41,7 @@ exchanged : (C : ℕ) (a n b o : List ℕ) → valid a ≡ true → valid n ≡ 
     → exchanging C (length a) (length n) o (a ++ (n ++ b)) ≡ done (record { text = a ++ (o ++ b); cursor = length a + length o; undone = true })
 exchanged C a n b o v w h =
     swaps C (length a) (length n) o (a ++ (n ++ b))
-    (record { ends = within a n b; edges = ap₂ (λ (x y : Bool). x && y) (boundary-before a (n ++ b) v) (boundary-behind a n b v w); room = room })
+    (record { ends = within a n b; first = boundary-before a (n ++ b) v; last = boundary-behind a n b v w; room = room })
     ∙ ap (λ (t : List ℕ). done (record { text = t; cursor = length a + length o; undone = true })) (splice-between a n b o)
   where
     room : length (a ++ (n ++ b)) - length n + length o ≤ C

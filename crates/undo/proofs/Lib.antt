@@ -6,5 +6,4 @@ pub mod Counts
 pub mod Steps
 pub mod Walks
 pub mod Units
-pub mod Laid
 pub mod Examples

@@ -1,7 +1,7 @@
 -- Units undone or redone: a walk that counts the Ends and the Begins that it passes. Assumes nothing.
 use Prim.Native.Nat.{ℕ, suc, _+_, _≤_, _<_}
 use native.Mathlib.Omega.{arith}
-use mathlib.Core.Path.{_≡_, refl, sym, ap, ap₂, subst, _∙_}
+use mathlib.Core.Path.{_≡_, refl, sym, ap, ap₂, _∙_}
 use mathlib.Core.Bool.{Bool, true, false}
 use mathlib.Core.List.{List, [], _∷_}
 use lib.ListN.{length}
@@ -24,7 +24,7 @@ use Rattle.undo.proofs.Walks.{walked, walk-end, walk-stop, walk-on, wal
 -- ---- a walk that is to come to W: n units more are to be done after this one
 pub record Walking (F : Format) (l₀ : Lent) (back : Bool) (W : Walked) (t : List ℕ) (s : Step) (g : Log) (n ends begins : ℕ) : Type 0 where
   pub waiting : Waiting
-  pub come : Come F l₀ t s g
+  pub come : Come F l₀ back t s g
   pub waits : Waits waiting ends begins
   pub few : ends + begins + usedOf back g ≤ 32768
   pub same :
@@ -38,14 +38,10 @@ used-few true h = omega (arith, h .log .hold .room, h .log .records)
 used-few false h = omega (arith, h .log .hold .room, h .log .records)
 
 -- at its beginning nothing was passed
-pub walking-first : (back : Bool) (n : ℕ) {F : Format} {l₀ : Lent} → Ready F l₀ → {t : List ℕ} → t ≡ l₀ .text
+pub walking-first : (back : Bool) (n : ℕ) {F : Format} {l₀ : Lent} → Ready F l₀
     → Walking F l₀ back (walk (length (l₀ .text)) n (owed 0) (fromOf back (stateOf catalogue F l₀ .log)) (toOf back (stateOf catalogue F l₀ .log)) (trailBy (stateOf catalogue F l₀) false))
-    t (record { number = 0; len = l₀ .line .len; cursor = l₀ .line .cursor; undone = false }) (l₀ .log) n 0 0
-walking-first back n {F} {l₀} h {t} e =
-    subst
-    (λ (b : List ℕ). Walking F l₀ back (walk (length (l₀ .text)) n (owed 0) (fromOf back (stateOf catalogue F l₀ .log)) (toOf back (stateOf catalogue F l₀ .log)) (trailBy (stateOf catalogue F l₀) false))
-    b (record { number = 0; len = l₀ .line .len; cursor = l₀ .line .cursor; undone = false }) (l₀ .log) n 0 0)
-    (sym e) (record { waiting = owed 0; come = come-first h; waits = refl; few = omega (arith, used-few back h); same = refl })
+    (l₀ .text) (record { number = 0; len = l₀ .line .len; cursor = l₀ .line .cursor; undone = false }) (l₀ .log) n 0 0
+walking-first back n h = record { waiting = owed 0; come = come-first h; waits = refl; few = omega (arith, used-few back h); same = refl }
 
 module _ {F : Format} {l₀ : Lent} {back : Bool} {W : Walked} {t : List ℕ} {s : Step} {g : Log} {n ends begins : ℕ} (k : Walking F l₀ back W t s g n ends begins) where
   abbrev now : State
@@ -80,7 +76,7 @@ module _ {F : Format} {l₀ : Lent} {back : Bool} {W : Walked} {t : List ℕ} {s
       passed = passing x (k .waiting)
 
       -- it was passed
-      come : Come F l₀ t′ (p .step) (p .log)
+      come : Come F l₀ back t′ (p .step) (p .log)
       come = come-next back (k .come) e p t′ o i z
 
       tried : undoing (length (l₀ .text)) x (trailBy now (s .undone)) ≡ done (goes back (k .come) e p t′ o i z .trail)

@@ -24,7 +24,7 @@ use Rattle.retrace.specs.Retrace.{Trail, done, stops, undoing}
 use Rattle.retrace.specs.Records.{SizesOf}
 use Rattle.undo.specs.declared.Passed.{Passed}
 use Rattle.undo.specs.Undo.{Waiting, passing, settled, Walked, walk, numberOf}
-use Rattle.undo.specs.Steps.{trailBy, lineOf, stateAt, fromOf, toOf, logBy, passLog, PassesOne}
+use Rattle.undo.specs.Steps.{trailBy, lineOf, stateAt, fromOf, toOf, logBy, passLog, PassesOne, Unmoved}
 use Rattle.undo.proofs.Seams.{sizes-left, usedOf, used-falls}
 use Rattle.undo.proofs.Passes.{Went, Stopped, fine, went, stopped}
 
@@ -97,15 +97,27 @@ lists-of true v = refl
 lists-of false v = refl
 
 -- ---- where a walk that was lent l₀ has come to
-pub record Come (F : Format) (l₀ : Lent) (t : List ℕ) (s : Step) (g : Log) : Type 0 where
+pub record Come (F : Format) (l₀ : Lent) (back : Bool) (t : List ℕ) (s : Step) (g : Log) : Type 0 where
   pub ready : Ready F (lent t (l₀ .records) (l₀ .texts) (lineOf s) g)
   pub number : s .number ≡ 0
   pub text : length t ≡ length (l₀ .text)
   pub level : g .level ≡ l₀ .log .level
+  pub unmoved : Unmoved (usedOf back (l₀ .log)) (usedOf back g) (l₀ .text) t
 
 -- at its beginning
-pub come-first : {F : Format} {l₀ : Lent} → Ready F l₀ → Come F l₀ (l₀ .text) (record { number = 0; len = l₀ .line .len; cursor = l₀ .line .cursor; undone = false }) (l₀ .log)
-come-first h = record { ready = h; number = refl; text = refl; level = refl }
+pub unmoved-first : {u : ℕ} {t : List ℕ} → Unmoved u u t t
+unmoved-first = record { fewer = omega arith; same = λ e. refl }
+
+-- a walk, and one that goes on from there
+pub unmoved-both : {u₀ u u′ : ℕ} {t₀ t t′ : List ℕ} → Unmoved u₀ u t₀ t → Unmoved u u′ t t′ → Unmoved u₀ u′ t₀ t′
+unmoved-both k i =
+    record {
+      fewer = omega (arith, k .fewer, i .fewer);
+      same = λ e. i .same (omega (arith, k .fewer, i .fewer)) ∙ k .same (omega (arith, k .fewer, i .fewer));
+    }
+
+pub come-first : {F : Format} {l₀ : Lent} {back : Bool} → Ready F l₀ → Come F l₀ back (l₀ .text) (record { number = 0; len = l₀ .line .len; cursor = l₀ .line .cursor; undone = false }) (l₀ .log)
+come-first h = record { ready = h; number = refl; text = refl; level = refl; unmoved = unmoved-first }
 
 -- what a walk has come to is its outcome
 abbrev pub outOf : Bool → Walked → ℕ → Outcome State
@@ -116,6 +128,7 @@ pub record Ends (F : Format) (l₀ : Lent) (back : Bool) (W : Walked) (r : EditA
   pub plain : r ≡ says (r .number) (r .line) (r .log)
   pub ready : Ready F (lent t (l₀ .records) (l₀ .texts) (r .line) (r .log))
   pub out : outOf back W (l₀ .log .level) ≡ answered (r .number) 0 0 (stateOf catalogue F (lent t (l₀ .records) (l₀ .texts) (r .line) (r .log)))
+  pub unmoved : Unmoved (usedOf back (l₀ .log)) (usedOf back (r .log)) (l₀ .text) t
 
 -- the answer and the bytes of a text and a log that the checks pass
 pub answers-as : (F : Format) (l₀ : Lent) (t : List ℕ) (r : EditAnswer) → r ≡ says (r .number) (r .line) (r .log) → Ready F (lent t (l₀ .records) (l₀ .texts) (r .line) (r .log))
@@ -133,7 +146,11 @@ answers-as F l₀ t r q h =
 pub edited : {F : Format} {l₀ : Lent} {back : Bool} {W : Walked} {r : EditAnswer} {t : List ℕ} → Ends F l₀ back W r t → Edited F l₀ (outOf back W (l₀ .log .level)) r t (l₀ .records) (l₀ .texts)
 edited {F} {l₀} {back} {W} {r} {t} e = subst (λ (o : Outcome State). Edited F l₀ o r t (l₀ .records) (l₀ .texts)) (sym (e .out)) (answers-as F l₀ t r (e .plain) (e .ready))
 
-module _ (back : Bool) {F : Format} {l₀ : Lent} {t : List ℕ} {s : Step} {g : Log} (c : Come F l₀ t s g) where
+-- where the log is as it was, not a byte of the text's buffer is changed
+pub still : {F : Format} {l₀ : Lent} {back : Bool} {W : Walked} {r : EditAnswer} {t : List ℕ} → Ends F l₀ back W r t → r .log ≡ l₀ .log → t ≡ l₀ .text
+still {back = back} e i = e .unmoved .same (ap (usedOf back) i)
+
+module _ (back : Bool) {F : Format} {l₀ : Lent} {t : List ℕ} {s : Step} {g : Log} (c : Come F l₀ back t s g) where
   abbrev l : Lent
   l = lent t (l₀ .records) (l₀ .texts) (lineOf s) g
 
@@ -150,6 +167,7 @@ module _ (back : Bool) {F : Format} {l₀ : Lent} {t : List ℕ} {s : Step} {g :
             ap (λ (w : Walked). outOf back w (l₀ .log .level)) e
             ∙ ap (λ (v : groups.Log). answered (numberOf k b) 0 0 (stateAt (trailBy st b) v)) (ap (logBy back (fromOf back (st .log)) (toOf back (st .log))) (sym (c .level)) ∙ lists-of back (st .log))
             ∙ ap (λ (a : EditAnswer). answered (a .number) 0 0 (stateOf catalogue F (lent t (l₀ .records) (l₀ .texts) (a .line) (a .log)))) (sym q);
+        unmoved = subst (λ (a : EditAnswer). Unmoved (usedOf back (l₀ .log)) (usedOf back (a .log)) (l₀ .text) t) (sym q) (c .unmoved);
       }
 
   -- ---- a record passed
@@ -183,19 +201,20 @@ module _ (back : Bool) {F : Format} {l₀ : Lent} {t : List ℕ} {s : Step} {g :
       pub goes-log : q .log ≡ log.logOf F w
       goes-log = log-kept F (lent t′ (l₀ .records) (l₀ .texts) (lineOf (q .step)) (q .log)) (goes .ready) ∙ ap (λ (a : State). log.logOf F (a .log)) (goes .state)
 
+      -- its list has fewer bytes
+      pub falls : usedOf back (q .log) < usedOf back g
+      falls = used-falls back (c .ready) e goes-log
+
       -- the walk has come behind it
-      pub come-next : Come F l₀ t′ (q .step) (q .log)
+      pub come-next : Come F l₀ back t′ (q .step) (q .log)
       come-next =
           record {
             ready = goes .ready;
             number = z;
             text = i ∙ c .text;
             level = ap (λ (a : Log). a .level) goes-log ∙ level-by back f (turn x ∷ toOf back (st .log)) (g .level) ∙ c .level;
+            unmoved = record { fewer = omega (arith, falls, c .unmoved .fewer); same = λ j. absurd (omega (arith, falls, c .unmoved .fewer)) };
           }
-
-      -- its list has fewer bytes
-      pub falls : usedOf back (q .log) < usedOf back g
-      falls = used-falls back (c .ready) e goes-log
 
       -- the lists and the trail there
       abbrev there : State
@@ -215,7 +234,7 @@ module _ (back : Bool) {F : Format} {l₀ : Lent} {t : List ℕ} {s : Step} {g :
       tried-there = ap (λ (n : ℕ). undoing n x (trailBy st (s .undone))) (sym (c .text)) ∙ goes .tried
 
 -- the sizes that are noted of the undo list are those of what is left of it
-pub sizes-next : {F : Format} {l₀ : Lent} {t : List ℕ} {s : Step} {g : Log} (c : Come F l₀ t s g) {x : Change} {f : List Change} (e : stateOf catalogue F (lent t (l₀ .records) (l₀ .texts) (lineOf s) g) .log .undo ≡ x ∷ f) (q : Passed) (t′ : List ℕ) (p : PassesOne F (lent t (l₀ .records) (l₀ .texts) (lineOf s) g) true (s .undone) q t′) (i : length t′ ≡ length t) (z : q .step .number ≡ 0) (sizes : List ℕ)
+pub sizes-next : {F : Format} {l₀ : Lent} {t : List ℕ} {s : Step} {g : Log} (c : Come F l₀ true t s g) {x : Change} {f : List Change} (e : stateOf catalogue F (lent t (l₀ .records) (l₀ .texts) (lineOf s) g) .log .undo ≡ x ∷ f) (q : Passed) (t′ : List ℕ) (p : PassesOne F (lent t (l₀ .records) (l₀ .texts) (lineOf s) g) true (s .undone) q t′) (i : length t′ ≡ length t) (z : q .step .number ≡ 0) (sizes : List ℕ)
     → SizesOf F sizes (stateOf catalogue F (lent t (l₀ .records) (l₀ .texts) (lineOf s) g) .log .undo) → SizesOf F sizes (stateOf catalogue F (lent t′ (l₀ .records) (l₀ .texts) (lineOf (q .step)) (q .log)) .log .undo)
 sizes-next {F} c e q t′ p i z sizes y =
     subst (SizesOf F sizes) (sym (from-there true c e q t′ p i z)) (sizes-left (c .ready) e sizes y)

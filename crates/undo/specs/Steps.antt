@@ -4,8 +4,6 @@ use mathlib.Core.Path.{_≡_}
 use mathlib.Core.Bool.{Bool, true, false}
 use mathlib.Core.List.{List, _∷_}
 use Rattle.unicode.specs.Repertoire.{catalogue}
-use Rattle.held.specs.declared.Held.{Held}
-use Rattle.held.specs.Held.{laid}
 use Rattle.checks.specs.declared.Line.{Line}
 use Rattle.checks.specs.Outcome.{answered}
 use Rattle.journal.specs.Change.{Change, turn}
@@ -30,13 +28,9 @@ trailBy s b = record { text = s .text; cursor = s .cursor; undone = b }
 abbrev pub lineOf : Step → Line
 lineOf s = record { len = s .len; cursor = s .cursor }
 
--- what is lent where the text is held, in its buffer t or in the blocks m
-abbrev pub lentHeld : List ℕ → List ℕ → Held → List ℕ → List ℕ → Line → Log → Lent
-lentHeld t m h rb tb a g = lent (laid (a .len) h t m) rb tb a g
-
--- where a walk has come to s
-abbrev pub lentBy : List ℕ → List ℕ → Held → List ℕ → List ℕ → Step → Log → Lent
-lentBy t m h rb tb s g = lentHeld t m h rb tb (lineOf s) g
+-- what is lent where a walk has come to s
+abbrev pub lentBy : List ℕ → List ℕ → List ℕ → Step → Log → Lent
+lentBy t rb tb s g = lent t rb tb (lineOf s) g
 
 -- a text, a cursor and a log
 abbrev pub stateAt : Trail → groups.Log → State
@@ -71,13 +65,13 @@ PassesOne F l back b q t =
     (x : Change) (f : List Change) → fromOf back (stateOf catalogue F l .log) ≡ x ∷ f
     → (q .kind ≡ numbersOf (facing back x) .kind) × Leaves F l (undoing (length (l .text)) x (trailBy (stateOf catalogue F l) b)) (passLog back x f (stateOf catalogue F l .log)) (q .step) (q .log) t
 
--- the list that is walked over has come from u₀ bytes to u: where no record of it was passed, the text's buffer, its length and how
--- it is held are as they were
-pub record Unmoved (u₀ u : ℕ) (t₀ t : List ℕ) (len₀ len : ℕ) (h₀ h : Held) : Type 0 where
+-- the list that is walked over has come from u₀ bytes to u: where no record of it was passed, the text's buffer is as it was
+pub record Unmoved (u₀ u : ℕ) (t₀ t : List ℕ) : Type 0 where
   pub fewer : u ≤ u₀
-  pub same : u ≡ u₀ → (t ≡ t₀) × (len ≡ len₀) × (h ≡ h₀)
+  pub same : u ≡ u₀ → t ≡ t₀
 
 -- one unit redone: its outcome is the answer r, with what is lent to the next unit, which the checks pass
 pub record Redone (F : Format) (l : Lent) (r : EditAnswer) (t : List ℕ) : Type 0 where
   pub ready : Ready F (lent t (l .records) (l .texts) (r .line) (r .log))
   pub out : redoOut (length (l .text)) 1 (stateOf catalogue F l) ≡ answered (r .number) 0 0 (stateOf catalogue F (lent t (l .records) (l .texts) (r .line) (r .log)))
+  pub unmoved : Unmoved (l .log .redo .records) (r .log .redo .records) (l .text) t

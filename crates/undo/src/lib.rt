@@ -1,15 +1,13 @@
 // Undo: undo.rs, undo of Changeset, and document 01 for the stops 12 and 9. Any text, cursor and log may be handed over: what is
 // unfit is turned away by a number of document 01. Records and their texts are only read: the seam between the two lists moves.
-// While records are walked the text is held with a gap or in blocks (crate held), and it is laid out behind the last of them.
-// Where no record was undone it stands as it was lent, and not a byte is changed.
+// The text is changed as edits change it: a cut closes the gap, an insertion shifts the tail from its place onward.
 ghost use mathlib.Core.Path.{_≡_};
 ghost use mathlib.Core.Bool.{true, false, cond};
 ghost use Prim.Native.Nat.{_≤_, _<_};
 ghost use lib.Dec.{eqb};
-ghost use lib.ListN.{length, take};
+ghost use lib.ListN.{length};
 ghost use Rattle.unicode.specs.Repertoire.{catalogue};
 ghost use Rattle.journal.specs.Layout.{narrow};
-ghost use Rattle.held.specs.Held.{heldText, laid, plain, Holds};
 ghost use Rattle.records.specs.Formats.{asFormat, Fit};
 ghost use Rattle.edit.specs.Calls.{lent, stateOf, Edited, Ready};
 ghost use Rattle.retrace.specs.Records.{SizesOf};
@@ -21,8 +19,6 @@ use edit::EditAnswer;
 use edit::Own;
 use edit::refusal;
 use edit::says;
-use held::Held;
-use held::lay_out;
 use keymap::RepeatCount;
 use records::Format;
 use records::NARROW;
@@ -31,11 +27,9 @@ use retrace::note_sizes;
 use retrace::read_record;
 use retrace::retrace;
 
-// A record undone or redone: where the walk has come to, how the text is held, the log with its seam there, and the record's
-// kind.
+// A record undone or redone: where the walk has come to, the log with its seam there, and the record's kind.
 pub struct Passed {
     pub step: Step,
-    pub held: Held,
     pub log: Log,
     pub kind: usize,
 }
@@ -44,43 +38,30 @@ pub struct Passed {
 pub fn undo_record(
     f: Format,
     text: &mut [u8],
-    room: &mut [u8],
     records: &[u8],
     texts: &[u8],
     sizes: &[u8],
     s: Step,
-    held: Held,
     log: Log,
 ) -> Passed
     requires { ⌜ Fit f ⌝ }
-    requires { ⌜ Ready (asFormat f) (lentBy (now text) (now room) held (now records) (now texts) s log) ⌝ }
+    requires { ⌜ Ready (asFormat f) (lentBy (now text) (now records) (now texts) s log) ⌝ }
     requires { ⌜ (s .number ≡ 0) × (0 < log .undo .records) × (log .undo .records ≤ length (now sizes)) ⌝ }
-    requires { ⌜ Holds (s .len) held (now text) (now room) ⌝ }
-    requires { ⌜ SizesOf (asFormat f) (now sizes) (stateOf catalogue (asFormat f) (lentBy (now text) (now room) held (now records) (now texts) s log) .log .undo) ⌝ }
-    ensures pass { λ q. ⌜ PassesOne (asFormat f) (lentBy (now (text .entry)) (now (room .entry)) held (now (records .entry)) (now (texts .entry)) s log) true (s .undone) q (laid (q .step .len) (q .held) (now (text .exit)) (now (room .exit))) ⌝ }
-    ensures held { λ q. ⌜ Holds (q .step .len) (q .held) (now (text .exit)) (now (room .exit)) ⌝ }
-    ensures still { λ q. ⌜ ((q .step .number ≡ 0 → ⊥) → (now (text .exit) ≡ now (text .entry)) × (q .step .len ≡ s .len) × (q .held ≡ held) × (q .log ≡ log)) ⌝ }
+    requires { ⌜ SizesOf (asFormat f) (now sizes) (stateOf catalogue (asFormat f) (lentBy (now text) (now records) (now texts) s log) .log .undo) ⌝ }
+    ensures { λ q. ⌜ PassesOne (asFormat f) (lentBy (now (text .entry)) (now (records .entry)) (now (texts .entry)) s log) true (s .undone) q (now (text .exit)) ⌝ }
 {
     let u = log.undo;
     let at = u.records;
     let start = at - sizes[at - 1] as usize;
     let r = read_record(f, records, start);
     let first = u.texts - (r.old + r.new);
-    let traced = retrace(text, room, texts, s, held, r, first, true);
-    let step = traced.step;
-    let held = traced.held;
+    let step = retrace(text, texts, s, r, first, true);
     let kind = r.kind;
     if step.number != 0 {
-        return Passed {
-            step,
-            held,
-            log,
-            kind,
-        };
+        return Passed { step, log, kind };
     }
     Passed {
         step,
-        held,
         log: log.move_seam(start, first),
         kind,
     }
@@ -100,17 +81,6 @@ pub fn answer(s: Step, log: Log) -> EditAnswer
     says(s.number, line, log)
 }
 
-// The text laid out behind a walk, and the walk's answer.
-pub fn close(text: &mut [u8], room: &[u8], s: Step, held: Held, log: Log) -> EditAnswer
-    requires { ⌜ Holds (s .len) held (now text) (now room) ⌝ }
-    ensures answer { λ r. ⌜ r ≡ record { number = numberOf (s .number) (s .undone); from = 0; to = 0; line = lineOf s; log = log } ⌝ }
-    ensures text { λ r. ⌜ take (s .len) (now (text .exit)) ≡ heldText (s .len) held (now (text .entry)) (now (room .entry)) ⌝ }
-    ensures still { λ _. ⌜ (held ≡ plain (s .len) → now (text .exit) ≡ now (text .entry)) ⌝ }
-{
-    lay_out(text, room, s.len, held);
-    answer(s, log)
-}
-
 // 1 where a record is of a kind, else 0.
 pub fn one_if(kind: usize, k: usize) -> usize
     ensures { λ r. ⌜ (r ≡ cond (eqb kind k) 1 0) × (r ≤ 1) ⌝ }
@@ -125,7 +95,6 @@ pub fn one_if(kind: usize, k: usize) -> usize
 fn undo_noted(
     f: Format,
     text: &mut [u8],
-    room: &mut [u8],
     records: &[u8],
     texts: &[u8],
     sizes: &[u8],
@@ -148,10 +117,6 @@ fn undo_noted(
         cursor: line.cursor,
         undone: false,
     };
-    let mut held = Held {
-        gap: line.len,
-        far: 0,
-    };
     let mut g = log;
     let mut left = n;
     let mut ends: usize = 0;
@@ -159,14 +124,13 @@ fn undo_noted(
     loop {
         let u = g.undo;
         if u.records == 0 {
-            return close(text, room, s, held, g);
+            return answer(s, g);
         }
-        let p = undo_record(f, text, room, records, texts, sizes, s, held, g);
+        let p = undo_record(f, text, records, texts, sizes, s, g);
         s = p.step;
-        held = p.held;
         g = p.log;
         if s.number != 0 {
-            return close(text, room, s, held, g);
+            return answer(s, g);
         }
         begins += one_if(p.kind, 1);
         ends += one_if(p.kind, 2);
@@ -174,15 +138,14 @@ fn undo_noted(
             continue;
         }
         if left <= 1 {
-            return close(text, room, s, held, g);
+            return answer(s, g);
         }
         left -= 1;
     }
 }
 
 // Undo on a text and a log that the checks pass: the newest records, until n units are done. A unit is done where no End that
-// was passed waits for its Begin. The arrays for sizes and for blocks are cleared at each call, so a short list has short ones: its
-// text stays in its buffer.
+// was passed waits for its Begin. The array for sizes is cleared at each call, so a short list has a short one.
 fn undo_units(
     f: Format,
     text: &mut [u8],
@@ -203,14 +166,12 @@ fn undo_units(
     let ur = u.records;
     if ur <= 1024 {
         let mut few = [0u8; 1024];
-        let mut none = [0u8; 1];
         note_sizes(f, &records[..ur], &mut few);
-        return undo_noted(f, text, &mut none, records, texts, &few, line, log, n);
+        return undo_noted(f, text, records, texts, &few, line, log, n);
     }
     let mut sizes = [0u8; 32768];
-    let mut room = [0u8; 8192];
     note_sizes(f, &records[..ur], &mut sizes);
-    undo_noted(f, text, &mut room, records, texts, &sizes, line, log, n)
+    undo_noted(f, text, records, texts, &sizes, line, log, n)
 }
 
 // Where the log is as it was, no record was handled, and not a byte of the text's buffer is changed (still).

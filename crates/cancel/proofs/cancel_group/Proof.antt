@@ -20,7 +20,7 @@ slice-aggregate-note-and-cancel-2 c = search needs
 
 note-and-cancel-requires-2 : tie.Need-note-and-cancel-requires-2
 note-and-cancel-requires-2 c κs =
-    let s = c .before .before .before .before .before .before .before .before .before in
+    let s = c .before .before .before .before .before .before .before .before in
     let h = s .pre .1 in
     (s .pre .0, (h, omega (arith, h .log .hold .room, h .log .records)))
 
@@ -30,23 +30,15 @@ same-length-2 c = search needs
 returns-2 : tie.Need-returns-2
 returns-2 c = search needs
 
-slice-aggregate-note-and-cancel-3 : tie.Need-slice-aggregate-note-and-cancel-3
-slice-aggregate-note-and-cancel-3 c = search needs
-
-slice-aggregate-note-and-cancel-4 : tie.Need-slice-aggregate-note-and-cancel-4
-slice-aggregate-note-and-cancel-4 c = search needs
-
 pub cancel-group-spec : {M : Type 1} → statement M
 cancel-group-spec =
     tie.close
     (tie.spec
     slice-aggregate-note-and-cancel
-    slice-aggregate-note-and-cancel-2
     note-and-cancel-requires
     same-length
     returns
-    slice-aggregate-note-and-cancel-3
-    slice-aggregate-note-and-cancel-4
+    slice-aggregate-note-and-cancel-2
     note-and-cancel-requires-2
     same-length-2
     returns-2)

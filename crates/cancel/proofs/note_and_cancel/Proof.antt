@@ -15,14 +15,14 @@ use Rattle.cancel.proofs.note_and_cancel.Tie as tie
 
 slice-aggregate-note-sizes : tie.Need-slice-aggregate-note-sizes
 slice-aggregate-note-sizes c =
-    let s = c .before .before .before .before .before .before .before in
+    let s = c .before .before .before .before .before .before in
     let a = s .args in
     let h = s .pre .1 .0 in
     sym (length-take-le (a .log .undo .records) (now (a .records)) (omega (arith, h .log .hold .room)))
 
 note-sizes-requires : tie.Need-note-sizes-requires
 note-sizes-requires c κs =
-    let s = c .before .before .before .before .before .before .before .before in
+    let s = c .before .before .before .before .before .before .before in
     let a = s .args in
     let h = s .pre .1 .0 in
     let l = lent (now (a .text)) (now (a .records)) (now (a .texts)) (a .line) (a .log) in
@@ -31,14 +31,14 @@ note-sizes-requires c κs =
 
 slice-aggregate-open-begins : tie.Need-slice-aggregate-open-begins
 slice-aggregate-open-begins c =
-    let s = c .before .before .before .before .before .before .before .before .before .before .before .before in
+    let s = c .before .before .before .before .before .before .before .before .before .before .before in
     let a = s .args in
     let h = s .pre .1 .0 in
     sym (length-take-le (a .log .undo .records) (now (a .records)) (omega (arith, h .log .hold .room)))
 
 open-begins-requires : tie.Need-open-begins-requires
 open-begins-requires c κs =
-    let s = c .before .before .before .before .before .before .before .before .before .before .before .before .before in
+    let s = c .before .before .before .before .before .before .before .before .before .before .before .before in
     let a = s .args in
     let h = s .pre .1 .0 in
     let l = lent (now (a .text)) (now (a .records)) (now (a .texts)) (a .line) (a .log) in
@@ -56,7 +56,7 @@ same-length c = search needs
 
 returns : tie.Need-returns
 returns c =
-    let s = c .before .before .before .before .before .before .before .before .before .before .before .before .before .before .before .before in
+    let s = c .before .before .before .before .before .before .before .before .before .before .before .before .before .before .before in
     let a = s .args in
     let h = s .pre .1 .0 in
     let l = lent (now (a .text)) (now (a .records)) (now (a .texts)) (a .line) (a .log) in
@@ -68,14 +68,14 @@ returns c =
 
 cancel-noted-requires : tie.Need-cancel-noted-requires
 cancel-noted-requires c κs =
-    let s = c .before .before .before .before .before .before .before .before .before .before .before .before .before .before .before .before .before .before in
+    let s = c .before .before .before .before .before .before .before .before .before .before .before .before .before .before .before .before in
     let a = s .args in
     let h = s .pre .1 .0 in
     let l = lent (now (a .text)) (now (a .records)) (now (a .texts)) (a .line) (a .log) in
     let u = stateOf catalogue (asFormat (a .f)) l .log .undo in
     let d = lays (asFormat (a .f)) (logLent l) (h .log) in
-    let n = c .before .before .before .before .before .before .before .before .before .note-sizes in
-    let o = c .before .before .before .before .open-begins .ensures (asFormat (a .f)) (n .ensures) _ _ d in
+    let n = c .before .before .before .before .before .before .before .before .note-sizes in
+    let o = c .before .before .before .open-begins .ensures (asFormat (a .f)) (n .ensures) _ _ d in
     let i = n .ensures _ _ d in (
       s .pre .0,
       (
@@ -86,7 +86,7 @@ cancel-noted-requires c κs =
             i .1,
             (
               i .0 ∙ sym (length-reverse (undos catalogue (asFormat (a .f)) (logLent l))),
-              (is-open (a .mark) u o (c .before .before .before .if1 .left), its-begins (a .mark) u o (c .before .before .before .if1 .left)),
+              (is-open (a .mark) u o (c .before .before .if1 .left), its-begins (a .mark) u o (c .before .before .if1 .left)),
             ),
           ),
         ),
@@ -102,9 +102,6 @@ same-length-3 c = search needs
 returns-2 : tie.Need-returns-2
 returns-2 c = search needs
 
-same-length-4 : tie.Need-same-length-4
-same-length-4 c = search needs
-
 pub note-and-cancel-spec : {M : Type 1} → statement M
 note-and-cancel-spec =
     tie.close
@@ -119,5 +116,4 @@ note-and-cancel-spec =
     cancel-noted-requires
     same-length-2
     same-length-3
-    same-length-4
     returns-2)

@@ -1,80 +1,103 @@
 use native.Mathlib.Omega.{arith}
-use mathlib.Core.Path.{sym, _∙_}
 use Prim.Native.Nat.{_-_}
+use mathlib.Core.Path.{sym, _∙_}
+use lib.Seq.{length-take-le}
 use denote.Ref.{now}
-use Rattle.journal.specs.Layout.{narrow}
-use Rattle.buffer.specs.Gap.{shut}
-use Rattle.buffer.proofs.Gaps.{shut-length}
+use borrow.Author.Needs.{needs}
 use Rattle.records.proofs.Formats.{narrow-fit}
 use Rattle.edit.specs.Calls.{lent}
-use Rattle.gap_edits.proofs.Behind.{used, small}
-use Rattle.indent_plans.proofs.Gap.{opened-length, opened-text}
-use Rattle.dedents.proofs.Turns.{Dedenting, line-within, cut-within, cut-suits, dedent-opens, gap-leaves, gap-next, dedent-on, dedent-done}
-use borrow.Author.Needs.{needs}
+use Rattle.dedents.proofs.Turns.{Dedenting, dedent-begins, line-within, cut-within, cut-suits, dedent-ends, dedent-goes-on}
 use Rattle.dedents.proofs.dedent_lines.Statement.{statement}
 use Rattle.dedents.proofs.dedent_lines.Tie as tie
 
 abbrev Inv-loop : tie.InvT-loop
 Inv-loop text₀ records₀ texts₀ m from to line-now₀ log-now₀ cursor₀ at₀ end₀ text records texts line-now log-now cursor at end =
-    Dedenting (lent (shut (line-now₀ .len) from text₀) records₀ texts₀ line-now₀ log-now₀) m from to (lent (shut (line-now .len) at text) records texts line-now log-now) cursor at end
+    Dedenting (lent text₀ records₀ texts₀ line-now₀ log-now₀) m from to (lent text records texts line-now log-now) cursor at end
 
 abbrev μ-loop : tie.MeasureT-loop
 μ-loop text₀ records₀ texts₀ m from to line-now₀ log-now₀ cursor₀ at₀ end₀ text records texts line-now log-now cursor at end =
     end - at
 
-move-gap-requires : tie.Need-move-gap-requires Inv-loop μ-loop
-move-gap-requires c κs = (omega arith, (omega (arith, c .before .before .before .before .pre .1 .0 .0, c .before .before .before .before .pre .1 .0 .1), c .before .before .before .before .pre .0 .used))
-
 loop-holds : tie.Need-loop-holds Inv-loop μ-loop
-loop-holds c = dedent-opens (now (c .before .before .before .before .before .before .before .args .text)) (now (c .before .before .before .before .before .before .before .args .records)) (now (c .before .before .before .before .before .before .before .args .texts)) (c .before .before .before .before .before .before .before .args .line) (c .before .before .before .before .before .before .before .args .log) (c .before .before .before .before .before .before .before .args .from) (c .before .before .before .before .before .before .before .args .to) (c .before .before .before .before .before .before .before .pre .0) (c .before .before .before .before .before .before .before .pre .1 .0 .0) (c .before .before .before .before .before .before .before .pre .1 .0 .1) (c .before .before .move-gap .last .0) (c .before .before .move-gap .kept .0) (c .before .before .move-gap .ensures .0) (c .before .before .before .before .before .before .before .args .m) (c .before .before .before .before .before .before .before .pre .1 .1 .0) (c .before .before .before .before .before .before .before .pre .1 .1 .1 .0) (c .before .before .before .before .before .before .before .pre .1 .1 .1 .1)
+loop-holds c = let s = c .before .before .before in
+    dedent-begins (lent (now s.args.text) (now s.args.records) (now s.args.texts) s.args.line s.args.log) s.args.m s.args.from s.args.to (s .pre .0) (s .pre .1 .0 .0) (s .pre .1 .0 .1) (s .pre .1 .1 .0) (s .pre .1 .1 .1 .0) (s .pre .1 .1 .1 .1)
 
-end-behind-requires : tie.Need-end-behind-requires Inv-loop μ-loop
-end-behind-requires c κs = (omega arith, c .before .loop .inv .order, c .before .loop .inv .within, used narrow (c .before .loop .text) (c .before .loop .records) (c .before .loop .texts) (c .before .loop .line-now) (c .before .loop .log-now) (c .before .loop .at) (c .before .loop .inv .left .ready))
+slice-reshare-prefix-end-of-line : tie.Need-slice-reshare-prefix-end-of-line Inv-loop μ-loop
+slice-reshare-prefix-end-of-line c = let k = c .loop .inv in omega (arith, k .within, k .left .ready .used)
 
-deleting-behind-requires : tie.Need-deleting-behind-requires Inv-loop μ-loop
-deleting-behind-requires c κs = (line-within (lent (shut (c .before .before .before .before .before .before .before .before .before .before .before .args .line .len) (c .before .before .before .before .before .before .before .before .before .before .before .args .from) (c .before .before .before .before .before .before .move-gap .last .0)) (now (c .before .before .before .before .before .before .before .before .before .before .before .args .records)) (now (c .before .before .before .before .before .before .before .before .before .before .before .args .texts)) (c .before .before .before .before .before .before .before .before .before .before .before .args .line) (c .before .before .before .before .before .before .before .before .before .before .before .args .log)) (c .before .before .before .before .before .before .before .before .before .before .before .args .m) (c .before .before .before .before .before .before .before .before .before .before .before .args .from) (c .before .before .before .before .before .before .before .before .before .before .before .args .to) (lent (shut (c .before .before .before .loop .line-now .len) (c .before .before .before .loop .at) (c .before .before .before .loop .text)) (c .before .before .before .loop .records) (c .before .before .before .loop .texts) (c .before .before .before .loop .line-now) (c .before .before .before .loop .log-now)) (c .before .before .before .loop .cursor) (c .before .before .before .loop .at) (c .before .before .before .loop .end) (c .before .before .before .loop .inv) (c .before .end-behind .result) (c .before .end-behind .ensures) .0, omega (arith, line-within (lent (shut (c .before .before .before .before .before .before .before .before .before .before .before .args .line .len) (c .before .before .before .before .before .before .before .before .before .before .before .args .from) (c .before .before .before .before .before .before .move-gap .last .0)) (now (c .before .before .before .before .before .before .before .before .before .before .before .args .records)) (now (c .before .before .before .before .before .before .before .before .before .before .before .args .texts)) (c .before .before .before .before .before .before .before .before .before .before .before .args .line) (c .before .before .before .before .before .before .before .before .before .before .before .args .log)) (c .before .before .before .before .before .before .before .before .before .before .before .args .m) (c .before .before .before .before .before .before .before .before .before .before .before .args .from) (c .before .before .before .before .before .before .before .before .before .before .before .args .to) (lent (shut (c .before .before .before .loop .line-now .len) (c .before .before .before .loop .at) (c .before .before .before .loop .text)) (c .before .before .before .loop .records) (c .before .before .before .loop .texts) (c .before .before .before .loop .line-now) (c .before .before .before .loop .log-now)) (c .before .before .before .loop .cursor) (c .before .before .before .loop .at) (c .before .before .before .loop .end) (c .before .before .before .loop .inv) (c .before .end-behind .result) (c .before .end-behind .ensures) .1, c .before .before .before .loop .inv .within), used narrow (c .before .before .before .loop .text) (c .before .before .before .loop .records) (c .before .before .before .loop .texts) (c .before .before .before .loop .line-now) (c .before .before .before .loop .log-now) (c .before .before .before .loop .at) (c .before .before .before .loop .inv .left .ready))
+slice-aggregate-end-of-line : tie.Need-slice-aggregate-end-of-line Inv-loop μ-loop
+slice-aggregate-end-of-line c = let k = c .before .loop .inv in sym (length-take-le _ _ (omega (arith, k .within, k .left .ready .used)))
 
-cut-behind-requires : tie.Need-cut-behind-requires Inv-loop μ-loop
-cut-behind-requires c κs = (narrow-fit, (c .before .before .before .before .before .before .before .loop .inv .left .ready, cut-suits (lent (shut (c .before .before .before .before .before .before .before .before .before .before .before .before .before .before .before .args .line .len) (c .before .before .before .before .before .before .before .before .before .before .before .before .before .before .before .args .from) (c .before .before .before .before .before .before .before .before .before .before .move-gap .last .0)) (now (c .before .before .before .before .before .before .before .before .before .before .before .before .before .before .before .args .records)) (now (c .before .before .before .before .before .before .before .before .before .before .before .before .before .before .before .args .texts)) (c .before .before .before .before .before .before .before .before .before .before .before .before .before .before .before .args .line) (c .before .before .before .before .before .before .before .before .before .before .before .before .before .before .before .args .log)) (c .before .before .before .before .before .before .before .before .before .before .before .before .before .before .before .args .m) (c .before .before .before .before .before .before .before .before .before .before .before .before .before .before .before .args .from) (c .before .before .before .before .before .before .before .before .before .before .before .before .before .before .before .args .to) (lent (shut (c .before .before .before .before .before .before .before .loop .line-now .len) (c .before .before .before .before .before .before .before .loop .at) (c .before .before .before .before .before .before .before .loop .text)) (c .before .before .before .before .before .before .before .loop .records) (c .before .before .before .before .before .before .before .loop .texts) (c .before .before .before .before .before .before .before .loop .line-now) (c .before .before .before .before .before .before .before .loop .log-now)) (c .before .before .before .before .before .before .before .loop .cursor) (c .before .before .before .before .before .before .before .loop .at) (c .before .before .before .before .before .before .before .loop .end) (c .before .before .before .before .before .before .before .loop .inv) (c .before .before .before .before .before .end-behind .result) (c .before .before .before .before .before .end-behind .ensures) (c .before .before .before .deleting-behind .result) (c .before .before .before .deleting-behind .ensures)))
+end-of-line-requires : tie.Need-end-of-line-requires Inv-loop μ-loop
+end-of-line-requires c κs = let b = c .before .loop in
+    omega (arith, b .inv .order, length-take-le b.end b.text (omega (arith, b .inv .within, b .inv .left .ready .used)))
+
+sub-deleting : tie.Need-sub-deleting Inv-loop μ-loop
+sub-deleting c = line-within (c .before .before .loop .inv) (c .end-of-line .ensures .0) .0
+
+part-deleting-start : tie.Need-part-deleting-start Inv-loop μ-loop
+part-deleting-start c = search needs
+
+part-deleting-end : tie.Need-part-deleting-end Inv-loop μ-loop
+part-deleting-end c = let k = c .before .before .before .loop .inv in omega (arith, line-within k (c .before .end-of-line .ensures .0), k .within, k .left .ready .used)
+
+deleting-requires : tie.Need-deleting-requires Inv-loop μ-loop
+deleting-requires c κs = search needs
+
+add-cut-out : tie.Need-add-cut-out Inv-loop μ-loop
+add-cut-out c = let b = c .before .before .before .before .before .before .before .before .loop in
+    let k = b .inv in
+    let q = c .before .before .before .before .before .before .end-of-line .ensures .0 in
+    omega (arith, cut-within k q (c .before .before .before .deleting .ensures .0), line-within k q, k .within, k .left .ready .used, k .left .ready .small)
+
+cut-out-requires : tie.Need-cut-out-requires Inv-loop μ-loop
+cut-out-requires c κs = let k = c .before .before .before .before .before .before .before .before .loop .inv in
+    (narrow-fit, (k .left .ready, cut-suits k (c .before .before .before .before .before .before .end-of-line .ensures .0) (c .before .before .before .deleting .ensures .0)))
 
 dedented-requires : tie.Need-dedented-requires Inv-loop μ-loop
 dedented-requires c κs = search needs
-
-move-gap-requires-2 : tie.Need-move-gap-requires-2 Inv-loop μ-loop
-move-gap-requires-2 c κs = (gap-leaves (lent (shut (c .before .before .before .before .before .before .before .before .before .before .before .before .before .before .before .before .before .before .before .before .before .before .before .before .before .args .line .len) (c .before .before .before .before .before .before .before .before .before .before .before .before .before .before .before .before .before .before .before .before .before .before .before .before .before .args .from) (c .before .before .before .before .before .before .before .before .before .before .before .before .before .before .before .before .before .before .before .before .move-gap .last .0)) (now (c .before .before .before .before .before .before .before .before .before .before .before .before .before .before .before .before .before .before .before .before .before .before .before .before .before .args .records)) (now (c .before .before .before .before .before .before .before .before .before .before .before .before .before .before .before .before .before .before .before .before .before .before .before .before .before .args .texts)) (c .before .before .before .before .before .before .before .before .before .before .before .before .before .before .before .before .before .before .before .before .before .before .before .before .before .args .line) (c .before .before .before .before .before .before .before .before .before .before .before .before .before .before .before .before .before .before .before .before .before .before .before .before .before .args .log)) (c .before .before .before .before .before .before .before .before .before .before .before .before .before .before .before .before .before .before .before .before .before .before .before .before .before .args .m) (c .before .before .before .before .before .before .before .before .before .before .before .before .before .before .before .before .before .before .before .before .before .before .before .before .before .args .from) (c .before .before .before .before .before .before .before .before .before .before .before .before .before .before .before .before .before .before .before .before .before .before .before .before .before .args .to) (c .before .before .before .before .before .before .before .before .before .before .before .before .before .before .before .before .before .loop .text) (c .before .before .before .before .before .before .before .before .before .before .before .before .before .before .before .before .before .loop .records) (c .before .before .before .before .before .before .before .before .before .before .before .before .before .before .before .before .before .loop .texts) (c .before .before .before .before .before .before .before .before .before .before .before .before .before .before .before .before .before .loop .line-now) (c .before .before .before .before .before .before .before .before .before .before .before .before .before .before .before .before .before .loop .log-now) (c .before .before .before .before .before .before .before .before .before .before .before .before .before .before .before .before .before .loop .cursor) (c .before .before .before .before .before .before .before .before .before .before .before .before .before .before .before .before .before .loop .at) (c .before .before .before .before .before .before .before .before .before .before .before .before .before .before .before .before .before .loop .end) (c .before .before .before .before .before .before .before .before .before .before .before .before .before .before .before .before .before .loop .inv) (c .before .before .before .before .before .before .before .before .before .before .before .before .before .before .before .end-behind .result) (c .before .before .before .before .before .before .before .before .before .before .before .before .before .before .before .end-behind .ensures) (c .before .before .before .before .before .before .before .before .before .before .before .before .before .deleting-behind .result) (c .before .before .before .before .before .before .before .before .before .before .before .before .before .deleting-behind .ensures) (c .before .before .before .before .before .before .before .before .before .cut-behind .result) (c .before .before .before .before .before .before .before .before .before .cut-behind .last .1 .1 .0) (c .before .before .before .before .before .before .before .before .before .cut-behind .last .1 .1 .1 .0) (c .before .before .before .before .before .before .before .before .before .cut-behind .ensures) (c .before .before .before .before .before .before .before .before .before .cut-behind .kept .1 .1 .0) (c .before .before .before .before .before .before .before .before .before .cut-behind .kept .1 .1 .1 .0) .0, (omega arith, gap-leaves (lent (shut (c .before .before .before .before .before .before .before .before .before .before .before .before .before .before .before .before .before .before .before .before .before .before .before .before .before .args .line .len) (c .before .before .before .before .before .before .before .before .before .before .before .before .before .before .before .before .before .before .before .before .before .before .before .before .before .args .from) (c .before .before .before .before .before .before .before .before .before .before .before .before .before .before .before .before .before .before .before .before .move-gap .last .0)) (now (c .before .before .before .before .before .before .before .before .before .before .before .before .before .before .before .before .before .before .before .before .before .before .before .before .before .args .records)) (now (c .before .before .before .before .before .before .before .before .before .before .before .before .before .before .before .before .before .before .before .before .before .before .before .before .before .args .texts)) (c .before .before .before .before .before .before .before .before .before .before .before .before .before .before .before .before .before .before .before .before .before .before .before .before .before .args .line) (c .before .before .before .before .before .before .before .before .before .before .before .before .before .before .before .before .before .before .before .before .before .before .before .before .before .args .log)) (c .before .before .before .before .before .before .before .before .before .before .before .before .before .before .before .before .before .before .before .before .before .before .before .before .before .args .m) (c .before .before .before .before .before .before .before .before .before .before .before .before .before .before .before .before .before .before .before .before .before .before .before .before .before .args .from) (c .before .before .before .before .before .before .before .before .before .before .before .before .before .before .before .before .before .before .before .before .before .before .before .before .before .args .to) (c .before .before .before .before .before .before .before .before .before .before .before .before .before .before .before .before .before .loop .text) (c .before .before .before .before .before .before .before .before .before .before .before .before .before .before .before .before .before .loop .records) (c .before .before .before .before .before .before .before .before .before .before .before .before .before .before .before .before .before .loop .texts) (c .before .before .before .before .before .before .before .before .before .before .before .before .before .before .before .before .before .loop .line-now) (c .before .before .before .before .before .before .before .before .before .before .before .before .before .before .before .before .before .loop .log-now) (c .before .before .before .before .before .before .before .before .before .before .before .before .before .before .before .before .before .loop .cursor) (c .before .before .before .before .before .before .before .before .before .before .before .before .before .before .before .before .before .loop .at) (c .before .before .before .before .before .before .before .before .before .before .before .before .before .before .before .before .before .loop .end) (c .before .before .before .before .before .before .before .before .before .before .before .before .before .before .before .before .before .loop .inv) (c .before .before .before .before .before .before .before .before .before .before .before .before .before .before .before .end-behind .result) (c .before .before .before .before .before .before .before .before .before .before .before .before .before .before .before .end-behind .ensures) (c .before .before .before .before .before .before .before .before .before .before .before .before .before .deleting-behind .result) (c .before .before .before .before .before .before .before .before .before .before .before .before .before .deleting-behind .ensures) (c .before .before .before .before .before .before .before .before .before .cut-behind .result) (c .before .before .before .before .before .before .before .before .before .cut-behind .last .1 .1 .0) (c .before .before .before .before .before .before .before .before .before .cut-behind .last .1 .1 .1 .0) (c .before .before .before .before .before .before .before .before .before .cut-behind .ensures) (c .before .before .before .before .before .before .before .before .before .cut-behind .kept .1 .1 .0) (c .before .before .before .before .before .before .before .before .before .cut-behind .kept .1 .1 .1 .0) .1))
 
 says-requires : tie.Need-says-requires Inv-loop μ-loop
 says-requires c κs = search needs
 
 same-length : tie.Need-same-length Inv-loop μ-loop
-same-length c = c .before .before .before .move-gap2 .kept .0 ∙ sym (shut-length (c .before .before .before .before .before .before .before .before .before .before .before .before .before .before .before .before .before .before .before .before .before .loop .line-now .len) (c .before .before .before .before .before .before .before .before .before .before .before .before .before .before .before .before .before .before .before .before .before .loop .at) (c .before .before .before .before .before .before .before .before .before .before .before .before .before .before .before .before .before .before .before .before .before .loop .text)) ∙ c .before .before .before .before .before .before .before .before .before .before .before .before .before .before .before .before .before .before .before .before .before .loop .inv .left .text ∙ opened-length (now (c .before .before .before .before .before .before .before .before .before .before .before .before .before .before .before .before .before .before .before .before .before .before .before .before .before .before .before .before .before .args .text)) (now (c .before .before .before .before .before .before .before .before .before .before .before .before .before .before .before .before .before .before .before .before .before .before .before .before .before .before .before .before .before .args .records)) (now (c .before .before .before .before .before .before .before .before .before .before .before .before .before .before .before .before .before .before .before .before .before .before .before .before .before .before .before .before .before .args .texts)) (c .before .before .before .before .before .before .before .before .before .before .before .before .before .before .before .before .before .before .before .before .before .before .before .before .before .before .before .before .before .args .line) (c .before .before .before .before .before .before .before .before .before .before .before .before .before .before .before .before .before .before .before .before .before .before .before .before .before .before .before .before .before .args .log) (c .before .before .before .before .before .before .before .before .before .before .before .before .before .before .before .before .before .before .before .before .before .before .before .before .before .before .before .before .before .args .from) (c .before .before .before .before .before .before .before .before .before .before .before .before .before .before .before .before .before .before .before .before .before .before .before .before .before .before .before .before .before .args .to) (c .before .before .before .before .before .before .before .before .before .before .before .before .before .before .before .before .before .before .before .before .before .before .before .before .before .before .before .before .before .pre .0) (c .before .before .before .before .before .before .before .before .before .before .before .before .before .before .before .before .before .before .before .before .before .before .before .before .before .before .before .before .before .pre .1 .0 .0) (c .before .before .before .before .before .before .before .before .before .before .before .before .before .before .before .before .before .before .before .before .before .before .before .before .before .before .before .before .before .pre .1 .0 .1) (c .before .before .before .before .before .before .before .before .before .before .before .before .before .before .before .before .before .before .before .before .before .before .before .before .move-gap .last .0) (c .before .before .before .before .before .before .before .before .before .before .before .before .before .before .before .before .before .before .before .before .before .before .before .before .move-gap .kept .0) (c .before .before .before .before .before .before .before .before .before .before .before .before .before .before .before .before .before .before .before .before .before .before .before .before .move-gap .ensures .0)
+same-length c = c .before .before .before .before .before .before .before .before .before .before .before .cut-out .kept .1 .0 ∙ c .before .before .before .before .before .before .before .before .before .before .before .before .before .before .before .before .before .before .before .before .loop .inv .left .text
 
 same-length-2 : tie.Need-same-length-2 Inv-loop μ-loop
-same-length-2 c = c .before .before .before .before .before .before .before .before .before .before .before .before .before .cut-behind .kept .1 .1 .0 ∙ c .before .before .before .before .before .before .before .before .before .before .before .before .before .before .before .before .before .before .before .before .before .loop .inv .left .records
+same-length-2 c = c .before .before .before .before .before .before .before .before .before .before .before .cut-out .kept .1 .1 .0 ∙ c .before .before .before .before .before .before .before .before .before .before .before .before .before .before .before .before .before .before .before .before .loop .inv .left .records
 
 same-length-3 : tie.Need-same-length-3 Inv-loop μ-loop
-same-length-3 c = c .before .before .before .before .before .before .before .before .before .before .before .before .before .cut-behind .kept .1 .1 .1 .0 ∙ c .before .before .before .before .before .before .before .before .before .before .before .before .before .before .before .before .before .before .before .before .before .loop .inv .left .texts
+same-length-3 c = c .before .before .before .before .before .before .before .before .before .before .before .cut-out .kept .1 .1 .1 .0 ∙ c .before .before .before .before .before .before .before .before .before .before .before .before .before .before .before .before .before .before .before .before .loop .inv .left .texts
 
 returns : tie.Need-returns Inv-loop μ-loop
-returns c = dedent-done (lent (shut (c .before .before .before .before .before .before .before .before .before .before .before .before .before .before .before .before .before .before .before .before .before .before .before .before .before .before .before .before .before .args .line .len) (c .before .before .before .before .before .before .before .before .before .before .before .before .before .before .before .before .before .before .before .before .before .before .before .before .before .before .before .before .before .args .from) (c .before .before .before .before .before .before .before .before .before .before .before .before .before .before .before .before .before .before .before .before .before .before .before .before .move-gap .last .0)) (now (c .before .before .before .before .before .before .before .before .before .before .before .before .before .before .before .before .before .before .before .before .before .before .before .before .before .before .before .before .before .args .records)) (now (c .before .before .before .before .before .before .before .before .before .before .before .before .before .before .before .before .before .before .before .before .before .before .before .before .before .before .before .before .before .args .texts)) (c .before .before .before .before .before .before .before .before .before .before .before .before .before .before .before .before .before .before .before .before .before .before .before .before .before .before .before .before .before .args .line) (c .before .before .before .before .before .before .before .before .before .before .before .before .before .before .before .before .before .before .before .before .before .before .before .before .before .before .before .before .before .args .log)) (c .before .before .before .before .before .before .before .before .before .before .before .before .before .before .before .before .before .before .before .before .before .before .before .before .before .before .before .before .before .args .m) (c .before .before .before .before .before .before .before .before .before .before .before .before .before .before .before .before .before .before .before .before .before .before .before .before .before .before .before .before .before .args .from) (c .before .before .before .before .before .before .before .before .before .before .before .before .before .before .before .before .before .before .before .before .before .before .before .before .before .before .before .before .before .args .to) (c .before .before .before .before .before .before .before .before .before .before .before .before .before .before .before .before .before .before .before .before .before .loop .text) (c .before .before .before .before .before .before .before .before .before .before .before .before .before .before .before .before .before .before .before .before .before .loop .records) (c .before .before .before .before .before .before .before .before .before .before .before .before .before .before .before .before .before .before .before .before .before .loop .texts) (c .before .before .before .before .before .before .before .before .before .before .before .before .before .before .before .before .before .before .before .before .before .loop .line-now) (c .before .before .before .before .before .before .before .before .before .before .before .before .before .before .before .before .before .before .before .before .before .loop .log-now) (c .before .before .before .before .before .before .before .before .before .before .before .before .before .before .before .before .before .before .before .before .before .loop .cursor) (c .before .before .before .before .before .before .before .before .before .before .before .before .before .before .before .before .before .before .before .before .before .loop .at) (c .before .before .before .before .before .before .before .before .before .before .before .before .before .before .before .before .before .before .before .before .before .loop .end) (c .before .before .before .before .before .before .before .before .before .before .before .before .before .before .before .before .before .before .before .before .before .loop .inv) (c .before .before .before .before .before .before .before .before .before .before .before .before .before .before .before .before .before .before .before .end-behind .result) (c .before .before .before .before .before .before .before .before .before .before .before .before .before .before .before .before .before .before .before .end-behind .ensures) (c .before .before .before .before .before .before .before .before .before .before .before .before .before .before .before .before .before .deleting-behind .result) (c .before .before .before .before .before .before .before .before .before .before .before .before .before .before .before .before .before .deleting-behind .ensures) (c .before .before .before .before .before .before .before .before .before .before .before .before .before .cut-behind .result) (c .before .before .before .before .before .before .before .before .before .before .before .before .before .cut-behind .last .1 .1 .0) (c .before .before .before .before .before .before .before .before .before .before .before .before .before .cut-behind .last .1 .1 .1 .0) (c .before .before .before .before .before .before .before .before .before .before .before .before .before .cut-behind .ensures) (c .before .before .before .before .before .before .before .before .before .before .before .before .before .cut-behind .kept .1 .1 .0) (c .before .before .before .before .before .before .before .before .before .before .before .before .before .cut-behind .kept .1 .1 .1 .0) (c .before .before .before .move-gap2 .last .0) (c .before .before .before .move-gap2 .kept .0) (c .before .before .before .before .before .before .dedented .result) (c .before .before .before .before .before .before .dedented .ensures) (c .before .before .before .before .before .if1 .taken) (c .before .before .before .move-gap2 .ensures .0) (now (c .before .before .before .before .before .before .before .before .before .before .before .before .before .before .before .before .before .before .before .before .before .before .before .before .before .before .before .before .before .args .text)) (sym (opened-length (now (c .before .before .before .before .before .before .before .before .before .before .before .before .before .before .before .before .before .before .before .before .before .before .before .before .before .before .before .before .before .args .text)) (now (c .before .before .before .before .before .before .before .before .before .before .before .before .before .before .before .before .before .before .before .before .before .before .before .before .before .before .before .before .before .args .records)) (now (c .before .before .before .before .before .before .before .before .before .before .before .before .before .before .before .before .before .before .before .before .before .before .before .before .before .before .before .before .before .args .texts)) (c .before .before .before .before .before .before .before .before .before .before .before .before .before .before .before .before .before .before .before .before .before .before .before .before .before .before .before .before .before .args .line) (c .before .before .before .before .before .before .before .before .before .before .before .before .before .before .before .before .before .before .before .before .before .before .before .before .before .before .before .before .before .args .log) (c .before .before .before .before .before .before .before .before .before .before .before .before .before .before .before .before .before .before .before .before .before .before .before .before .before .before .before .before .before .args .from) (c .before .before .before .before .before .before .before .before .before .before .before .before .before .before .before .before .before .before .before .before .before .before .before .before .before .before .before .before .before .args .to) (c .before .before .before .before .before .before .before .before .before .before .before .before .before .before .before .before .before .before .before .before .before .before .before .before .before .before .before .before .before .pre .0) (c .before .before .before .before .before .before .before .before .before .before .before .before .before .before .before .before .before .before .before .before .before .before .before .before .before .before .before .before .before .pre .1 .0 .0) (c .before .before .before .before .before .before .before .before .before .before .before .before .before .before .before .before .before .before .before .before .before .before .before .before .before .before .before .before .before .pre .1 .0 .1) (c .before .before .before .before .before .before .before .before .before .before .before .before .before .before .before .before .before .before .before .before .before .before .before .before .move-gap .last .0) (c .before .before .before .before .before .before .before .before .before .before .before .before .before .before .before .before .before .before .before .before .before .before .before .before .move-gap .kept .0) (c .before .before .before .before .before .before .before .before .before .before .before .before .before .before .before .before .before .before .before .before .before .before .before .before .move-gap .ensures .0))) (sym (opened-text (now (c .before .before .before .before .before .before .before .before .before .before .before .before .before .before .before .before .before .before .before .before .before .before .before .before .before .before .before .before .before .args .text)) (now (c .before .before .before .before .before .before .before .before .before .before .before .before .before .before .before .before .before .before .before .before .before .before .before .before .before .before .before .before .before .args .records)) (now (c .before .before .before .before .before .before .before .before .before .before .before .before .before .before .before .before .before .before .before .before .before .before .before .before .before .before .before .before .before .args .texts)) (c .before .before .before .before .before .before .before .before .before .before .before .before .before .before .before .before .before .before .before .before .before .before .before .before .before .before .before .before .before .args .line) (c .before .before .before .before .before .before .before .before .before .before .before .before .before .before .before .before .before .before .before .before .before .before .before .before .before .before .before .before .before .args .log) (c .before .before .before .before .before .before .before .before .before .before .before .before .before .before .before .before .before .before .before .before .before .before .before .before .before .before .before .before .before .args .from) (c .before .before .before .before .before .before .before .before .before .before .before .before .before .before .before .before .before .before .before .before .before .before .before .before .before .before .before .before .before .args .to) (c .before .before .before .before .before .before .before .before .before .before .before .before .before .before .before .before .before .before .before .before .before .before .before .before .before .before .before .before .before .pre .0) (c .before .before .before .before .before .before .before .before .before .before .before .before .before .before .before .before .before .before .before .before .before .before .before .before .before .before .before .before .before .pre .1 .0 .0) (c .before .before .before .before .before .before .before .before .before .before .before .before .before .before .before .before .before .before .before .before .before .before .before .before .before .before .before .before .before .pre .1 .0 .1) (c .before .before .before .before .before .before .before .before .before .before .before .before .before .before .before .before .before .before .before .before .before .before .before .before .move-gap .last .0) (c .before .before .before .before .before .before .before .before .before .before .before .before .before .before .before .before .before .before .before .before .before .before .before .before .move-gap .kept .0) (c .before .before .before .before .before .before .before .before .before .before .before .before .before .before .before .before .before .before .before .before .before .before .before .before .move-gap .ensures .0))) _ (c .says .ensures)
+returns c = let o = c .before .before .before .before .before .before .before .before .before .before .before .cut-out in
+    dedent-ends (c .before .before .before .before .before .before .before .before .before .before .before .before .before .before .before .before .before .before .before .before .loop .inv) (c .before .before .before .before .before .before .before .before .before .before .before .before .before .before .before .before .before .before .end-of-line .ensures .0) (c .before .before .before .before .before .before .before .before .before .before .before .before .before .before .before .deleting .ensures .0) (o .ensures) (o .kept .1 .0) (o .kept .1 .1 .0) (o .kept .1 .1 .1 .0) (c .before .before .dedented .ensures) (c .before .if1 .taken) (c .says .ensures)
 
-sub-next : tie.Need-sub-next Inv-loop μ-loop
-sub-next c = omega (arith, cut-within (lent (shut (c .before .before .before .before .before .before .before .before .before .before .before .before .before .before .before .before .before .before .before .before .before .before .before .before .args .line .len) (c .before .before .before .before .before .before .before .before .before .before .before .before .before .before .before .before .before .before .before .before .before .before .before .before .args .from) (c .before .before .before .before .before .before .before .before .before .before .before .before .before .before .before .before .before .before .before .move-gap .last .0)) (now (c .before .before .before .before .before .before .before .before .before .before .before .before .before .before .before .before .before .before .before .before .before .before .before .before .args .records)) (now (c .before .before .before .before .before .before .before .before .before .before .before .before .before .before .before .before .before .before .before .before .before .before .before .before .args .texts)) (c .before .before .before .before .before .before .before .before .before .before .before .before .before .before .before .before .before .before .before .before .before .before .before .before .args .line) (c .before .before .before .before .before .before .before .before .before .before .before .before .before .before .before .before .before .before .before .before .before .before .before .before .args .log)) (c .before .before .before .before .before .before .before .before .before .before .before .before .before .before .before .before .before .before .before .before .before .before .before .before .args .m) (c .before .before .before .before .before .before .before .before .before .before .before .before .before .before .before .before .before .before .before .before .before .before .before .before .args .from) (c .before .before .before .before .before .before .before .before .before .before .before .before .before .before .before .before .before .before .before .before .before .before .before .before .args .to) (lent (shut (c .before .before .before .before .before .before .before .before .before .before .before .before .before .before .before .before .loop .line-now .len) (c .before .before .before .before .before .before .before .before .before .before .before .before .before .before .before .before .loop .at) (c .before .before .before .before .before .before .before .before .before .before .before .before .before .before .before .before .loop .text)) (c .before .before .before .before .before .before .before .before .before .before .before .before .before .before .before .before .loop .records) (c .before .before .before .before .before .before .before .before .before .before .before .before .before .before .before .before .loop .texts) (c .before .before .before .before .before .before .before .before .before .before .before .before .before .before .before .before .loop .line-now) (c .before .before .before .before .before .before .before .before .before .before .before .before .before .before .before .before .loop .log-now)) (c .before .before .before .before .before .before .before .before .before .before .before .before .before .before .before .before .loop .cursor) (c .before .before .before .before .before .before .before .before .before .before .before .before .before .before .before .before .loop .at) (c .before .before .before .before .before .before .before .before .before .before .before .before .before .before .before .before .loop .end) (c .before .before .before .before .before .before .before .before .before .before .before .before .before .before .before .before .loop .inv) (c .before .before .before .before .before .before .before .before .before .before .before .before .before .before .end-behind .result) (c .before .before .before .before .before .before .before .before .before .before .before .before .before .before .end-behind .ensures) (c .before .before .before .before .before .before .before .before .before .before .before .before .deleting-behind .result) (c .before .before .before .before .before .before .before .before .before .before .before .before .deleting-behind .ensures))
+sub-at : tie.Need-sub-at Inv-loop μ-loop
+sub-at c = let k = c .before .before .before .before .before .before .before .before .before .before .before .before .before .before .before .before .before .before .before .loop .inv in
+    let q = c .before .before .before .before .before .before .before .before .before .before .before .before .before .before .before .before .before .end-of-line .ensures .0 in
+    omega (arith, cut-within k q (c .before .before .before .before .before .before .before .before .before .before .before .before .before .before .deleting .ensures .0))
 
-add-next : tie.Need-add-next Inv-loop μ-loop
-add-next c = omega (arith, line-within (lent (shut (c .before .before .before .before .before .before .before .before .before .before .before .before .before .before .before .before .before .before .before .before .before .before .before .before .args .line .len) (c .before .before .before .before .before .before .before .before .before .before .before .before .before .before .before .before .before .before .before .before .before .before .before .before .args .from) (c .before .before .before .before .before .before .before .before .before .before .before .before .before .before .before .before .before .before .before .move-gap .last .0)) (now (c .before .before .before .before .before .before .before .before .before .before .before .before .before .before .before .before .before .before .before .before .before .before .before .before .args .records)) (now (c .before .before .before .before .before .before .before .before .before .before .before .before .before .before .before .before .before .before .before .before .before .before .before .before .args .texts)) (c .before .before .before .before .before .before .before .before .before .before .before .before .before .before .before .before .before .before .before .before .before .before .before .before .args .line) (c .before .before .before .before .before .before .before .before .before .before .before .before .before .before .before .before .before .before .before .before .before .before .before .before .args .log)) (c .before .before .before .before .before .before .before .before .before .before .before .before .before .before .before .before .before .before .before .before .before .before .before .before .args .m) (c .before .before .before .before .before .before .before .before .before .before .before .before .before .before .before .before .before .before .before .before .before .before .before .before .args .from) (c .before .before .before .before .before .before .before .before .before .before .before .before .before .before .before .before .before .before .before .before .before .before .before .before .args .to) (lent (shut (c .before .before .before .before .before .before .before .before .before .before .before .before .before .before .before .before .loop .line-now .len) (c .before .before .before .before .before .before .before .before .before .before .before .before .before .before .before .before .loop .at) (c .before .before .before .before .before .before .before .before .before .before .before .before .before .before .before .before .loop .text)) (c .before .before .before .before .before .before .before .before .before .before .before .before .before .before .before .before .loop .records) (c .before .before .before .before .before .before .before .before .before .before .before .before .before .before .before .before .loop .texts) (c .before .before .before .before .before .before .before .before .before .before .before .before .before .before .before .before .loop .line-now) (c .before .before .before .before .before .before .before .before .before .before .before .before .before .before .before .before .loop .log-now)) (c .before .before .before .before .before .before .before .before .before .before .before .before .before .before .before .before .loop .cursor) (c .before .before .before .before .before .before .before .before .before .before .before .before .before .before .before .before .loop .at) (c .before .before .before .before .before .before .before .before .before .before .before .before .before .before .before .before .loop .end) (c .before .before .before .before .before .before .before .before .before .before .before .before .before .before .before .before .loop .inv) (c .before .before .before .before .before .before .before .before .before .before .before .before .before .before .end-behind .result) (c .before .before .before .before .before .before .before .before .before .before .before .before .before .before .end-behind .ensures) .1, c .before .before .before .before .before .before .before .before .before .before .before .before .before .before .before .before .loop .inv .within, used narrow (c .before .before .before .before .before .before .before .before .before .before .before .before .before .before .before .before .loop .text) (c .before .before .before .before .before .before .before .before .before .before .before .before .before .before .before .before .loop .records) (c .before .before .before .before .before .before .before .before .before .before .before .before .before .before .before .before .loop .texts) (c .before .before .before .before .before .before .before .before .before .before .before .before .before .before .before .before .loop .line-now) (c .before .before .before .before .before .before .before .before .before .before .before .before .before .before .before .before .loop .log-now) (c .before .before .before .before .before .before .before .before .before .before .before .before .before .before .before .before .loop .at) (c .before .before .before .before .before .before .before .before .before .before .before .before .before .before .before .before .loop .inv .left .ready), small narrow (c .before .before .before .before .before .before .before .before .before .before .before .before .before .before .before .before .loop .text) (c .before .before .before .before .before .before .before .before .before .before .before .before .before .before .before .before .loop .records) (c .before .before .before .before .before .before .before .before .before .before .before .before .before .before .before .before .loop .texts) (c .before .before .before .before .before .before .before .before .before .before .before .before .before .before .before .before .loop .line-now) (c .before .before .before .before .before .before .before .before .before .before .before .before .before .before .before .before .loop .log-now) (c .before .before .before .before .before .before .before .before .before .before .before .before .before .before .before .before .loop .at) (c .before .before .before .before .before .before .before .before .before .before .before .before .before .before .before .before .loop .inv .left .ready))
-
-move-gap-requires-3 : tie.Need-move-gap-requires-3 Inv-loop μ-loop
-move-gap-requires-3 c κs = (gap-leaves (lent (shut (c .before .before .before .before .before .before .before .before .before .before .before .before .before .before .before .before .before .before .before .before .before .before .before .before .before .args .line .len) (c .before .before .before .before .before .before .before .before .before .before .before .before .before .before .before .before .before .before .before .before .before .before .before .before .before .args .from) (c .before .before .before .before .before .before .before .before .before .before .before .before .before .before .before .before .before .before .before .before .move-gap .last .0)) (now (c .before .before .before .before .before .before .before .before .before .before .before .before .before .before .before .before .before .before .before .before .before .before .before .before .before .args .records)) (now (c .before .before .before .before .before .before .before .before .before .before .before .before .before .before .before .before .before .before .before .before .before .before .before .before .before .args .texts)) (c .before .before .before .before .before .before .before .before .before .before .before .before .before .before .before .before .before .before .before .before .before .before .before .before .before .args .line) (c .before .before .before .before .before .before .before .before .before .before .before .before .before .before .before .before .before .before .before .before .before .before .before .before .before .args .log)) (c .before .before .before .before .before .before .before .before .before .before .before .before .before .before .before .before .before .before .before .before .before .before .before .before .before .args .m) (c .before .before .before .before .before .before .before .before .before .before .before .before .before .before .before .before .before .before .before .before .before .before .before .before .before .args .from) (c .before .before .before .before .before .before .before .before .before .before .before .before .before .before .before .before .before .before .before .before .before .before .before .before .before .args .to) (c .before .before .before .before .before .before .before .before .before .before .before .before .before .before .before .before .before .loop .text) (c .before .before .before .before .before .before .before .before .before .before .before .before .before .before .before .before .before .loop .records) (c .before .before .before .before .before .before .before .before .before .before .before .before .before .before .before .before .before .loop .texts) (c .before .before .before .before .before .before .before .before .before .before .before .before .before .before .before .before .before .loop .line-now) (c .before .before .before .before .before .before .before .before .before .before .before .before .before .before .before .before .before .loop .log-now) (c .before .before .before .before .before .before .before .before .before .before .before .before .before .before .before .before .before .loop .cursor) (c .before .before .before .before .before .before .before .before .before .before .before .before .before .before .before .before .before .loop .at) (c .before .before .before .before .before .before .before .before .before .before .before .before .before .before .before .before .before .loop .end) (c .before .before .before .before .before .before .before .before .before .before .before .before .before .before .before .before .before .loop .inv) (c .before .before .before .before .before .before .before .before .before .before .before .before .before .before .before .end-behind .result) (c .before .before .before .before .before .before .before .before .before .before .before .before .before .before .before .end-behind .ensures) (c .before .before .before .before .before .before .before .before .before .before .before .before .before .deleting-behind .result) (c .before .before .before .before .before .before .before .before .before .before .before .before .before .deleting-behind .ensures) (c .before .before .before .before .before .before .before .before .before .cut-behind .result) (c .before .before .before .before .before .before .before .before .before .cut-behind .last .1 .1 .0) (c .before .before .before .before .before .before .before .before .before .cut-behind .last .1 .1 .1 .0) (c .before .before .before .before .before .before .before .before .before .cut-behind .ensures) (c .before .before .before .before .before .before .before .before .before .cut-behind .kept .1 .1 .0) (c .before .before .before .before .before .before .before .before .before .cut-behind .kept .1 .1 .1 .0) .0, (gap-next (lent (shut (c .before .before .before .before .before .before .before .before .before .before .before .before .before .before .before .before .before .before .before .before .before .before .before .before .before .args .line .len) (c .before .before .before .before .before .before .before .before .before .before .before .before .before .before .before .before .before .before .before .before .before .before .before .before .before .args .from) (c .before .before .before .before .before .before .before .before .before .before .before .before .before .before .before .before .before .before .before .before .move-gap .last .0)) (now (c .before .before .before .before .before .before .before .before .before .before .before .before .before .before .before .before .before .before .before .before .before .before .before .before .before .args .records)) (now (c .before .before .before .before .before .before .before .before .before .before .before .before .before .before .before .before .before .before .before .before .before .before .before .before .before .args .texts)) (c .before .before .before .before .before .before .before .before .before .before .before .before .before .before .before .before .before .before .before .before .before .before .before .before .before .args .line) (c .before .before .before .before .before .before .before .before .before .before .before .before .before .before .before .before .before .before .before .before .before .before .before .before .before .args .log)) (c .before .before .before .before .before .before .before .before .before .before .before .before .before .before .before .before .before .before .before .before .before .before .before .before .before .args .m) (c .before .before .before .before .before .before .before .before .before .before .before .before .before .before .before .before .before .before .before .before .before .before .before .before .before .args .from) (c .before .before .before .before .before .before .before .before .before .before .before .before .before .before .before .before .before .before .before .before .before .before .before .before .before .args .to) (c .before .before .before .before .before .before .before .before .before .before .before .before .before .before .before .before .before .loop .text) (c .before .before .before .before .before .before .before .before .before .before .before .before .before .before .before .before .before .loop .records) (c .before .before .before .before .before .before .before .before .before .before .before .before .before .before .before .before .before .loop .texts) (c .before .before .before .before .before .before .before .before .before .before .before .before .before .before .before .before .before .loop .line-now) (c .before .before .before .before .before .before .before .before .before .before .before .before .before .before .before .before .before .loop .log-now) (c .before .before .before .before .before .before .before .before .before .before .before .before .before .before .before .before .before .loop .cursor) (c .before .before .before .before .before .before .before .before .before .before .before .before .before .before .before .before .before .loop .at) (c .before .before .before .before .before .before .before .before .before .before .before .before .before .before .before .before .before .loop .end) (c .before .before .before .before .before .before .before .before .before .before .before .before .before .before .before .before .before .loop .inv) (c .before .before .before .before .before .before .before .before .before .before .before .before .before .before .before .end-behind .result) (c .before .before .before .before .before .before .before .before .before .before .before .before .before .before .before .end-behind .ensures) (c .before .before .before .before .before .before .before .before .before .before .before .before .before .deleting-behind .result) (c .before .before .before .before .before .before .before .before .before .before .before .before .before .deleting-behind .ensures) (c .before .before .before .before .before .before .before .before .before .cut-behind .result) (c .before .before .before .before .before .before .before .before .before .cut-behind .last .1 .1 .0) (c .before .before .before .before .before .before .before .before .before .cut-behind .last .1 .1 .1 .0) (c .before .before .before .before .before .before .before .before .before .cut-behind .ensures) (c .before .before .before .before .before .before .before .before .before .cut-behind .kept .1 .1 .0) (c .before .before .before .before .before .before .before .before .before .cut-behind .kept .1 .1 .1 .0) (omega (arith, c .before .if1 .left, line-within (lent (shut (c .before .before .before .before .before .before .before .before .before .before .before .before .before .before .before .before .before .before .before .before .before .before .before .before .before .args .line .len) (c .before .before .before .before .before .before .before .before .before .before .before .before .before .before .before .before .before .before .before .before .before .before .before .before .before .args .from) (c .before .before .before .before .before .before .before .before .before .before .before .before .before .before .before .before .before .before .before .before .move-gap .last .0)) (now (c .before .before .before .before .before .before .before .before .before .before .before .before .before .before .before .before .before .before .before .before .before .before .before .before .before .args .records)) (now (c .before .before .before .before .before .before .before .before .before .before .before .before .before .before .before .before .before .before .before .before .before .before .before .before .before .args .texts)) (c .before .before .before .before .before .before .before .before .before .before .before .before .before .before .before .before .before .before .before .before .before .before .before .before .before .args .line) (c .before .before .before .before .before .before .before .before .before .before .before .before .before .before .before .before .before .before .before .before .before .before .before .before .before .args .log)) (c .before .before .before .before .before .before .before .before .before .before .before .before .before .before .before .before .before .before .before .before .before .before .before .before .before .args .m) (c .before .before .before .before .before .before .before .before .before .before .before .before .before .before .before .before .before .before .before .before .before .before .before .before .before .args .from) (c .before .before .before .before .before .before .before .before .before .before .before .before .before .before .before .before .before .before .before .before .before .before .before .before .before .args .to) (lent (shut (c .before .before .before .before .before .before .before .before .before .before .before .before .before .before .before .before .before .loop .line-now .len) (c .before .before .before .before .before .before .before .before .before .before .before .before .before .before .before .before .before .loop .at) (c .before .before .before .before .before .before .before .before .before .before .before .before .before .before .before .before .before .loop .text)) (c .before .before .before .before .before .before .before .before .before .before .before .before .before .before .before .before .before .loop .records) (c .before .before .before .before .before .before .before .before .before .before .before .before .before .before .before .before .before .loop .texts) (c .before .before .before .before .before .before .before .before .before .before .before .before .before .before .before .before .before .loop .line-now) (c .before .before .before .before .before .before .before .before .before .before .before .before .before .before .before .before .before .loop .log-now)) (c .before .before .before .before .before .before .before .before .before .before .before .before .before .before .before .before .before .loop .cursor) (c .before .before .before .before .before .before .before .before .before .before .before .before .before .before .before .before .before .loop .at) (c .before .before .before .before .before .before .before .before .before .before .before .before .before .before .before .before .before .loop .end) (c .before .before .before .before .before .before .before .before .before .before .before .before .before .before .before .before .before .loop .inv) (c .before .before .before .before .before .before .before .before .before .before .before .before .before .before .before .end-behind .result) (c .before .before .before .before .before .before .before .before .before .before .before .before .before .before .before .end-behind .ensures) .1)), gap-leaves (lent (shut (c .before .before .before .before .before .before .before .before .before .before .before .before .before .before .before .before .before .before .before .before .before .before .before .before .before .args .line .len) (c .before .before .before .before .before .before .before .before .before .before .before .before .before .before .before .before .before .before .before .before .before .before .before .before .before .args .from) (c .before .before .before .before .before .before .before .before .before .before .before .before .before .before .before .before .before .before .before .before .move-gap .last .0)) (now (c .before .before .before .before .before .before .before .before .before .before .before .before .before .before .before .before .before .before .before .before .before .before .before .before .before .args .records)) (now (c .before .before .before .before .before .before .before .before .before .before .before .before .before .before .before .before .before .before .before .before .before .before .before .before .before .args .texts)) (c .before .before .before .before .before .before .before .before .before .before .before .before .before .before .before .before .before .before .before .before .before .before .before .before .before .args .line) (c .before .before .before .before .before .before .before .before .before .before .before .before .before .before .before .before .before .before .before .before .before .before .before .before .before .args .log)) (c .before .before .before .before .before .before .before .before .before .before .before .before .before .before .before .before .before .before .before .before .before .before .before .before .before .args .m) (c .before .before .before .before .before .before .before .before .before .before .before .before .before .before .before .before .before .before .before .before .before .before .before .before .before .args .from) (c .before .before .before .before .before .before .before .before .before .before .before .before .before .before .before .before .before .before .before .before .before .before .before .before .before .args .to) (c .before .before .before .before .before .before .before .before .before .before .before .before .before .before .before .before .before .loop .text) (c .before .before .before .before .before .before .before .before .before .before .before .before .before .before .before .before .before .loop .records) (c .before .before .before .before .before .before .before .before .before .before .before .before .before .before .before .before .before .loop .texts) (c .before .before .before .before .before .before .before .before .before .before .before .before .before .before .before .before .before .loop .line-now) (c .before .before .before .before .before .before .before .before .before .before .before .before .before .before .before .before .before .loop .log-now) (c .before .before .before .before .before .before .before .before .before .before .before .before .before .before .before .before .before .loop .cursor) (c .before .before .before .before .before .before .before .before .before .before .before .before .before .before .before .before .before .loop .at) (c .before .before .before .before .before .before .before .before .before .before .before .before .before .before .before .before .before .loop .end) (c .before .before .before .before .before .before .before .before .before .before .before .before .before .before .before .before .before .loop .inv) (c .before .before .before .before .before .before .before .before .before .before .before .before .before .before .before .end-behind .result) (c .before .before .before .before .before .before .before .before .before .before .before .before .before .before .before .end-behind .ensures) (c .before .before .before .before .before .before .before .before .before .before .before .before .before .deleting-behind .result) (c .before .before .before .before .before .before .before .before .before .before .before .before .before .deleting-behind .ensures) (c .before .before .before .before .before .before .before .before .before .cut-behind .result) (c .before .before .before .before .before .before .before .before .before .cut-behind .last .1 .1 .0) (c .before .before .before .before .before .before .before .before .before .cut-behind .last .1 .1 .1 .0) (c .before .before .before .before .before .before .before .before .before .cut-behind .ensures) (c .before .before .before .before .before .before .before .before .before .cut-behind .kept .1 .1 .0) (c .before .before .before .before .before .before .before .before .before .cut-behind .kept .1 .1 .1 .0) .1))
+add-at : tie.Need-add-at Inv-loop μ-loop
+add-at c = let k = c .before .before .before .before .before .before .before .before .before .before .before .before .before .before .before .before .before .before .before .loop .inv in
+    let q = c .before .before .before .before .before .before .before .before .before .before .before .before .before .before .before .before .before .end-of-line .ensures .0 in
+    omega (arith, line-within k q, k .within, k .left .ready .used, k .left .ready .small)
 
 sub-end : tie.Need-sub-end Inv-loop μ-loop
-sub-end c = omega (arith, cut-within (lent (shut (c .before .before .before .before .before .before .before .before .before .before .before .before .before .before .before .before .before .before .before .before .before .before .before .before .before .before .before .before .args .line .len) (c .before .before .before .before .before .before .before .before .before .before .before .before .before .before .before .before .before .before .before .before .before .before .before .before .before .before .before .before .args .from) (c .before .before .before .before .before .before .before .before .before .before .before .before .before .before .before .before .before .before .before .before .before .before .before .move-gap .last .0)) (now (c .before .before .before .before .before .before .before .before .before .before .before .before .before .before .before .before .before .before .before .before .before .before .before .before .before .before .before .before .args .records)) (now (c .before .before .before .before .before .before .before .before .before .before .before .before .before .before .before .before .before .before .before .before .before .before .before .before .before .before .before .before .args .texts)) (c .before .before .before .before .before .before .before .before .before .before .before .before .before .before .before .before .before .before .before .before .before .before .before .before .before .before .before .before .args .line) (c .before .before .before .before .before .before .before .before .before .before .before .before .before .before .before .before .before .before .before .before .before .before .before .before .before .before .before .before .args .log)) (c .before .before .before .before .before .before .before .before .before .before .before .before .before .before .before .before .before .before .before .before .before .before .before .before .before .before .before .before .args .m) (c .before .before .before .before .before .before .before .before .before .before .before .before .before .before .before .before .before .before .before .before .before .before .before .before .before .before .before .before .args .from) (c .before .before .before .before .before .before .before .before .before .before .before .before .before .before .before .before .before .before .before .before .before .before .before .before .before .before .before .before .args .to) (lent (shut (c .before .before .before .before .before .before .before .before .before .before .before .before .before .before .before .before .before .before .before .before .loop .line-now .len) (c .before .before .before .before .before .before .before .before .before .before .before .before .before .before .before .before .before .before .before .before .loop .at) (c .before .before .before .before .before .before .before .before .before .before .before .before .before .before .before .before .before .before .before .before .loop .text)) (c .before .before .before .before .before .before .before .before .before .before .before .before .before .before .before .before .before .before .before .before .loop .records) (c .before .before .before .before .before .before .before .before .before .before .before .before .before .before .before .before .before .before .before .before .loop .texts) (c .before .before .before .before .before .before .before .before .before .before .before .before .before .before .before .before .before .before .before .before .loop .line-now) (c .before .before .before .before .before .before .before .before .before .before .before .before .before .before .before .before .before .before .before .before .loop .log-now)) (c .before .before .before .before .before .before .before .before .before .before .before .before .before .before .before .before .before .before .before .before .loop .cursor) (c .before .before .before .before .before .before .before .before .before .before .before .before .before .before .before .before .before .before .before .before .loop .at) (c .before .before .before .before .before .before .before .before .before .before .before .before .before .before .before .before .before .before .before .before .loop .end) (c .before .before .before .before .before .before .before .before .before .before .before .before .before .before .before .before .before .before .before .before .loop .inv) (c .before .before .before .before .before .before .before .before .before .before .before .before .before .before .before .before .before .before .end-behind .result) (c .before .before .before .before .before .before .before .before .before .before .before .before .before .before .before .before .before .before .end-behind .ensures) (c .before .before .before .before .before .before .before .before .before .before .before .before .before .before .before .before .deleting-behind .result) (c .before .before .before .before .before .before .before .before .before .before .before .before .before .before .before .before .deleting-behind .ensures), line-within (lent (shut (c .before .before .before .before .before .before .before .before .before .before .before .before .before .before .before .before .before .before .before .before .before .before .before .before .before .before .before .before .args .line .len) (c .before .before .before .before .before .before .before .before .before .before .before .before .before .before .before .before .before .before .before .before .before .before .before .before .before .before .before .before .args .from) (c .before .before .before .before .before .before .before .before .before .before .before .before .before .before .before .before .before .before .before .before .before .before .before .move-gap .last .0)) (now (c .before .before .before .before .before .before .before .before .before .before .before .before .before .before .before .before .before .before .before .before .before .before .before .before .before .before .before .before .args .records)) (now (c .before .before .before .before .before .before .before .before .before .before .before .before .before .before .before .before .before .before .before .before .before .before .before .before .before .before .before .before .args .texts)) (c .before .before .before .before .before .before .before .before .before .before .before .before .before .before .before .before .before .before .before .before .before .before .before .before .before .before .before .before .args .line) (c .before .before .before .before .before .before .before .before .before .before .before .before .before .before .before .before .before .before .before .before .before .before .before .before .before .before .before .before .args .log)) (c .before .before .before .before .before .before .before .before .before .before .before .before .before .before .before .before .before .before .before .before .before .before .before .before .before .before .before .before .args .m) (c .before .before .before .before .before .before .before .before .before .before .before .before .before .before .before .before .before .before .before .before .before .before .before .before .before .before .before .before .args .from) (c .before .before .before .before .before .before .before .before .before .before .before .before .before .before .before .before .before .before .before .before .before .before .before .before .before .before .before .before .args .to) (lent (shut (c .before .before .before .before .before .before .before .before .before .before .before .before .before .before .before .before .before .before .before .before .loop .line-now .len) (c .before .before .before .before .before .before .before .before .before .before .before .before .before .before .before .before .before .before .before .before .loop .at) (c .before .before .before .before .before .before .before .before .before .before .before .before .before .before .before .before .before .before .before .before .loop .text)) (c .before .before .before .before .before .before .before .before .before .before .before .before .before .before .before .before .before .before .before .before .loop .records) (c .before .before .before .before .before .before .before .before .before .before .before .before .before .before .before .before .before .before .before .before .loop .texts) (c .before .before .before .before .before .before .before .before .before .before .before .before .before .before .before .before .before .before .before .before .loop .line-now) (c .before .before .before .before .before .before .before .before .before .before .before .before .before .before .before .before .before .before .before .before .loop .log-now)) (c .before .before .before .before .before .before .before .before .before .before .before .before .before .before .before .before .before .before .before .before .loop .cursor) (c .before .before .before .before .before .before .before .before .before .before .before .before .before .before .before .before .before .before .before .before .loop .at) (c .before .before .before .before .before .before .before .before .before .before .before .before .before .before .before .before .before .before .before .before .loop .end) (c .before .before .before .before .before .before .before .before .before .before .before .before .before .before .before .before .before .before .before .before .loop .inv) (c .before .before .before .before .before .before .before .before .before .before .before .before .before .before .before .before .before .before .end-behind .result) (c .before .before .before .before .before .before .before .before .before .before .before .before .before .before .before .before .before .before .end-behind .ensures) .1)
+sub-end c = let k = c .before .before .before .before .before .before .before .before .before .before .before .before .before .before .before .before .before .before .before .loop .inv in
+    let q = c .before .before .before .before .before .before .before .before .before .before .before .before .before .before .before .before .before .end-of-line .ensures .0 in
+    omega (arith, cut-within k q (c .before .before .before .before .before .before .before .before .before .before .before .before .before .before .deleting .ensures .0), line-within k q)
 
 loop-less : tie.Need-loop-less Inv-loop μ-loop
-loop-less c = omega (arith, cut-within (lent (shut (c .before .before .before .before .before .before .before .before .before .before .before .before .before .before .before .before .before .before .before .before .before .before .before .before .before .before .before .before .args .line .len) (c .before .before .before .before .before .before .before .before .before .before .before .before .before .before .before .before .before .before .before .before .before .before .before .before .before .before .before .before .args .from) (c .before .before .before .before .before .before .before .before .before .before .before .before .before .before .before .before .before .before .before .before .before .before .before .move-gap .last .0)) (now (c .before .before .before .before .before .before .before .before .before .before .before .before .before .before .before .before .before .before .before .before .before .before .before .before .before .before .before .before .args .records)) (now (c .before .before .before .before .before .before .before .before .before .before .before .before .before .before .before .before .before .before .before .before .before .before .before .before .before .before .before .before .args .texts)) (c .before .before .before .before .before .before .before .before .before .before .before .before .before .before .before .before .before .before .before .before .before .before .before .before .before .before .before .before .args .line) (c .before .before .before .before .before .before .before .before .before .before .before .before .before .before .before .before .before .before .before .before .before .before .before .before .before .before .before .before .args .log)) (c .before .before .before .before .before .before .before .before .before .before .before .before .before .before .before .before .before .before .before .before .before .before .before .before .before .before .before .before .args .m) (c .before .before .before .before .before .before .before .before .before .before .before .before .before .before .before .before .before .before .before .before .before .before .before .before .before .before .before .before .args .from) (c .before .before .before .before .before .before .before .before .before .before .before .before .before .before .before .before .before .before .before .before .before .before .before .before .before .before .before .before .args .to) (lent (shut (c .before .before .before .before .before .before .before .before .before .before .before .before .before .before .before .before .before .before .before .before .loop .line-now .len) (c .before .before .before .before .before .before .before .before .before .before .before .before .before .before .before .before .before .before .before .before .loop .at) (c .before .before .before .before .before .before .before .before .before .before .before .before .before .before .before .before .before .before .before .before .loop .text)) (c .before .before .before .before .before .before .before .before .before .before .before .before .before .before .before .before .before .before .before .before .loop .records) (c .before .before .before .before .before .before .before .before .before .before .before .before .before .before .before .before .before .before .before .before .loop .texts) (c .before .before .before .before .before .before .before .before .before .before .before .before .before .before .before .before .before .before .before .before .loop .line-now) (c .before .before .before .before .before .before .before .before .before .before .before .before .before .before .before .before .before .before .before .before .loop .log-now)) (c .before .before .before .before .before .before .before .before .before .before .before .before .before .before .before .before .before .before .before .before .loop .cursor) (c .before .before .before .before .before .before .before .before .before .before .before .before .before .before .before .before .before .before .before .before .loop .at) (c .before .before .before .before .before .before .before .before .before .before .before .before .before .before .before .before .before .before .before .before .loop .end) (c .before .before .before .before .before .before .before .before .before .before .before .before .before .before .before .before .before .before .before .before .loop .inv) (c .before .before .before .before .before .before .before .before .before .before .before .before .before .before .before .before .before .before .end-behind .result) (c .before .before .before .before .before .before .before .before .before .before .before .before .before .before .before .before .before .before .end-behind .ensures) (c .before .before .before .before .before .before .before .before .before .before .before .before .before .before .before .before .deleting-behind .result) (c .before .before .before .before .before .before .before .before .before .before .before .before .before .before .before .before .deleting-behind .ensures), line-within (lent (shut (c .before .before .before .before .before .before .before .before .before .before .before .before .before .before .before .before .before .before .before .before .before .before .before .before .before .before .before .before .args .line .len) (c .before .before .before .before .before .before .before .before .before .before .before .before .before .before .before .before .before .before .before .before .before .before .before .before .before .before .before .before .args .from) (c .before .before .before .before .before .before .before .before .before .before .before .before .before .before .before .before .before .before .before .before .before .before .before .move-gap .last .0)) (now (c .before .before .before .before .before .before .before .before .before .before .before .before .before .before .before .before .before .before .before .before .before .before .before .before .before .before .before .before .args .records)) (now (c .before .before .before .before .before .before .before .before .before .before .before .before .before .before .before .before .before .before .before .before .before .before .before .before .before .before .before .before .args .texts)) (c .before .before .before .before .before .before .before .before .before .before .before .before .before .before .before .before .before .before .before .before .before .before .before .before .before .before .before .before .args .line) (c .before .before .before .before .before .before .before .before .before .before .before .before .before .before .before .before .before .before .before .before .before .before .before .before .before .before .before .before .args .log)) (c .before .before .before .before .before .before .before .before .before .before .before .before .before .before .before .before .before .before .before .before .before .before .before .before .before .before .before .before .args .m) (c .before .before .before .before .before .before .before .before .before .before .before .before .before .before .before .before .before .before .before .before .before .before .before .before .before .before .before .before .args .from) (c .before .before .before .before .before .before .before .before .before .before .before .before .before .before .before .before .before .before .before .before .before .before .before .before .before .before .before .before .args .to) (lent (shut (c .before .before .before .before .before .before .before .before .before .before .before .before .before .before .before .before .before .before .before .before .loop .line-now .len) (c .before .before .before .before .before .before .before .before .before .before .before .before .before .before .before .before .before .before .before .before .loop .at) (c .before .before .before .before .before .before .before .before .before .before .before .before .before .before .before .before .before .before .before .before .loop .text)) (c .before .before .before .before .before .before .before .before .before .before .before .before .before .before .before .before .before .before .before .before .loop .records) (c .before .before .before .before .before .before .before .before .before .before .before .before .before .before .before .before .before .before .before .before .loop .texts) (c .before .before .before .before .before .before .before .before .before .before .before .before .before .before .before .before .before .before .before .before .loop .line-now) (c .before .before .before .before .before .before .before .before .before .before .before .before .before .before .before .before .before .before .before .before .loop .log-now)) (c .before .before .before .before .before .before .before .before .before .before .before .before .before .before .before .before .before .before .before .before .loop .cursor) (c .before .before .before .before .before .before .before .before .before .before .before .before .before .before .before .before .before .before .before .before .loop .at) (c .before .before .before .before .before .before .before .before .before .before .before .before .before .before .before .before .before .before .before .before .loop .end) (c .before .before .before .before .before .before .before .before .before .before .before .before .before .before .before .before .before .before .before .before .loop .inv) (c .before .before .before .before .before .before .before .before .before .before .before .before .before .before .before .before .before .before .end-behind .result) (c .before .before .before .before .before .before .before .before .before .before .before .before .before .before .before .before .before .before .end-behind .ensures) .0, line-within (lent (shut (c .before .before .before .before .before .before .before .before .before .before .before .before .before .before .before .before .before .before .before .before .before .before .before .before .before .before .before .before .args .line .len) (c .before .before .before .before .before .before .before .before .before .before .before .before .before .before .before .before .before .before .before .before .before .before .before .before .before .before .before .before .args .from) (c .before .before .before .before .before .before .before .before .before .before .before .before .before .before .before .before .before .before .before .before .before .before .before .move-gap .last .0)) (now (c .before .before .before .before .before .before .before .before .before .before .before .before .before .before .before .before .before .before .before .before .before .before .before .before .before .before .before .before .args .records)) (now (c .before .before .before .before .before .before .before .before .before .before .before .before .before .before .before .before .before .before .before .before .before .before .before .before .before .before .before .before .args .texts)) (c .before .before .before .before .before .before .before .before .before .before .before .before .before .before .before .before .before .before .before .before .before .before .before .before .before .before .before .before .args .line) (c .before .before .before .before .before .before .before .before .before .before .before .before .before .before .before .before .before .before .before .before .before .before .before .before .before .before .before .before .args .log)) (c .before .before .before .before .before .before .before .before .before .before .before .before .before .before .before .before .before .before .before .before .before .before .before .before .before .before .before .before .args .m) (c .before .before .before .before .before .before .before .before .before .before .before .before .before .before .before .before .before .before .before .before .before .before .before .before .before .before .before .before .args .from) (c .before .before .before .before .before .before .before .before .before .before .before .before .before .before .before .before .before .before .before .before .before .before .before .before .before .before .before .before .args .to) (lent (shut (c .before .before .before .before .before .before .before .before .before .before .before .before .before .before .before .before .before .before .before .before .loop .line-now .len) (c .before .before .before .before .before .before .before .before .before .before .before .before .before .before .before .before .before .before .before .before .loop .at) (c .before .before .before .before .before .before .before .before .before .before .before .before .before .before .before .before .before .before .before .before .loop .text)) (c .before .before .before .before .before .before .before .before .before .before .before .before .before .before .before .before .before .before .before .before .loop .records) (c .before .before .before .before .before .before .before .before .before .before .before .before .before .before .before .before .before .before .before .before .loop .texts) (c .before .before .before .before .before .before .before .before .before .before .before .before .before .before .before .before .before .before .before .before .loop .line-now) (c .before .before .before .before .before .before .before .before .before .before .before .before .before .before .before .before .before .before .before .before .loop .log-now)) (c .before .before .before .before .before .before .before .before .before .before .before .before .before .before .before .before .before .before .before .before .loop .cursor) (c .before .before .before .before .before .before .before .before .before .before .before .before .before .before .before .before .before .before .before .before .loop .at) (c .before .before .before .before .before .before .before .before .before .before .before .before .before .before .before .before .before .before .before .before .loop .end) (c .before .before .before .before .before .before .before .before .before .before .before .before .before .before .before .before .before .before .before .before .loop .inv) (c .before .before .before .before .before .before .before .before .before .before .before .before .before .before .before .before .before .before .end-behind .result) (c .before .before .before .before .before .before .before .before .before .before .before .before .before .before .before .before .before .before .end-behind .ensures) .1, c .before .before .before .before .if1 .left)
+loop-less c = let k = c .before .before .before .before .before .before .before .before .before .before .before .before .before .before .before .before .before .before .before .loop .inv in
+    let q = c .before .before .before .before .before .before .before .before .before .before .before .before .before .before .before .before .before .end-of-line .ensures .0 in
+    omega (arith, cut-within k q (c .before .before .before .before .before .before .before .before .before .before .before .before .before .before .deleting .ensures .0), line-within k q, c .if1 .left)
 
 loop-again : tie.Need-loop-again Inv-loop μ-loop
-loop-again c = dedent-on (lent (shut (c .before .before .before .before .before .before .before .before .before .before .before .before .before .before .before .before .before .before .before .before .before .before .before .before .before .before .before .before .args .line .len) (c .before .before .before .before .before .before .before .before .before .before .before .before .before .before .before .before .before .before .before .before .before .before .before .before .before .before .before .before .args .from) (c .before .before .before .before .before .before .before .before .before .before .before .before .before .before .before .before .before .before .before .before .before .before .before .move-gap .last .0)) (now (c .before .before .before .before .before .before .before .before .before .before .before .before .before .before .before .before .before .before .before .before .before .before .before .before .before .before .before .before .args .records)) (now (c .before .before .before .before .before .before .before .before .before .before .before .before .before .before .before .before .before .before .before .before .before .before .before .before .before .before .before .before .args .texts)) (c .before .before .before .before .before .before .before .before .before .before .before .before .before .before .before .before .before .before .before .before .before .before .before .before .before .before .before .before .args .line) (c .before .before .before .before .before .before .before .before .before .before .before .before .before .before .before .before .before .before .before .before .before .before .before .before .before .before .before .before .args .log)) (c .before .before .before .before .before .before .before .before .before .before .before .before .before .before .before .before .before .before .before .before .before .before .before .before .before .before .before .before .args .m) (c .before .before .before .before .before .before .before .before .before .before .before .before .before .before .before .before .before .before .before .before .before .before .before .before .before .before .before .before .args .from) (c .before .before .before .before .before .before .before .before .before .before .before .before .before .before .before .before .before .before .before .before .before .before .before .before .before .before .before .before .args .to) (c .before .before .before .before .before .before .before .before .before .before .before .before .before .before .before .before .before .before .before .before .loop .text) (c .before .before .before .before .before .before .before .before .before .before .before .before .before .before .before .before .before .before .before .before .loop .records) (c .before .before .before .before .before .before .before .before .before .before .before .before .before .before .before .before .before .before .before .before .loop .texts) (c .before .before .before .before .before .before .before .before .before .before .before .before .before .before .before .before .before .before .before .before .loop .line-now) (c .before .before .before .before .before .before .before .before .before .before .before .before .before .before .before .before .before .before .before .before .loop .log-now) (c .before .before .before .before .before .before .before .before .before .before .before .before .before .before .before .before .before .before .before .before .loop .cursor) (c .before .before .before .before .before .before .before .before .before .before .before .before .before .before .before .before .before .before .before .before .loop .at) (c .before .before .before .before .before .before .before .before .before .before .before .before .before .before .before .before .before .before .before .before .loop .end) (c .before .before .before .before .before .before .before .before .before .before .before .before .before .before .before .before .before .before .before .before .loop .inv) (c .before .before .before .before .before .before .before .before .before .before .before .before .before .before .before .before .before .before .end-behind .result) (c .before .before .before .before .before .before .before .before .before .before .before .before .before .before .before .before .before .before .end-behind .ensures) (c .before .before .before .before .before .before .before .before .before .before .before .before .before .before .before .before .deleting-behind .result) (c .before .before .before .before .before .before .before .before .before .before .before .before .before .before .before .before .deleting-behind .ensures) (c .before .before .before .before .before .before .before .before .before .before .before .before .cut-behind .result) (c .before .before .before .before .before .before .before .before .before .before .before .before .cut-behind .last .1 .1 .0) (c .before .before .before .before .before .before .before .before .before .before .before .before .cut-behind .last .1 .1 .1 .0) (c .before .before .before .before .before .before .before .before .before .before .before .before .cut-behind .ensures) (c .before .before .before .before .before .before .before .before .before .before .before .before .cut-behind .kept .1 .1 .0) (c .before .before .before .before .before .before .before .before .before .before .before .before .cut-behind .kept .1 .1 .1 .0) (c .before .before .move-gap3 .last .0) (c .before .before .move-gap3 .kept .0) (c .before .before .before .before .before .dedented .result) (c .before .before .before .before .before .dedented .ensures) (omega (arith, c .before .before .before .before .if1 .left, line-within (lent (shut (c .before .before .before .before .before .before .before .before .before .before .before .before .before .before .before .before .before .before .before .before .before .before .before .before .before .before .before .before .args .line .len) (c .before .before .before .before .before .before .before .before .before .before .before .before .before .before .before .before .before .before .before .before .before .before .before .before .before .before .before .before .args .from) (c .before .before .before .before .before .before .before .before .before .before .before .before .before .before .before .before .before .before .before .before .before .before .before .move-gap .last .0)) (now (c .before .before .before .before .before .before .before .before .before .before .before .before .before .before .before .before .before .before .before .before .before .before .before .before .before .before .before .before .args .records)) (now (c .before .before .before .before .before .before .before .before .before .before .before .before .before .before .before .before .before .before .before .before .before .before .before .before .before .before .before .before .args .texts)) (c .before .before .before .before .before .before .before .before .before .before .before .before .before .before .before .before .before .before .before .before .before .before .before .before .before .before .before .before .args .line) (c .before .before .before .before .before .before .before .before .before .before .before .before .before .before .before .before .before .before .before .before .before .before .before .before .before .before .before .before .args .log)) (c .before .before .before .before .before .before .before .before .before .before .before .before .before .before .before .before .before .before .before .before .before .before .before .before .before .before .before .before .args .m) (c .before .before .before .before .before .before .before .before .before .before .before .before .before .before .before .before .before .before .before .before .before .before .before .before .before .before .before .before .args .from) (c .before .before .before .before .before .before .before .before .before .before .before .before .before .before .before .before .before .before .before .before .before .before .before .before .before .before .before .before .args .to) (lent (shut (c .before .before .before .before .before .before .before .before .before .before .before .before .before .before .before .before .before .before .before .before .loop .line-now .len) (c .before .before .before .before .before .before .before .before .before .before .before .before .before .before .before .before .before .before .before .before .loop .at) (c .before .before .before .before .before .before .before .before .before .before .before .before .before .before .before .before .before .before .before .before .loop .text)) (c .before .before .before .before .before .before .before .before .before .before .before .before .before .before .before .before .before .before .before .before .loop .records) (c .before .before .before .before .before .before .before .before .before .before .before .before .before .before .before .before .before .before .before .before .loop .texts) (c .before .before .before .before .before .before .before .before .before .before .before .before .before .before .before .before .before .before .before .before .loop .line-now) (c .before .before .before .before .before .before .before .before .before .before .before .before .before .before .before .before .before .before .before .before .loop .log-now)) (c .before .before .before .before .before .before .before .before .before .before .before .before .before .before .before .before .before .before .before .before .loop .cursor) (c .before .before .before .before .before .before .before .before .before .before .before .before .before .before .before .before .before .before .before .before .loop .at) (c .before .before .before .before .before .before .before .before .before .before .before .before .before .before .before .before .before .before .before .before .loop .end) (c .before .before .before .before .before .before .before .before .before .before .before .before .before .before .before .before .before .before .before .before .loop .inv) (c .before .before .before .before .before .before .before .before .before .before .before .before .before .before .before .before .before .before .end-behind .result) (c .before .before .before .before .before .before .before .before .before .before .before .before .before .before .before .before .before .before .end-behind .ensures) .1)) (c .before .before .move-gap3 .ensures .0)
+loop-again c = let o = c .before .before .before .before .before .before .before .before .before .before .cut-out in
+    let k = c .before .before .before .before .before .before .before .before .before .before .before .before .before .before .before .before .before .before .before .loop .inv in
+    let q = c .before .before .before .before .before .before .before .before .before .before .before .before .before .before .before .before .before .end-of-line .ensures .0 in
+    dedent-goes-on k q (c .before .before .before .before .before .before .before .before .before .before .before .before .before .before .deleting .ensures .0) (o .ensures) (o .kept .1 .0) (o .kept .1 .1 .0) (o .kept .1 .1 .1 .0) (c .before .dedented .ensures) (omega (arith, line-within k q, c .if1 .left))
 
 pub dedent-lines-spec : {M : Type 1} → statement M
 dedent-lines-spec =
@@ -82,21 +105,24 @@ dedent-lines-spec =
     (tie.spec
     Inv-loop
     μ-loop
-    move-gap-requires
     loop-holds
-    end-behind-requires
-    deleting-behind-requires
-    cut-behind-requires
+    slice-reshare-prefix-end-of-line
+    slice-aggregate-end-of-line
+    end-of-line-requires
+    sub-deleting
+    part-deleting-start
+    part-deleting-end
+    deleting-requires
+    add-cut-out
+    cut-out-requires
     dedented-requires
-    move-gap-requires-2
     says-requires
     same-length
     same-length-2
     same-length-3
     returns
-    sub-next
-    add-next
-    move-gap-requires-3
+    sub-at
+    add-at
     sub-end
     loop-less
     loop-again)

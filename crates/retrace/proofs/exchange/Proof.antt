@@ -1,100 +1,100 @@
-use Rattle.retrace.proofs.Exchanges.{ends-outside, cuts, too-long, stopped, exchanged}
-use Rattle.retrace.specs.Records.{HeldIn}
-use Rattle.held.proofs.Texts.{held-length}
-use Rattle.held.specs.Held.{heldText}
-use Rattle.unicode.proofs.Text.{text-valid}
-use Rattle.unicode.specs.Repertoire.{catalogue}
-use Rattle.utf8.specs.Chars.{valid}
-use denote.Ref.{now}
-use borrow.Author.Tests.{not-true, not-false}
-use lib.ListN.{length}
-use mathlib.Core.List.{List}
-use mathlib.Core.Bool.{true}
-use mathlib.Core.Path.{_≡_, sym, _∙_}
-use Prim.Native.Nat.{ℕ, _+_}
 use native.Mathlib.Omega.{arith}
+use mathlib.Core.Path.{_≡_, sym, _∙_}
+use mathlib.Core.Bool.{true}
+use lib.ListN.{length, take}
+use lib.Seq.{length-take-le}
+use borrow.Author.Tests.{not-true, not-false}
+use denote.Ref.{now}
+use Rattle.utf8.specs.Chars.{valid}
+use Rattle.unicode.specs.Repertoire.{catalogue}
+use Rattle.unicode.proofs.Text.{text-valid}
+use Rattle.retrace.proofs.Exchanges.{ends-outside, cuts-first, cuts-last, too-long, stopped, exchanged}
 use borrow.Author.Needs.{needs}
 use Rattle.retrace.proofs.exchange.Statement.{statement}
 use Rattle.retrace.proofs.exchange.Tie as tie
 
--- the text that is held: as long as it is said to be, and UTF-8
-abbrev text : (s : tie.Start) → List ℕ
-text s = heldText (s .args .len) (s .args .held) (now (s .args .text)) (now (s .args .room))
+-- the text is as long as it is said to be, and is UTF-8
+used : (s : tie.Start) → length (take (s .args .len) (now (s .args .text))) ≡ s .args .len
+used s = length-take-le (s .args .len) (now (s .args .text)) (s .pre .0 .0)
 
-used : (s : tie.Start) → length (text s) ≡ s .args .len
-used s = held-length (s .args .len) (s .args .held) (now (s .args .text)) (now (s .args .room)) (s .pre .0)
-
-is-valid : (s : tie.Start) → valid (text s) ≡ true
-is-valid s = text-valid catalogue (text s) (s .pre .1 .1)
-
-abbrev hold : (s : tie.Start) → HeldIn
-hold s = record { held = s .args .held; text = now (s .args .text); room = now (s .args .room) }
+is-valid : (s : tie.Start) → valid (take (s .args .len) (now (s .args .text))) ≡ true
+is-valid s = text-valid catalogue (take (s .args .len) (now (s .args .text))) (s .pre .1)
 
 add-end : tie.Need-add-end
 add-end c = search needs
 
 returns : tie.Need-returns
-returns c =
-    let s = c .before .before .before .before in let a = s .args in
-    stopped (length (now (a .text))) (a .place) (a .out) (now (a .put)) (text s) 12 (hold s)
-    (ends-outside (length (now (a .text))) (a .place) (a .out) (now (a .put)) (text s) (omega (arith, c .if1 .taken, used s)))
+returns c = let s = c .before .before .before in let a = s .args in
+    stopped (length (now (a .text))) (a .place) (a .out) (now (a .put)) (take (a .len) (now (a .text))) 12 (now (a .text))
+    (ends-outside (length (now (a .text))) (a .place) (a .out) (now (a .put)) (take (a .len) (now (a .text))) (omega (arith, c .if1 .taken, used s)))
 
-are-edges-requires : tie.Need-are-edges-requires
-are-edges-requires c κs = search needs
+slice-reshare-prefix-is-boundary : tie.Need-slice-reshare-prefix-is-boundary
+slice-reshare-prefix-is-boundary c = search needs
+
+slice-aggregate-is-boundary : tie.Need-slice-aggregate-is-boundary
+slice-aggregate-is-boundary c = sym (used (c .before .before .before .before))
+
+is-boundary-requires : tie.Need-is-boundary-requires
+is-boundary-requires c κs = search needs
 
 same-length : tie.Need-same-length
 same-length c = search needs
 
+returns-2 : tie.Need-returns-2
+returns-2 c = let s = c .before .before .before .before .before .before in let a = s .args in
+    stopped (length (now (a .text))) (a .place) (a .out) (now (a .put)) (take (a .len) (now (a .text))) 12 (now (a .text))
+    (cuts-first (length (now (a .text))) (a .place) (a .out) (now (a .put)) (take (a .len) (now (a .text))) (sym (c .before .is-boundary .ensures .1 (is-valid s)) ∙ not-true _ (c .if2 .taken)))
+
+slice-reshare-prefix-is-boundary-2 : tie.Need-slice-reshare-prefix-is-boundary-2
+slice-reshare-prefix-is-boundary-2 c = search needs
+
+slice-aggregate-is-boundary-2 : tie.Need-slice-aggregate-is-boundary-2
+slice-aggregate-is-boundary-2 c = sym (used (c .before .before .before .before .before .before .before))
+
+is-boundary-requires-2 : tie.Need-is-boundary-requires-2
+is-boundary-requires-2 c κs = search needs
+
 same-length-2 : tie.Need-same-length-2
 same-length-2 c = search needs
 
-returns-2 : tie.Need-returns-2
-returns-2 c =
-    let s = c .before .before .before .before .before .before .before .before .before in let a = s .args in
-    stopped (length (now (a .text))) (a .place) (a .out) (now (a .put)) (text s) 12 (hold s)
-    (cuts (length (now (a .text))) (a .place) (a .out) (now (a .put)) (text s) (sym (c .before .before .are-edges .ensures .0 (is-valid s)) ∙ not-true _ (c .if2 .taken)))
+returns-3 : tie.Need-returns-3
+returns-3 c = let s = c .before .before .before .before .before .before .before .before .before in let a = s .args in
+    stopped (length (now (a .text))) (a .place) (a .out) (now (a .put)) (take (a .len) (now (a .text))) 12 (now (a .text))
+    (cuts-last (length (now (a .text))) (a .place) (a .out) (now (a .put)) (take (a .len) (now (a .text))) (sym (c .before .is-boundary2 .ensures .1 (is-valid s)) ∙ not-true _ (c .if3 .taken)))
 
 sub-left : tie.Need-sub-left
 sub-left c = search needs
 
-sub-if3 : tie.Need-sub-if3
-sub-if3 c = search needs
+sub-if4 : tie.Need-sub-if4
+sub-if4 c = search needs
 
 same-length-3 : tie.Need-same-length-3
 same-length-3 c = search needs
 
+returns-4 : tie.Need-returns-4
+returns-4 c = let s = c .before .before .before .before .before .before .before .before .before .before in let a = s .args in let h = c .before .before .before .before .before .before .before .if1 .left in
+    stopped (length (now (a .text))) (a .place) (a .out) (now (a .put)) (take (a .len) (now (a .text))) 9 (now (a .text))
+    (too-long (length (now (a .text))) (a .place) (a .out) (now (a .put)) (take (a .len) (now (a .text))) (omega (arith, h, used s)) (sym (c .before .before .before .before .before .is-boundary .ensures .1 (is-valid s)) ∙ not-false _ (c .before .before .before .before .if2 .left)) (sym (c .before .before .is-boundary2 .ensures .1 (is-valid s)) ∙ not-false _ (c .before .if3 .left)) (omega (arith, h, used s, c .if4 .taken)))
+
+cut-bytes-requires : tie.Need-cut-bytes-requires
+cut-bytes-requires c κs = search needs
+
+insert-bytes-requires : tie.Need-insert-bytes-requires
+insert-bytes-requires c κs = search needs
+
 same-length-4 : tie.Need-same-length-4
 same-length-4 c = search needs
 
-returns-3 : tie.Need-returns-3
-returns-3 c =
-    let s = c .before .before .before .before .before .before .before .before .before .before in let a = s .args in
-    stopped (length (now (a .text))) (a .place) (a .out) (now (a .put)) (text s) 9 (hold s)
-    (too-long (length (now (a .text))) (a .place) (a .out) (now (a .put)) (text s) (omega (arith, c .before .before .before .before .before .before .if1 .left, used s)) (sym (c .before .before .before .are-edges .ensures .0 (is-valid s)) ∙ not-false _ (c .before .if2 .left)) (omega (arith, c .before .before .before .before .before .before .if1 .left, used s, c .if3 .taken)))
-
-replace-requires : tie.Need-replace-requires
-replace-requires c κs =
-    let s = c .before .before .before .before .before .before .before .before .before .before .before .before .before in
-    (s .pre .0, (c .before .before .before .before .before .before .are-edges .ensures .1, (s .pre .1 .0 .0, c .before .before .before .before .before .before .before .before .before .if1 .left, omega (arith, c .before .before .before .if3 .left, c .before .before .before .before .before .before .before .before .before .if1 .left, s .pre .0 .used))))
-
-same-length-5 : tie.Need-same-length-5
-same-length-5 c = search needs
-
-same-length-6 : tie.Need-same-length-6
-same-length-6 c = search needs
-
-returns-4 : tie.Need-returns-4
-returns-4 c =
-    let s = c .before .before .before .before .before .before .before .before .before .before .before .before .before .before .before .before .before .before in let a = s .args in
-    let r = c .before .before .before .before .replace in
-    let h = c .before .before .before .before .before .before .before .before .before .before .before .before .before .before .if1 .left in
-    exchanged (length (now (a .text))) (a .place) (a .out) (now (a .put)) (text s) (a .len) (hold s) _ (used s)
+returns-5 : tie.Need-returns-5
+returns-5 c = let s = c .before .before .before .before .before .before .before .before .before .before .before .before .before .before .before .before .before .before in let a = s .args in let h = c .before .before .before .before .before .before .before .before .before .before .before .before .before .before .before .if1 .left in
+    exchanged (length (now (a .text))) (a .place) (a .out) (now (a .put)) (take (a .len) (now (a .text))) (a .len) (now (a .text)) (c .before .before .before .before .before .before .cut-bytes .last .0) _ (used s)
     (record {
       ends = omega (arith, h, used s);
-      edges = sym (c .before .before .before .before .before .before .before .before .before .before .before .are-edges .ensures .0 (is-valid s)) ∙ not-false _ (c .before .before .before .before .before .before .before .before .before .if2 .left);
-      room = omega (arith, h, used s, c .before .before .before .before .before .before .before .before .if3 .left, s .pre .0 .used);
+      first = sym (c .before .before .before .before .before .before .before .before .before .before .before .before .before .is-boundary .ensures .1 (is-valid s)) ∙ not-false _ (c .before .before .before .before .before .before .before .before .before .before .before .before .if2 .left);
+      last = sym (c .before .before .before .before .before .before .before .before .before .before .is-boundary2 .ensures .1 (is-valid s)) ∙ not-false _ (c .before .before .before .before .before .before .before .before .before .if3 .left);
+      room = omega (arith, h, used s, c .before .before .before .before .before .before .before .before .if4 .left, s .pre .0 .0);
     })
-    (r .ensures .1 .0) (r .ensures .0)
+    (c .before .before .before .before .before .before .cut-bytes .ensures) (c .before .before .insert-bytes .ensures)
 
 pub exchange-spec : {M : Type 1} → statement M
 exchange-spec =
@@ -102,16 +102,21 @@ exchange-spec =
     (tie.spec
     add-end
     returns
-    are-edges-requires
+    slice-reshare-prefix-is-boundary
+    slice-aggregate-is-boundary
+    is-boundary-requires
     same-length
-    same-length-2
     returns-2
-    sub-left
-    sub-if3
-    same-length-3
-    same-length-4
+    slice-reshare-prefix-is-boundary-2
+    slice-aggregate-is-boundary-2
+    is-boundary-requires-2
+    same-length-2
     returns-3
-    replace-requires
-    same-length-5
-    same-length-6
-    returns-4)
+    sub-left
+    sub-if4
+    same-length-3
+    returns-4
+    cut-bytes-requires
+    insert-bytes-requires
+    same-length-4
+    returns-5)

@@ -5,8 +5,6 @@ use mathlib.Core.Path.{refl}
 use mathlib.Core.Bool.{true}
 use denote.Ref.{now}
 use Rattle.records.specs.Formats.{asFormat}
-use Rattle.held.specs.Held.{laid}
-use Rattle.held.proofs.Texts.{laid-length}
 use Rattle.undo.specs.Steps.{lentBy}
 use Rattle.undo.proofs.Seams.{some-newest}
 use Rattle.undo.proofs.Steps.{size-within, start-whole, texts-within, stands-there, seam-there, space, record-stops, record-passes}
@@ -21,25 +19,25 @@ shared-slice-read-start c = search needs
 
 cast-start : tie.Need-cast-start
 cast-start c =
-    let s = c .before .before .before .before .before .before .before in
+    let s = c .before .before .before .before .before .before in
     let a = s .args in
     omega (arith, c .shared-slice-known4 .given (a .log .undo .records - 1))
 
 sub-start-2 : tie.Need-sub-start-2
 sub-start-2 c =
-    let s = c .before .before .before .before .before .before .before in
+    let s = c .before .before .before .before .before .before in
     let a = s .args in
     let h = s .pre .1 .0 in
-    let z = s .pre .1 .1 .1 .1 in
+    let z = s .pre .1 .1 .1 in
     let n = some-newest h (s .pre .1 .1 .0 .1) .2 in
     size-within h (now (a .sizes)) z n
 
 read-record-requires : tie.Need-read-record-requires
 read-record-requires c κs =
-    let s = c .before .before .before .before .before .before .before in
+    let s = c .before .before .before .before .before .before in
     let a = s .args in
     let h = s .pre .1 .0 in
-    let z = s .pre .1 .1 .1 .1 in
+    let z = s .pre .1 .1 .1 in
     let n = some-newest h (s .pre .1 .1 .0 .1) .2 in
     (s .pre .0, start-whole h (now (a .sizes)) z n)
 
@@ -48,48 +46,46 @@ add-first c = search needs
 
 sub-first : tie.Need-sub-first
 sub-first c =
-    let s = c .before .before .before .before .before .before .before .before .before .before in
+    let s = c .before .before .before .before .before .before .before .before .before in
     let a = s .args in
     let h = s .pre .1 .0 in
-    let z = s .pre .1 .1 .1 .1 in
+    let z = s .pre .1 .1 .1 in
     let n = some-newest h (s .pre .1 .1 .0 .1) .2 in
     let r = c .before .before .read-record in
     texts-within h (now (a .sizes)) z n (r .ensures .0)
 
 retrace-requires : tie.Need-retrace-requires
 retrace-requires c κs =
-    let s = c .before .before .before .before .before .before .before .before .before .before .before .before in
+    let s = c .before .before .before .before .before .before .before .before .before .before in
     let a = s .args in
     let h = s .pre .1 .0 in
-    let z = s .pre .1 .1 .1 .1 in
+    let z = s .pre .1 .1 .1 in
     let n = some-newest h (s .pre .1 .1 .0 .1) .2 in
-    let r = c .before .before .before .before .read-record in
-    (s .pre .1 .1 .1 .0, ((s .pre .1 .1 .0 .0, omega (arith, h .small, laid-length (a .s .len) (a .held) (now (a .text)) (now (a .room))), r .ensures .2, space (stands-there h (now (a .sizes)) z n (r .ensures .0)) (r .ensures .0), h .log .texts), h .text))
+    let r = c .before .before .before .read-record in
+    ((s .pre .1 .1 .0 .0, h .used, r .ensures .2, space (stands-there h (now (a .sizes)) z n (r .ensures .0)) (r .ensures .0), h .log .texts), h .text)
 
 same-length : tie.Need-same-length
 same-length c = search needs
 
 returns : tie.Need-returns
 returns c =
-    let s = c .before .before .before .before .before .before .before .before .before .before .before .before .before .before .before .before .before .before .before .before .before in
+    let s = c .before .before .before .before .before .before .before .before .before .before .before .before .before .before .before in
     let a = s .args in
     let h = s .pre .1 .0 in
-    let z = s .pre .1 .1 .1 .1 in
-    let l = lentBy (now (a .text)) (now (a .room)) (a .held) (now (a .records)) (now (a .texts)) (a .s) (a .log) in
-    let r = c .before .before .before .before .before .before .before .before .before .before .before .before .before .read-record in
-    let q = c .before .before .before .before .before .before .before .before .retrace in (
-      (λ x u e. record-stops (asFormat (a .f)) l true x u (stands-there h (now (a .sizes)) z e (r .ensures .0)) (r .ensures .0) (a .s) (q .result .step) (laid (q .result .step .len) (q .result .held) (q .last .0) (q .last .1 .0)) (q .ensures .0) refl (c .if1 .taken)),
-      (q .ensures .1 .0, (λ i. let w = q .ensures .1 .1 i in (w .0, w .1, w .2, refl))),
-    )
+    let z = s .pre .1 .1 .1 in
+    let l = lentBy (now (a .text)) (now (a .records)) (now (a .texts)) (a .s) (a .log) in
+    let r = c .before .before .before .before .before .before .before .before .read-record in
+    let q = c .before .before .before .before .retrace in
+    λ x u e. record-stops (asFormat (a .f)) l true x u (stands-there h (now (a .sizes)) z e (r .ensures .0)) (r .ensures .0) (a .s) (q .result) (q .last .0) (q .ensures) refl (c .if1 .taken)
 
 move-seam-requires : tie.Need-move-seam-requires
 move-seam-requires c κs =
-    let s = c .before .before .before .before .before .before .before .before .before .before .before .before .before .before .before .before .before .before .before .before .before in
+    let s = c .before .before .before .before .before .before .before .before .before .before .before .before .before .before .before in
     let a = s .args in
     let h = s .pre .1 .0 in
-    let z = s .pre .1 .1 .1 .1 in
+    let z = s .pre .1 .1 .1 in
     let n = some-newest h (s .pre .1 .1 .0 .1) .2 in
-    let r = c .before .before .before .before .before .before .before .before .before .before .before .before .before .read-record in
+    let r = c .before .before .before .before .before .before .before .before .read-record in
     let m = seam-there h (now (a .sizes)) z n (r .ensures .0) in
     ((m .within, omega (arith, h .log .hold .room, h .log .records)), (m .texts, omega (arith, h .log .hold .space, h .log .texts)))
 
@@ -98,23 +94,15 @@ same-length-2 c = search needs
 
 returns-2 : tie.Need-returns-2
 returns-2 c =
-    let s = c .before .before .before .before .before .before .before .before .before .before .before .before .before .before .before .before .before .before .before .before .before .before in
+    let s = c .before .before .before .before .before .before .before .before .before .before .before .before .before .before .before .before in
     let a = s .args in
     let h = s .pre .1 .0 in
-    let z = s .pre .1 .1 .1 .1 in
-    let l = lentBy (now (a .text)) (now (a .room)) (a .held) (now (a .records)) (now (a .texts)) (a .s) (a .log) in
-    let r = c .before .before .before .before .before .before .before .before .before .before .before .before .before .before .read-record in
-    let q = c .before .before .before .before .before .before .before .before .before .retrace in (
-      (λ x u e. record-passes (asFormat (a .f)) l true x u (stands-there h (now (a .sizes)) z e (r .ensures .0)) (r .ensures .0) (a .s) (q .result .step) (laid (q .result .step .len) (q .result .held) (q .last .0) (q .last .1 .0)) (q .ensures .0)
-          (seam-there h (now (a .sizes)) z e (r .ensures .0)) (c .before .if1 .left) (c .move-seam .ensures)),
-      (q .ensures .1 .0, (λ i. absurd (i (c .before .if1 .left)))),
-    )
-
-same-length-3 : tie.Need-same-length-3
-same-length-3 c = search needs
-
-same-length-4 : tie.Need-same-length-4
-same-length-4 c = search needs
+    let z = s .pre .1 .1 .1 in
+    let l = lentBy (now (a .text)) (now (a .records)) (now (a .texts)) (a .s) (a .log) in
+    let r = c .before .before .before .before .before .before .before .before .before .read-record in
+    let q = c .before .before .before .before .before .retrace in
+    λ x u e. record-passes (asFormat (a .f)) l true x u (stands-there h (now (a .sizes)) z e (r .ensures .0)) (r .ensures .0) (a .s) (q .result) (q .last .0) (q .ensures)
+    (seam-there h (now (a .sizes)) z e (r .ensures .0)) (c .before .if1 .left) (c .move-seam .ensures)
 
 pub undo-record-spec : {M : Type 1} → statement M
 undo-record-spec =
@@ -129,9 +117,7 @@ undo-record-spec =
     sub-first
     retrace-requires
     same-length
-    same-length-2
     returns
     move-seam-requires
-    same-length-3
-    same-length-4
+    same-length-2
     returns-2)

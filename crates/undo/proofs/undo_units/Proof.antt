@@ -32,12 +32,12 @@ slice-aggregate-undo-noted c = search needs
 
 undo-noted-requires : tie.Need-undo-noted-requires
 undo-noted-requires c κs =
-    let s = c .before .before .before .before .before .before .before .before .before .before .before .before in
+    let s = c .before .before .before .before .before .before .before .before .before .before .before in
     let a = s .args in
     let h = s .pre .1 in
     let l = lent (now (a .text)) (now (a .records)) (now (a .texts)) (a .line) (a .log) in
-    let n = c .before .before .before .before .note-sizes in
-    (s .pre .0, (h, (omega (arith, n .kept .1 .1 .0, c .before .before .before .before .before .before .before .if1 .taken), n .ensures _ _ (lays (asFormat (a .f)) (logLent l) (h .log)) .1)))
+    let n = c .before .before .before .note-sizes in
+    (s .pre .0, (h, (omega (arith, n .kept .1 .1 .0, c .before .before .before .before .before .before .if1 .taken), n .ensures _ _ (lays (asFormat (a .f)) (logLent l) (h .log)) .1)))
 
 same-length : tie.Need-same-length
 same-length c = search needs
@@ -68,11 +68,11 @@ slice-aggregate-undo-noted-2 c = search needs
 
 undo-noted-requires-2 : tie.Need-undo-noted-requires-2
 undo-noted-requires-2 c κs =
-    let s = c .before .before .before .before .before .before .before .before .before .before .before .before in
+    let s = c .before .before .before .before .before .before .before .before .before .before .before in
     let a = s .args in
     let h = s .pre .1 in
     let l = lent (now (a .text)) (now (a .records)) (now (a .texts)) (a .line) (a .log) in
-    let n = c .before .before .before .before .note-sizes2 in
+    let n = c .before .before .before .note-sizes2 in
     (s .pre .0, (h, (omega (arith, n .kept .1 .1 .0, h .log .hold .room, h .log .records), n .ensures _ _ (lays (asFormat (a .f)) (logLent l) (h .log)) .1)))
 
 same-length-2 : tie.Need-same-length-2
@@ -80,12 +80,6 @@ same-length-2 c = search needs
 
 returns-2 : tie.Need-returns-2
 returns-2 c = search needs
-
-slice-aggregate-undo-noted-3 : tie.Need-slice-aggregate-undo-noted-3
-slice-aggregate-undo-noted-3 c = search needs
-
-slice-aggregate-undo-noted-4 : tie.Need-slice-aggregate-undo-noted-4
-slice-aggregate-undo-noted-4 c = search needs
 
 pub undo-units-spec : {M : Type 1} → statement M
 undo-units-spec =
@@ -95,15 +89,13 @@ undo-units-spec =
     slice-aggregate-note-sizes-2
     note-sizes-requires
     slice-aggregate-undo-noted
-    slice-aggregate-undo-noted-2
     undo-noted-requires
     same-length
     returns
     slice-aggregate-note-sizes-3
     slice-aggregate-note-sizes-4
     note-sizes-requires-2
-    slice-aggregate-undo-noted-3
-    slice-aggregate-undo-noted-4
+    slice-aggregate-undo-noted-2
     undo-noted-requires-2
     same-length-2
     returns-2)
