@@ -3,13 +3,9 @@ ghost use mathlib.Core.Bool.{not};
 ghost use lib.Dec.{eqb};
 ghost use Rattle.unicode.specs.Repertoire.{catalogue};
 ghost use Rattle.journal.specs.Layout.{narrow};
-ghost use Rattle.edit.specs.Calls as edits;
-ghost use Rattle.ranges.specs.Ranges as ranges;
-ghost use Rattle.inserts.specs.Inserts as inserts;
-ghost use Rattle.transpose_chars.specs.TransposeChars.{transposeCharsCall};
-ghost use Rattle.edit_word.specs.EditWord.{editWordCall};
-ghost use Rattle.transpose_words.specs.TransposeWords.{transposeWordsCall};
-ghost use Rattle.indents.specs.Indents as indents;
+ghost use Rattle.edit.specs.Calls.{lent};
+ghost use Rattle.calls.specs.Contracts.{Meets, buffers};
+ghost use Rattle.calls.specs.Calls.{codes, deleteRange, replace, update, insert, yank, yankPop, transposeChars, editWord, transposeWords, indent, edit};
 use changeset::Log;
 use checks::Line;
 use edit::EditAnswer;
@@ -24,9 +20,8 @@ pub extern "C" fn tlf_line_delete_range(
     start: usize,
     end: usize,
 ) -> EditAnswer
-    ensures { λ r. ⌜ edits.Edited narrow (edits.lent (now (text .entry)) (now (records .entry)) (now (texts .entry)) line log)
-        (ranges.deleteRangeCall catalogue narrow (edits.lent (now (text .entry)) (now (records .entry)) (now (texts .entry)) line log) start end)
-        r (now (text .exit)) (now (records .exit)) (now (texts .exit)) ⌝ }
+    ensures { λ r. ⌜ Meets catalogue narrow (edit (deleteRange start end)) (lent (now (text .entry)) (now (records .entry)) (now (texts .entry)) line log)
+        r (buffers (now (text .exit)) (now (records .exit)) (now (texts .exit))) ⌝ }
 {
     ranges::delete_range(text, records, texts, line, log, start, end)
 }
@@ -42,9 +37,8 @@ pub extern "C" fn tlf_line_replace(
     end: usize,
     buf: &[u8],
 ) -> EditAnswer
-    ensures { λ r. ⌜ edits.Edited narrow (edits.lent (now (text .entry)) (now (records .entry)) (now (texts .entry)) line log)
-        (ranges.replaceCall catalogue narrow (edits.lent (now (text .entry)) (now (records .entry)) (now (texts .entry)) line log) start end (now (buf .entry)))
-        r (now (text .exit)) (now (records .exit)) (now (texts .exit)) ⌝ }
+    ensures { λ r. ⌜ Meets catalogue narrow (edit (replace start end (now (buf .entry)))) (lent (now (text .entry)) (now (records .entry)) (now (texts .entry)) line log)
+        r (buffers (now (text .exit)) (now (records .exit)) (now (texts .exit))) ⌝ }
 {
     ranges::replace(text, records, texts, line, log, start, end, buf)
 }
@@ -59,9 +53,8 @@ pub extern "C" fn tlf_line_update(
     buf: &[u8],
     pos: usize,
 ) -> EditAnswer
-    ensures { λ r. ⌜ edits.Edited narrow (edits.lent (now (text .entry)) (now (records .entry)) (now (texts .entry)) line log)
-        (inserts.updateCall catalogue narrow (edits.lent (now (text .entry)) (now (records .entry)) (now (texts .entry)) line log) (now (buf .entry)) pos)
-        r (now (text .exit)) (now (records .exit)) (now (texts .exit)) ⌝ }
+    ensures { λ r. ⌜ Meets catalogue narrow (edit (update (now (buf .entry)) pos)) (lent (now (text .entry)) (now (records .entry)) (now (texts .entry)) line log)
+        r (buffers (now (text .exit)) (now (records .exit)) (now (texts .exit))) ⌝ }
 {
     inserts::update(text, records, texts, line, log, buf, pos)
 }
@@ -76,9 +69,8 @@ pub extern "C" fn tlf_line_insert(
     ch: u32,
     n: u16,
 ) -> EditAnswer
-    ensures { λ r. ⌜ edits.Edited narrow (edits.lent (now (text .entry)) (now (records .entry)) (now (texts .entry)) line log)
-        (inserts.insertCall catalogue narrow (edits.lent (now (text .entry)) (now (records .entry)) (now (texts .entry)) line log) ch n)
-        r (now (text .exit)) (now (records .exit)) (now (texts .exit)) ⌝ }
+    ensures { λ r. ⌜ Meets catalogue narrow (edit (insert ch n)) (lent (now (text .entry)) (now (records .entry)) (now (texts .entry)) line log)
+        r (buffers (now (text .exit)) (now (records .exit)) (now (texts .exit))) ⌝ }
 {
     inserts::insert(text, records, texts, line, log, ch, n)
 }
@@ -93,9 +85,8 @@ pub extern "C" fn tlf_line_yank(
     buf: &[u8],
     n: u16,
 ) -> EditAnswer
-    ensures { λ r. ⌜ edits.Edited narrow (edits.lent (now (text .entry)) (now (records .entry)) (now (texts .entry)) line log)
-        (inserts.yankCall catalogue narrow (edits.lent (now (text .entry)) (now (records .entry)) (now (texts .entry)) line log) (now (buf .entry)) n)
-        r (now (text .exit)) (now (records .exit)) (now (texts .exit)) ⌝ }
+    ensures { λ r. ⌜ Meets catalogue narrow (edit (yank (now (buf .entry)) n)) (lent (now (text .entry)) (now (records .entry)) (now (texts .entry)) line log)
+        r (buffers (now (text .exit)) (now (records .exit)) (now (texts .exit))) ⌝ }
 {
     inserts::yank(text, records, texts, line, log, buf, n)
 }
@@ -110,9 +101,8 @@ pub extern "C" fn tlf_line_yank_pop(
     yank_size: usize,
     buf: &[u8],
 ) -> EditAnswer
-    ensures { λ r. ⌜ edits.Edited narrow (edits.lent (now (text .entry)) (now (records .entry)) (now (texts .entry)) line log)
-        (inserts.yankPopCall catalogue narrow (edits.lent (now (text .entry)) (now (records .entry)) (now (texts .entry)) line log) «yank_size» (now (buf .entry)))
-        r (now (text .exit)) (now (records .exit)) (now (texts .exit)) ⌝ }
+    ensures { λ r. ⌜ Meets catalogue narrow (edit (yankPop «yank_size» (now (buf .entry)))) (lent (now (text .entry)) (now (records .entry)) (now (texts .entry)) line log)
+        r (buffers (now (text .exit)) (now (records .exit)) (now (texts .exit))) ⌝ }
 {
     inserts::yank_pop(text, records, texts, line, log, yank_size, buf)
 }
@@ -125,9 +115,8 @@ pub extern "C" fn tlf_line_transpose_chars(
     line: Line,
     log: Log,
 ) -> EditAnswer
-    ensures { λ r. ⌜ edits.Edited narrow (edits.lent (now (text .entry)) (now (records .entry)) (now (texts .entry)) line log)
-        (transposeCharsCall catalogue narrow (edits.lent (now (text .entry)) (now (records .entry)) (now (texts .entry)) line log))
-        r (now (text .exit)) (now (records .exit)) (now (texts .exit)) ⌝ }
+    ensures { λ r. ⌜ Meets catalogue narrow (edit transposeChars) (lent (now (text .entry)) (now (records .entry)) (now (texts .entry)) line log)
+        r (buffers (now (text .exit)) (now (records .exit)) (now (texts .exit))) ⌝ }
 {
     transpose_chars::transpose_chars(text, records, texts, line, log)
 }
@@ -141,9 +130,8 @@ pub extern "C" fn tlf_line_edit_word(
     log: Log,
     action: u32,
 ) -> EditAnswer
-    ensures { λ r. ⌜ edits.Edited narrow (edits.lent (now (text .entry)) (now (records .entry)) (now (texts .entry)) line log)
-        (editWordCall catalogue narrow (edits.lent (now (text .entry)) (now (records .entry)) (now (texts .entry)) line log) action)
-        r (now (text .exit)) (now (records .exit)) (now (texts .exit)) ⌝ }
+    ensures { λ r. ⌜ Meets catalogue narrow (edit (editWord action)) (lent (now (text .entry)) (now (records .entry)) (now (texts .entry)) line log)
+        r (buffers (now (text .exit)) (now (records .exit)) (now (texts .exit))) ⌝ }
 {
     edit_word::edit_word(text, records, texts, line, log, action)
 }
@@ -157,9 +145,8 @@ pub extern "C" fn tlf_line_transpose_words(
     log: Log,
     n: u16,
 ) -> EditAnswer
-    ensures { λ r. ⌜ edits.Edited narrow (edits.lent (now (text .entry)) (now (records .entry)) (now (texts .entry)) line log)
-        (transposeWordsCall catalogue narrow (edits.lent (now (text .entry)) (now (records .entry)) (now (texts .entry)) line log) n)
-        r (now (text .exit)) (now (records .exit)) (now (texts .exit)) ⌝ }
+    ensures { λ r. ⌜ Meets catalogue narrow (edit (transposeWords n)) (lent (now (text .entry)) (now (records .entry)) (now (texts .entry)) line log)
+        r (buffers (now (text .exit)) (now (records .exit)) (now (texts .exit))) ⌝ }
 {
     transpose_words::transpose_words(text, records, texts, line, log, n)
 }
@@ -181,9 +168,8 @@ pub extern "C" fn tlf_line_indent(
     amount: u8,
     dedent: u8,
 ) -> EditAnswer
-    ensures { λ r. ⌜ edits.Edited narrow (edits.lent (now (text .entry)) (now (records .entry)) (now (texts .entry)) line log)
-        (indents.indentCall catalogue narrow (edits.lent (now (text .entry)) (now (records .entry)) (now (texts .entry)) line log) amount (not (eqb dedent 0)) mvt n at word search ch)
-        r (now (text .exit)) (now (records .exit)) (now (texts .exit)) ⌝ }
+    ensures { λ r. ⌜ Meets catalogue narrow (edit (indent (codes mvt n at word search ch) amount (not (eqb dedent 0)))) (lent (now (text .entry)) (now (records .entry)) (now (texts .entry)) line log)
+        r (buffers (now (text .exit)) (now (records .exit)) (now (texts .exit))) ⌝ }
 {
     indents::indent(
         text,

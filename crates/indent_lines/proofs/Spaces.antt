@@ -38,22 +38,24 @@ take-spaces (suc n) zero h = absurd (omega arith)
 take-spaces (suc n) (suc k) h = ap (λ (l : List ℕ). 0x20 ∷ l) (take-spaces n k (omega arith))
 
 -- ---- a line's pieces
-enough : (k at m : ℕ) → m ≤ 32 * k → indentPieces k at m ≡ indentPieces (suc k) at m
+-- as many as are enough
+enough : (k j at m : ℕ) → m ≤ 32 * k → m ≤ 32 * j → indentPieces k at m ≡ indentPieces j at m
 unfolding indentPieces
-enough zero at m h = rw (eq-eqb m 0 (omega arith))
-enough (suc k) at m h = by-test _ (eqb m 0) (λ z. rw z) (λ z. rw z (ap (λ (l : List Piece). pasted at (spaces (pieceOf m)) ∷ l) (enough k at (m - 32) (omega arith))))
+enough zero zero at m h g = refl
+enough zero (suc j) at m h g = rw (eq-eqb m 0 (omega arith))
+enough (suc k) zero at m h g = rw (eq-eqb m 0 (omega arith))
+enough (suc k) (suc j) at m h g = by-test _ (eqb m 0) (λ z. rw z) (λ z. rw z (ap (λ (l : List Piece). pasted at (spaces (pieceOf m)) ∷ l) (enough k j at (m - 32) (omega arith) (omega arith))))
 
-opened : (at m : ℕ) → (m ≡ 0 → ⊥) → indentPieces 8 at m ≡ pasted at (spaces (pieceOf m)) ∷ indentPieces 7 at (m - 32)
+first-piece : (at m : ℕ) → 0 < m → indentPieces m at m ≡ pasted at (spaces (pieceOf m)) ∷ indentPieces (m - 32) at (m - 32)
 unfolding indentPieces
-opened at m h = rw (ne-eqb m 0 h)
-
-first-piece : (at m : ℕ) → 0 < m → m ≤ 256 → indentPieces 8 at m ≡ pasted at (spaces (pieceOf m)) ∷ indentPieces 8 at (m - 32)
-first-piece at m h k = opened at m (λ e. omega arith) ∙ ap (λ (l : List Piece). pasted at (spaces (pieceOf m)) ∷ l) (enough 7 at (m - 32) (omega arith))
+first-piece at zero h = absurd (omega arith)
+first-piece at (suc m) h =
+    rw (ne-eqb (suc m) 0 (λ e. omega arith)) (ap (λ (l : List Piece). pasted at (spaces (pieceOf (suc m))) ∷ l) (enough m (suc m - 32) at (suc m - 32) (omega arith) (omega arith)))
 
 -- ---- the first line with so many spaces left to put in, and the lines behind it
 abbrev pub pending : ℕ → ℕ → ℕ → List (List ℕ) → List Piece
 pending m left at [] = []
-pending m left at (x ∷ xs) = indentPieces 8 at left ++ indentLines m (at + m + length x + 1) xs
+pending m left at (x ∷ xs) = indentPieces left at left ++ indentLines m (at + m + length x + 1) xs
 
 -- the cursor from there on
 abbrev pub pendingCursor : ℕ → ℕ → List (List ℕ) → ℕ → ℕ
@@ -74,16 +76,16 @@ module _ (m : ℕ) where
   pending-moved at [] pos h = absurd (omega arith)
   pending-moved at (x ∷ xs) pos h = refl
 
-  pending-put : (left at : ℕ) (xs : List (List ℕ)) → 0 < left → left ≤ 256 → 0 < length xs → pending m left at xs ≡ pasted at (spaces (pieceOf left)) ∷ pending m (left - pieceOf left) at xs
-  pending-put left at [] h k s = absurd (omega arith)
-  pending-put left at (x ∷ xs) h k s =
+  pending-put : (left at : ℕ) (xs : List (List ℕ)) → 0 < left → 0 < length xs → pending m left at xs ≡ pasted at (spaces (pieceOf left)) ∷ pending m (left - pieceOf left) at xs
+  pending-put left at [] h s = absurd (omega arith)
+  pending-put left at (x ∷ xs) h s =
       let w = piece-in left (λ e. omega arith) in
       let z : left - 32 ≡ left - pieceOf left = omega (arith, w .2) in
-      ap (λ (l : List Piece). l ++ indentLines m (at + m + length x + 1) xs) (first-piece at left h k ∙ ap (λ (n : ℕ). pasted at (spaces (pieceOf left)) ∷ indentPieces 8 at n) z)
+      ap (λ (l : List Piece). l ++ indentLines m (at + m + length x + 1) xs) (first-piece at left h ∙ ap (λ (n : ℕ). pasted at (spaces (pieceOf left)) ∷ indentPieces n at n) z)
 
   pending-none : (left at : ℕ) (x : List ℕ) (xs : List (List ℕ)) → left ≡ 0 → pending m left at (x ∷ xs) ≡ indentLines m (at + m + length x + 1) xs
   unfolding indentPieces
-  pending-none left at x xs e = rw (eq-eqb left 0 e)
+  pending-none left at x xs e = ap (λ (n : ℕ). indentPieces n at left ++ indentLines m (at + m + length x + 1) xs) e
 
 -- ---- n spaces further on
 further : (at m left n end : ℕ) → left ≤ m → n ≤ left → at + (m - left) ≤ end → at + (m - (left - n)) ≤ end + n
@@ -189,7 +191,7 @@ module _ {l₀ : Lent} {m from to : ℕ} {l : Lent} {cursor at end left : ℕ} (
     piece = let w = piece-in left (λ e. omega arith) in omega (arith, w .2)
 
     first : (at′ : ℕ) → pending m left at (split (part t at′ end)) ≡ pasted at (spaces (pieceOf left)) ∷ pending m (left - pieceOf left) at (split (part t at′ end))
-    first at′ = let b = k .bound in let s = k .small in pending-put m left at (split (part t at′ end)) some (omega arith) (split-some (part t at′ end))
+    first at′ = pending-put m left at (split (part t at′ end)) some (split-some (part t at′ end))
 
     as-left : (ys : List Piece) → pending m left at (split (part t (at + (m - left)) end)) ≡ pasted at (spaces (pieceOf left)) ∷ ys → Left narrow l₀ (linesPlan l₀ m from to) (pasted at (spaces (pieceOf left)) ∷ ys) l
     as-left ys z = subst (λ (xs : List Piece). Left narrow l₀ (linesPlan l₀ m from to) xs l) z (k .rest)

@@ -132,25 +132,25 @@ pieces-count (suc k) at m h =
 one-more : (n k : ℕ) → k + n * k ≡ suc n * k
 one-more n k = omega arith
 
-module _ (m : ℕ) (small : m ≤ 256) where
+module _ (m : ℕ) where
   pub lines-pasting : (xs : List (List ℕ)) (at : ℕ) → Pasting (indentLines m at xs)
   unfolding indentLines
   lines-pasting [] at = tt
-  lines-pasting (x ∷ xs) at = pasting-append (indentLine at m) (indentLines m (at + m + length x + 1) xs) (pieces-pasting 8 at m) (lines-pasting xs (at + m + length x + 1))
+  lines-pasting (x ∷ xs) at = pasting-append (indentLine at m) (indentLines m (at + m + length x + 1) xs) (pieces-pasting m at m) (lines-pasting xs (at + m + length x + 1))
 
   pub lines-total : (xs : List (List ℕ)) (at : ℕ) → total (indentLines m at xs) ≡ length xs * m
   unfolding indentLines
   lines-total [] at = omega arith
   lines-total (x ∷ xs) at =
       let r = lines-total xs (at + m + length x + 1) in
-      total-append (indentLine at m) (indentLines m (at + m + length x + 1) xs) ∙ ap₂ (λ (i j : ℕ). i + j) (pieces-total 8 at m small) r ∙ one-more (length xs) m
+      total-append (indentLine at m) (indentLines m (at + m + length x + 1) xs) ∙ ap₂ (λ (i j : ℕ). i + j) (pieces-total m at m (omega arith)) r ∙ one-more (length xs) m
 
   pub lines-count : (xs : List (List ℕ)) (at : ℕ) → length (indentLines m at xs) ≡ length xs * ((m + 31) / 32)
   unfolding indentLines
   lines-count [] at = omega arith
   lines-count (x ∷ xs) at =
       let r = lines-count xs (at + m + length x + 1) in
-      length-append (indentLine at m) (indentLines m (at + m + length x + 1) xs) ∙ ap₂ (λ (i j : ℕ). i + j) (pieces-count 8 at m small) r ∙ one-more (length xs) ((m + 31) / 32)
+      length-append (indentLine at m) (indentLines m (at + m + length x + 1) xs) ∙ ap₂ (λ (i j : ℕ). i + j) (pieces-count m at m (omega arith)) r ∙ one-more (length xs) ((m + 31) / 32)
 
 -- ---- dedenting
 -- a cut of white space is never merged

@@ -78,20 +78,20 @@ module _ (R : Repertoire) where
       (pieces-cursor k at (m - 32) (splice t at at (spaces (pieceOf m))) (indented at (pieceOf m) pos) ys (omega arith) (w .1) (put-place t at (pieceOf m) pos (w .0 .0) j) C
       (λ u x y. g u x (subst (At u) (more-indented at m pos n) y))))
 
-  module _ (m : ℕ) (small : m ≤ 256) where
+  module _ (m : ℕ) where
     pub indent-cursor : (xs : List (List ℕ)) (at : ℕ) (t : List ℕ) (pos : ℕ) → AllSuit R (indentLines m at xs) t → At t pos → At (textAfter (indentLines m at xs) t) (indentCursor m at xs pos)
     unfolding indentLines indentCursor
     indent-cursor [] at t pos s j = none-after t pos j
     indent-cursor (x ∷ xs) at t pos s j =
-        pieces-cursor 8 at m t pos (indentLines m (at + m + length x + 1) xs) small s j (λ u. At u (indentCursor m (at + m + length x + 1) xs (indented at m pos)))
+        pieces-cursor m at m t pos (indentLines m (at + m + length x + 1) xs) (omega arith) s j (λ u. At u (indentCursor m (at + m + length x + 1) xs (indented at m pos)))
         (λ u y z. indent-cursor xs (at + m + length x + 1) u (indented at m pos) y z)
 
 -- ---- the call's plan
-module _ (R : Repertoire) (mem : R .member 0x20 ≡ true) (m : ℕ) (small : m ≤ 256) (t : List ℕ) (pos : ℕ) (v : isText R t ≡ true) (k : boundary t pos ≡ true) (h : pos ≤ length t) (mvt : Movement) where
+module _ (R : Repertoire) (mem : R .member 0x20 ≡ true) (m : ℕ) (t : List ℕ) (pos : ℕ) (v : isText R t ≡ true) (k : boundary t pos ≡ true) (h : pos ≤ length t) (mvt : Movement) where
   abbrev lines : List (List ℕ)
   lines = linesIn t (touched R t pos mvt)
 
   pub plan-cursor : (dedent : Bool) → (dedent ≡ true → splits R m lines ≡ false)
       → At (textAfter (indentPlan R m dedent pos (touched R t pos mvt .start) lines .pieces) t) (indentPlan R m dedent pos (touched R t pos mvt .start) lines .cursor)
-  plan-cursor true s = dedent-cursor R m lines (touched R t pos mvt .start) t pos (indent-suits R mem m small t pos v k h mvt true s) (omega arith, h, k, k)
-  plan-cursor false s = indent-cursor R m small lines (touched R t pos mvt .start) t pos (indent-suits R mem m small t pos v k h mvt false s) (omega arith, h, k, k)
+  plan-cursor true s = dedent-cursor R m lines (touched R t pos mvt .start) t pos (indent-suits R mem m t pos v k h mvt true s) (omega arith, h, k, k)
+  plan-cursor false s = indent-cursor R m lines (touched R t pos mvt .start) t pos (indent-suits R mem m t pos v k h mvt false s) (omega arith, h, k, k)

@@ -114,7 +114,7 @@ module _ (l : Lent) (h : Ready narrow l) where
     -- ---- indenting
     module _ (small : m ≤ 256) where
       pub indent-suit : AllSuit catalogue (indentLines m from lines) (textOf l)
-      indent-suit = indent-all (textOf l) from to v i catalogue m space-member small
+      indent-suit = indent-all (textOf l) from to v i catalogue m space-member
 
       module _ (k : ℕ) (e : k ≡ length (split (take (to - from) (drop from (l .text))))) where
         e′ : k ≡ length lines
@@ -128,8 +128,8 @@ module _ (l : Lent) (h : Ready narrow l) where
 
         long-sum : tooLong (length (l .text)) (indentLines m from lines) (textOf l) ≡ ltb (length (l .text)) (l .line .len + k * m)
         long-sum =
-            long-is (length (l .text)) (indentLines m from lines) (textOf l) (lines-pasting m small lines from) (omega (arith, length-kept narrow l h, h .used))
-            ∙ ap₂ (λ (x y : ℕ). ltb (length (l .text)) (x + y)) (length-kept narrow l h) (lines-total m small lines from ∙ ap (λ (x : ℕ). x * m) (sym e′))
+            long-is (length (l .text)) (indentLines m from lines) (textOf l) (lines-pasting m lines from) (omega (arith, length-kept narrow l h, h .used))
+            ∙ ap₂ (λ (x y : ℕ). ltb (length (l .text)) (x + y)) (length-kept narrow l h) (lines-total m lines from ∙ ap (λ (x : ℕ). x * m) (sym e′))
 
         pub indent-long : length (l .text) - l .line .len < k * m → tooLong (length (l .text)) (indentLines m from lines) (textOf l) ≡ true
         indent-long c = long-sum ∙ lt-ltb (length (l .text)) (l .line .len + k * m) (omega (arith, h .used))
@@ -140,7 +140,7 @@ module _ (l : Lent) (h : Ready narrow l) where
 
           pub indent-room : fits narrow (sizesOf l) (listAfter catalogue (indentLines m from lines) (textOf l) u) ≡ (leb (l .log .undo .records + 5 * (k * ((m + 31) / 32))) (length (l .records)) && leb (l .log .undo .texts + k * m) (length (l .texts)))
           indent-room =
-              let r = puts-records catalogue (indentLines m from lines) (textOf l) u (lines-pasting m small lines from) in
+              let r = puts-records catalogue (indentLines m from lines) (textOf l) u (lines-pasting m lines from) in
               room-by (indentLines m from lines) (k * ((m + 31) / 32)) (k * m) indent-suit indent-fits-text
-              (r .0 ∙ ap (λ (z : ℕ). length (undoRecords narrow u) + 5 * z) (lines-count m small lines from ∙ ap (λ (x : ℕ). x * ((m + 31) / 32)) (sym e′)))
-              (r .1 ∙ ap (λ (z : ℕ). length (undoTexts u) + z) (lines-total m small lines from ∙ ap (λ (x : ℕ). x * m) (sym e′)))
+              (r .0 ∙ ap (λ (z : ℕ). length (undoRecords narrow u) + 5 * z) (lines-count m lines from ∙ ap (λ (x : ℕ). x * ((m + 31) / 32)) (sym e′)))
+              (r .1 ∙ ap (λ (z : ℕ). length (undoTexts u) + z) (lines-total m lines from ∙ ap (λ (x : ℕ). x * m) (sym e′)))

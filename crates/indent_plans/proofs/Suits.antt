@@ -134,12 +134,12 @@ module _ (R : Repertoire) (mem : R .member 0x20 ≡ true) where
             (subst (λ (l : List ℕ). AllSuit R ys (a ++ l)) (sym (spaces-more m c n)) g),
       ))
 
-  module _ (m : ℕ) (b : List ℕ) (small : m ≤ 256) where
+  module _ (m : ℕ) (b : List ℕ) where
     indents : (xs : List (List ℕ)) (x a t : List ℕ) (at : ℕ) → valid a ≡ true → valid x ≡ true → Every Valid xs → t ≡ a ++ (x ++ (behind xs ++ b)) → at ≡ length a → AllSuit R (indentLines m at (x ∷ xs)) t
     unfolding indentLines AllSuit
-    indents [] x a t at v w ws e f = pieces-suit 8 m a (x ++ (behind [] ++ b)) t at [] v e f small tt
+    indents [] x a t at v w ws e f = pieces-suit m m a (x ++ (behind [] ++ b)) t at [] v e f (omega arith) tt
     indents (y ∷ ys) x a t at v w ws e f =
-        pieces-suit 8 m a (x ++ (behind (y ∷ ys) ++ b)) t at (indentLines m (at + m + length x + 1) (y ∷ ys)) v e f small
+        pieces-suit m m a (x ++ (behind (y ∷ ys) ++ b)) t at (indentLines m (at + m + length x + 1) (y ∷ ys)) v e f (omega arith)
         (indents ys y (a ++ ((spaces m ++ x) ++ (0x0A ∷ []))) (a ++ (spaces m ++ (x ++ (behind (y ∷ ys) ++ b)))) (at + m + length x + 1) (indent-before m a x v w) (ws .0) (ws .1) (indent-next m a x y b ys) (indent-place m a x at f))
 
 -- ---- the lines of the part of a text between two places
@@ -165,19 +165,19 @@ module _ (t : List ℕ) (from to : ℕ) (v : valid t ≡ true) (i : In t from to
     pub dedent-all : splits R m (split (part t from to)) ≡ false → AllSuit R (dedentLines R m from (split (part t from to))) t
     dedent-all s = dedents-of (split (part t from to)) (split-some (part t from to)) (split-joined (part t from to)) (split-valid (part t from to) part-valid) s
 
-    module _ (mem : R .member 0x20 ≡ true) (small : m ≤ 256) where
+    module _ (mem : R .member 0x20 ≡ true) where
       indents-of : (ls : List (List ℕ)) → 0 < length ls → joined ls ≡ part t from to → Every Valid ls → AllSuit R (indentLines m from ls) t
       indents-of [] h j ws = absurd (omega arith)
-      indents-of (x ∷ xs) h j ws = indents R mem m (drop to t) small xs x (take from t) t from (i .2) (ws .0) (ws .1) (opened x xs (take from t) (part t from to) (drop to t) t (part-between t from to (i .0)) j) front-length
+      indents-of (x ∷ xs) h j ws = indents R mem m (drop to t) xs x (take from t) t from (i .2) (ws .0) (ws .1) (opened x xs (take from t) (part t from to) (drop to t) t (part-between t from to (i .0)) j) front-length
 
       pub indent-all : AllSuit R (indentLines m from (split (part t from to))) t
       indent-all = indents-of (split (part t from to)) (split-some (part t from to)) (split-joined (part t from to)) (split-valid (part t from to) part-valid)
 
 -- ---- the call's plan
-module _ (R : Repertoire) (mem : R .member 0x20 ≡ true) (m : ℕ) (small : m ≤ 256) (t : List ℕ) (pos : ℕ) (v : isText R t ≡ true) (k : boundary t pos ≡ true) (h : pos ≤ length t) (mvt : Movement) where
+module _ (R : Repertoire) (mem : R .member 0x20 ≡ true) (m : ℕ) (t : List ℕ) (pos : ℕ) (v : isText R t ≡ true) (k : boundary t pos ≡ true) (h : pos ≤ length t) (mvt : Movement) where
   abbrev lines : List (List ℕ)
   lines = linesIn t (touched R t pos mvt)
 
   pub indent-suits : (dedent : Bool) → (dedent ≡ true → splits R m lines ≡ false) → AllSuit R (indentPlan R m dedent pos (touched R t pos mvt .start) lines .pieces) t
   indent-suits true s = dedent-all t (touched R t pos mvt .start) (touched R t pos mvt .end) (text-valid R t v) (touched-in R t pos (text-valid R t v) k h mvt) R m (s refl)
-  indent-suits false s = indent-all t (touched R t pos mvt .start) (touched R t pos mvt .end) (text-valid R t v) (touched-in R t pos (text-valid R t v) k h mvt) R m mem small
+  indent-suits false s = indent-all t (touched R t pos mvt .start) (touched R t pos mvt .end) (text-valid R t v) (touched-in R t pos (text-valid R t v) k h mvt) R m mem

@@ -23,9 +23,9 @@ unfoldable pub indentPieces : ℕ → ℕ → ℕ → List Piece
 indentPieces zero at m = []
 indentPieces (suc k) at m = cond (eqb m 0) [] (pasted at (spaces (pieceOf m)) ∷ indentPieces k at (m - 32))
 
--- m is below 256, so eight pieces are enough
+-- m pieces are enough
 abbrev pub indentLine : ℕ → ℕ → List Piece
-indentLine at m = indentPieces 8 at m
+indentLine at m = indentPieces m at m
 
 -- the lines, the first of them at a place; each stands m bytes and the \n further on once the one before it is indented
 unfoldable pub indentLines : ℕ → ℕ → List (List ℕ) → List Piece

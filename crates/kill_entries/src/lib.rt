@@ -2,9 +2,9 @@
 // `deletions`.
 ghost use Rattle.unicode.specs.Repertoire.{catalogue};
 ghost use Rattle.journal.specs.Layout.{narrow};
-ghost use Rattle.edit.specs.Calls as edits;
-ghost use Rattle.kills.specs.Kills as kills;
-ghost use Rattle.kills.specs.Kills.{killCall, killLineCall, killBufferCall, discardLineCall, discardBufferCall, backspaceCall, deletePrevWordCall, deleteWordCall, deleteToCall};
+ghost use Rattle.edit.specs.Calls.{lent};
+ghost use Rattle.calls.specs.Contracts.{Meets, buffers};
+ghost use Rattle.calls.specs.Calls.{codes, kill, killLine, killBuffer, discardLine, discardBuffer, backspace, deletePrevWord, deleteWord, deleteTo, delete, edit};
 use changeset::Log;
 use checks::Line;
 use edit::EditAnswer;
@@ -23,9 +23,8 @@ pub extern "C" fn tlf_line_kill(
     search: u32,
     ch: u32,
 ) -> EditAnswer
-    ensures { λ r. ⌜ edits.Edited narrow (edits.lent (now (text .entry)) (now (records .entry)) (now (texts .entry)) line log)
-        (killCall catalogue narrow (edits.lent (now (text .entry)) (now (records .entry)) (now (texts .entry)) line log) mvt n at word search ch)
-        r (now (text .exit)) (now (records .exit)) (now (texts .exit)) ⌝ }
+    ensures { λ r. ⌜ Meets catalogue narrow (edit (kill (codes mvt n at word search ch))) (lent (now (text .entry)) (now (records .entry)) (now (texts .entry)) line log)
+        r (buffers (now (text .exit)) (now (records .exit)) (now (texts .exit))) ⌝ }
 {
     kills::kill(
         text,
@@ -50,9 +49,8 @@ pub extern "C" fn tlf_line_kill_line(
     line: Line,
     log: Log,
 ) -> EditAnswer
-    ensures { λ r. ⌜ edits.Edited narrow (edits.lent (now (text .entry)) (now (records .entry)) (now (texts .entry)) line log)
-        (killLineCall catalogue narrow (edits.lent (now (text .entry)) (now (records .entry)) (now (texts .entry)) line log))
-        r (now (text .exit)) (now (records .exit)) (now (texts .exit)) ⌝ }
+    ensures { λ r. ⌜ Meets catalogue narrow (edit killLine) (lent (now (text .entry)) (now (records .entry)) (now (texts .entry)) line log)
+        r (buffers (now (text .exit)) (now (records .exit)) (now (texts .exit))) ⌝ }
 {
     deletions::kill_line(text, records, texts, line, log)
 }
@@ -65,9 +63,8 @@ pub extern "C" fn tlf_line_kill_buffer(
     line: Line,
     log: Log,
 ) -> EditAnswer
-    ensures { λ r. ⌜ edits.Edited narrow (edits.lent (now (text .entry)) (now (records .entry)) (now (texts .entry)) line log)
-        (killBufferCall catalogue narrow (edits.lent (now (text .entry)) (now (records .entry)) (now (texts .entry)) line log))
-        r (now (text .exit)) (now (records .exit)) (now (texts .exit)) ⌝ }
+    ensures { λ r. ⌜ Meets catalogue narrow (edit killBuffer) (lent (now (text .entry)) (now (records .entry)) (now (texts .entry)) line log)
+        r (buffers (now (text .exit)) (now (records .exit)) (now (texts .exit))) ⌝ }
 {
     deletions::kill_buffer(text, records, texts, line, log)
 }
@@ -80,9 +77,8 @@ pub extern "C" fn tlf_line_discard_line(
     line: Line,
     log: Log,
 ) -> EditAnswer
-    ensures { λ r. ⌜ edits.Edited narrow (edits.lent (now (text .entry)) (now (records .entry)) (now (texts .entry)) line log)
-        (discardLineCall catalogue narrow (edits.lent (now (text .entry)) (now (records .entry)) (now (texts .entry)) line log))
-        r (now (text .exit)) (now (records .exit)) (now (texts .exit)) ⌝ }
+    ensures { λ r. ⌜ Meets catalogue narrow (edit discardLine) (lent (now (text .entry)) (now (records .entry)) (now (texts .entry)) line log)
+        r (buffers (now (text .exit)) (now (records .exit)) (now (texts .exit))) ⌝ }
 {
     deletions::discard_line(text, records, texts, line, log)
 }
@@ -95,9 +91,8 @@ pub extern "C" fn tlf_line_discard_buffer(
     line: Line,
     log: Log,
 ) -> EditAnswer
-    ensures { λ r. ⌜ edits.Edited narrow (edits.lent (now (text .entry)) (now (records .entry)) (now (texts .entry)) line log)
-        (discardBufferCall catalogue narrow (edits.lent (now (text .entry)) (now (records .entry)) (now (texts .entry)) line log))
-        r (now (text .exit)) (now (records .exit)) (now (texts .exit)) ⌝ }
+    ensures { λ r. ⌜ Meets catalogue narrow (edit discardBuffer) (lent (now (text .entry)) (now (records .entry)) (now (texts .entry)) line log)
+        r (buffers (now (text .exit)) (now (records .exit)) (now (texts .exit))) ⌝ }
 {
     deletions::discard_buffer(text, records, texts, line, log)
 }
@@ -111,9 +106,8 @@ pub extern "C" fn tlf_line_backspace(
     log: Log,
     n: u16,
 ) -> EditAnswer
-    ensures { λ r. ⌜ edits.Edited narrow (edits.lent (now (text .entry)) (now (records .entry)) (now (texts .entry)) line log)
-        (backspaceCall catalogue narrow (edits.lent (now (text .entry)) (now (records .entry)) (now (texts .entry)) line log) n)
-        r (now (text .exit)) (now (records .exit)) (now (texts .exit)) ⌝ }
+    ensures { λ r. ⌜ Meets catalogue narrow (edit (backspace n)) (lent (now (text .entry)) (now (records .entry)) (now (texts .entry)) line log)
+        r (buffers (now (text .exit)) (now (records .exit)) (now (texts .exit))) ⌝ }
 {
     deletions::backspace(text, records, texts, line, log, n)
 }
@@ -128,9 +122,8 @@ pub extern "C" fn tlf_line_delete_prev_word(
     word: u32,
     n: u16,
 ) -> EditAnswer
-    ensures { λ r. ⌜ edits.Edited narrow (edits.lent (now (text .entry)) (now (records .entry)) (now (texts .entry)) line log)
-        (deletePrevWordCall catalogue narrow (edits.lent (now (text .entry)) (now (records .entry)) (now (texts .entry)) line log) word n)
-        r (now (text .exit)) (now (records .exit)) (now (texts .exit)) ⌝ }
+    ensures { λ r. ⌜ Meets catalogue narrow (edit (deletePrevWord word n)) (lent (now (text .entry)) (now (records .entry)) (now (texts .entry)) line log)
+        r (buffers (now (text .exit)) (now (records .exit)) (now (texts .exit))) ⌝ }
 {
     deletions::delete_prev_word(text, records, texts, line, log, word, n)
 }
@@ -146,9 +139,8 @@ pub extern "C" fn tlf_line_delete_word(
     word: u32,
     n: u16,
 ) -> EditAnswer
-    ensures { λ r. ⌜ edits.Edited narrow (edits.lent (now (text .entry)) (now (records .entry)) (now (texts .entry)) line log)
-        (deleteWordCall catalogue narrow (edits.lent (now (text .entry)) (now (records .entry)) (now (texts .entry)) line log) at word n)
-        r (now (text .exit)) (now (records .exit)) (now (texts .exit)) ⌝ }
+    ensures { λ r. ⌜ Meets catalogue narrow (edit (deleteWord at word n)) (lent (now (text .entry)) (now (records .entry)) (now (texts .entry)) line log)
+        r (buffers (now (text .exit)) (now (records .exit)) (now (texts .exit))) ⌝ }
 {
     deletions::delete_word(text, records, texts, line, log, at, word, n)
 }
@@ -164,9 +156,8 @@ pub extern "C" fn tlf_line_delete_to(
     ch: u32,
     n: u16,
 ) -> EditAnswer
-    ensures { λ r. ⌜ edits.Edited narrow (edits.lent (now (text .entry)) (now (records .entry)) (now (texts .entry)) line log)
-        (deleteToCall catalogue narrow (edits.lent (now (text .entry)) (now (records .entry)) (now (texts .entry)) line log) search ch n)
-        r (now (text .exit)) (now (records .exit)) (now (texts .exit)) ⌝ }
+    ensures { λ r. ⌜ Meets catalogue narrow (edit (deleteTo search ch n)) (lent (now (text .entry)) (now (records .entry)) (now (texts .entry)) line log)
+        r (buffers (now (text .exit)) (now (records .exit)) (now (texts .exit))) ⌝ }
 {
     deletions::delete_to(text, records, texts, line, log, search, ch, n)
 }
@@ -180,9 +171,8 @@ pub extern "C" fn tlf_line_delete(
     log: Log,
     n: u16,
 ) -> EditAnswer
-    ensures { λ r. ⌜ edits.Edited narrow (edits.lent (now (text .entry)) (now (records .entry)) (now (texts .entry)) line log)
-        (kills.deleteCall catalogue narrow (edits.lent (now (text .entry)) (now (records .entry)) (now (texts .entry)) line log) n)
-        r (now (text .exit)) (now (records .exit)) (now (texts .exit)) ⌝ }
+    ensures { λ r. ⌜ Meets catalogue narrow (edit (delete n)) (lent (now (text .entry)) (now (records .entry)) (now (texts .entry)) line log)
+        r (buffers (now (text .exit)) (now (records .exit)) (now (texts .exit))) ⌝ }
 {
     deletions::delete(text, records, texts, line, log, n)
 }

@@ -1,77 +1,91 @@
 // The entries for C and Rust callers that move the cursor, ask, or copy: each is the call of the same name in `movement` or `copies`.
-ghost use mathlib.Core.Path.{_≡_};
+ghost use Prim.Native.Nat.{ℕ};
+ghost use mathlib.Core.List.{List};
 ghost use Rattle.unicode.specs.Repertoire.{catalogue};
-ghost use Rattle.copies.specs.Copy.{copyCall};
-ghost use Rattle.movement.specs.Moves.{nextPosCall, isCursorAtEnd, isEndOfInput, setPos, moveForward, moveBackward, moveBufferStart, moveBufferEnd, moveHome, moveEnd, moveToPrevWord, moveToNextWord, moveToLineUp, moveToLineDown, moveTo};
+ghost use Rattle.journal.specs.Layout.{narrow};
+ghost use Rattle.changeset.specs.declared.Log.{Log};
+ghost use Rattle.edit.specs.Calls.{lent};
+ghost use Rattle.calls.specs.Contracts.{Meets, buffers};
+ghost use Rattle.calls.specs.Calls.{codes, nextPos, copy, isCursorAtEnd, isEndOfInput, setPos, moveForward, moveBackward, moveBufferStart, moveBufferEnd, moveHome, moveEnd, moveToPrevWord, moveToNextWord, moveToLineUp, moveToLineDown, moveTo, move};
 use checks::Line;
 use checks::LineAnswer;
 
 #[no_mangle]
 pub extern "C" fn tlf_line_next_pos(text: &[u8], line: Line, n: u16) -> LineAnswer
-    ensures { λ r. ⌜ r ≡ nextPosCall catalogue (now (text .entry)) line n ⌝ }
+    ensures { λ r. ⌜ ((records texts : List ℕ) (log : Log) → Meets catalogue narrow (move (nextPos n)) (lent (now (text .entry)) records texts line log)
+        r (buffers (now (text .entry)) records texts)) ⌝ }
 {
     movement::next_pos(text, line, n)
 }
 
 #[no_mangle]
 pub extern "C" fn tlf_line_is_cursor_at_end(text: &[u8], line: Line) -> LineAnswer
-    ensures { λ r. ⌜ r ≡ isCursorAtEnd catalogue (now (text .entry)) line ⌝ }
+    ensures { λ r. ⌜ ((records texts : List ℕ) (log : Log) → Meets catalogue narrow (move isCursorAtEnd) (lent (now (text .entry)) records texts line log)
+        r (buffers (now (text .entry)) records texts)) ⌝ }
 {
     movement::is_cursor_at_end(text, line)
 }
 
 #[no_mangle]
 pub extern "C" fn tlf_line_is_end_of_input(text: &[u8], line: Line) -> LineAnswer
-    ensures { λ r. ⌜ r ≡ isEndOfInput catalogue (now (text .entry)) line ⌝ }
+    ensures { λ r. ⌜ ((records texts : List ℕ) (log : Log) → Meets catalogue narrow (move isEndOfInput) (lent (now (text .entry)) records texts line log)
+        r (buffers (now (text .entry)) records texts)) ⌝ }
 {
     movement::is_end_of_input(text, line)
 }
 
 #[no_mangle]
 pub extern "C" fn tlf_line_set_pos(text: &[u8], line: Line, pos: usize) -> LineAnswer
-    ensures { λ r. ⌜ r ≡ setPos catalogue (now (text .entry)) line pos ⌝ }
+    ensures { λ r. ⌜ ((records texts : List ℕ) (log : Log) → Meets catalogue narrow (move (setPos pos)) (lent (now (text .entry)) records texts line log)
+        r (buffers (now (text .entry)) records texts)) ⌝ }
 {
     movement::set_pos(text, line, pos)
 }
 
 #[no_mangle]
 pub extern "C" fn tlf_line_move_forward(text: &[u8], line: Line, n: u16) -> LineAnswer
-    ensures { λ r. ⌜ r ≡ moveForward catalogue (now (text .entry)) line n ⌝ }
+    ensures { λ r. ⌜ ((records texts : List ℕ) (log : Log) → Meets catalogue narrow (move (moveForward n)) (lent (now (text .entry)) records texts line log)
+        r (buffers (now (text .entry)) records texts)) ⌝ }
 {
     movement::move_forward(text, line, n)
 }
 
 #[no_mangle]
 pub extern "C" fn tlf_line_move_backward(text: &[u8], line: Line, n: u16) -> LineAnswer
-    ensures { λ r. ⌜ r ≡ moveBackward catalogue (now (text .entry)) line n ⌝ }
+    ensures { λ r. ⌜ ((records texts : List ℕ) (log : Log) → Meets catalogue narrow (move (moveBackward n)) (lent (now (text .entry)) records texts line log)
+        r (buffers (now (text .entry)) records texts)) ⌝ }
 {
     movement::move_backward(text, line, n)
 }
 
 #[no_mangle]
 pub extern "C" fn tlf_line_move_buffer_start(text: &[u8], line: Line) -> LineAnswer
-    ensures { λ r. ⌜ r ≡ moveBufferStart catalogue (now (text .entry)) line ⌝ }
+    ensures { λ r. ⌜ ((records texts : List ℕ) (log : Log) → Meets catalogue narrow (move moveBufferStart) (lent (now (text .entry)) records texts line log)
+        r (buffers (now (text .entry)) records texts)) ⌝ }
 {
     movement::move_buffer_start(text, line)
 }
 
 #[no_mangle]
 pub extern "C" fn tlf_line_move_buffer_end(text: &[u8], line: Line) -> LineAnswer
-    ensures { λ r. ⌜ r ≡ moveBufferEnd catalogue (now (text .entry)) line ⌝ }
+    ensures { λ r. ⌜ ((records texts : List ℕ) (log : Log) → Meets catalogue narrow (move moveBufferEnd) (lent (now (text .entry)) records texts line log)
+        r (buffers (now (text .entry)) records texts)) ⌝ }
 {
     movement::move_buffer_end(text, line)
 }
 
 #[no_mangle]
 pub extern "C" fn tlf_line_move_home(text: &[u8], line: Line) -> LineAnswer
-    ensures { λ r. ⌜ r ≡ moveHome catalogue (now (text .entry)) line ⌝ }
+    ensures { λ r. ⌜ ((records texts : List ℕ) (log : Log) → Meets catalogue narrow (move moveHome) (lent (now (text .entry)) records texts line log)
+        r (buffers (now (text .entry)) records texts)) ⌝ }
 {
     movement::move_home(text, line)
 }
 
 #[no_mangle]
 pub extern "C" fn tlf_line_move_end(text: &[u8], line: Line) -> LineAnswer
-    ensures { λ r. ⌜ r ≡ moveEnd catalogue (now (text .entry)) line ⌝ }
+    ensures { λ r. ⌜ ((records texts : List ℕ) (log : Log) → Meets catalogue narrow (move moveEnd) (lent (now (text .entry)) records texts line log)
+        r (buffers (now (text .entry)) records texts)) ⌝ }
 {
     movement::move_end(text, line)
 }
@@ -83,7 +97,8 @@ pub extern "C" fn tlf_line_move_to_prev_word(
     word: u32,
     n: u16,
 ) -> LineAnswer
-    ensures { λ r. ⌜ r ≡ moveToPrevWord catalogue (now (text .entry)) line word n ⌝ }
+    ensures { λ r. ⌜ ((records texts : List ℕ) (log : Log) → Meets catalogue narrow (move (moveToPrevWord word n)) (lent (now (text .entry)) records texts line log)
+        r (buffers (now (text .entry)) records texts)) ⌝ }
 {
     movement::move_to_prev_word(text, line, word, n)
 }
@@ -96,7 +111,8 @@ pub extern "C" fn tlf_line_move_to_next_word(
     word: u32,
     n: u16,
 ) -> LineAnswer
-    ensures { λ r. ⌜ r ≡ moveToNextWord catalogue (now (text .entry)) line at word n ⌝ }
+    ensures { λ r. ⌜ ((records texts : List ℕ) (log : Log) → Meets catalogue narrow (move (moveToNextWord at word n)) (lent (now (text .entry)) records texts line log)
+        r (buffers (now (text .entry)) records texts)) ⌝ }
 {
     movement::move_to_next_word(text, line, at, word, n)
 }
@@ -108,7 +124,8 @@ pub extern "C" fn tlf_line_move_to_line_up(
     n: u16,
     prompt: usize,
 ) -> LineAnswer
-    ensures { λ r. ⌜ r ≡ moveToLineUp catalogue (now (text .entry)) line n prompt ⌝ }
+    ensures { λ r. ⌜ ((records texts : List ℕ) (log : Log) → Meets catalogue narrow (move (moveToLineUp n prompt)) (lent (now (text .entry)) records texts line log)
+        r (buffers (now (text .entry)) records texts)) ⌝ }
 {
     movement::move_to_line_up(text, line, n, prompt)
 }
@@ -120,7 +137,8 @@ pub extern "C" fn tlf_line_move_to_line_down(
     n: u16,
     prompt: usize,
 ) -> LineAnswer
-    ensures { λ r. ⌜ r ≡ moveToLineDown catalogue (now (text .entry)) line n prompt ⌝ }
+    ensures { λ r. ⌜ ((records texts : List ℕ) (log : Log) → Meets catalogue narrow (move (moveToLineDown n prompt)) (lent (now (text .entry)) records texts line log)
+        r (buffers (now (text .entry)) records texts)) ⌝ }
 {
     movement::move_to_line_down(text, line, n, prompt)
 }
@@ -133,7 +151,8 @@ pub extern "C" fn tlf_line_move_to(
     ch: u32,
     n: u16,
 ) -> LineAnswer
-    ensures { λ r. ⌜ r ≡ moveTo catalogue (now (text .entry)) line search ch n ⌝ }
+    ensures { λ r. ⌜ ((records texts : List ℕ) (log : Log) → Meets catalogue narrow (move (moveTo search ch n)) (lent (now (text .entry)) records texts line log)
+        r (buffers (now (text .entry)) records texts)) ⌝ }
 {
     movement::move_to(text, line, search, ch, n)
 }
@@ -149,7 +168,8 @@ pub extern "C" fn tlf_line_copy(
     search: u32,
     ch: u32,
 ) -> LineAnswer
-    ensures { λ r. ⌜ r ≡ copyCall catalogue (now (text .entry)) line mvt n at word search ch ⌝ }
+    ensures { λ r. ⌜ ((records texts : List ℕ) (log : Log) → Meets catalogue narrow (move (copy (codes mvt n at word search ch))) (lent (now (text .entry)) records texts line log)
+        r (buffers (now (text .entry)) records texts)) ⌝ }
 {
     copies::copy(text, line, mvt, n, at, word, search, ch)
 }

@@ -1,11 +1,15 @@
 // The entries for C and Rust callers to the log: each is the call of the same name.
+ghost use Prim.Native.Nat.{ℕ};
 ghost use mathlib.Core.Path.{_≡_};
+ghost use mathlib.Core.List.{List};
 ghost use Rattle.unicode.specs.Repertoire.{catalogue};
 ghost use Rattle.journal.specs.Layout.{narrow};
-ghost use Rattle.changeset.specs.Calls.{lent, Logged, answerOf, beginCall, endCall, insertCall, insertStrCall, deleteCall, replaceCall, truncateCall, lastInsertCall};
+ghost use Rattle.changeset.specs.Calls.{lent, Logged, insertCall, insertStrCall, deleteCall, replaceCall, truncateCall};
 ghost use Rattle.edit.specs.Calls as edits;
-ghost use Rattle.undo.specs.Undo.{undoCall, redoCall};
-ghost use Rattle.cancel.specs.Cancel.{cancelCall};
+ghost use Rattle.checks.specs.declared.Line as declared;
+ghost use Rattle.calls.specs.Calls as asked;
+ghost use Rattle.calls.specs.Calls.{begin, end, lastInsert, undo, redo, cancel};
+ghost use Rattle.calls.specs.Contracts.{Meets, buffers};
 use changeset::Log;
 use changeset::LogAnswer;
 use checks::Line;
@@ -20,16 +24,16 @@ pub extern "C" fn tlf_log_new() -> Log
 
 #[no_mangle]
 pub extern "C" fn tlf_log_begin(records: &mut [u8], texts: &mut [u8], log: Log) -> LogAnswer
-    ensures { λ r. ⌜ Logged narrow (lent (now (records .entry)) (now (texts .entry)) log)
-        (beginCall catalogue narrow (lent (now (records .entry)) (now (texts .entry)) log)) r (now (records .exit)) (now (texts .exit)) ⌝ }
+    ensures { λ r. ⌜ ((text : List ℕ) (line : declared.Line) → Meets catalogue narrow (asked.log begin) (edits.lent text (now (records .entry)) (now (texts .entry)) line log)
+        r (buffers text (now (records .exit)) (now (texts .exit)))) ⌝ }
 {
     log_calls::begin(records, texts, log)
 }
 
 #[no_mangle]
 pub extern "C" fn tlf_log_end(records: &mut [u8], texts: &mut [u8], log: Log) -> LogAnswer
-    ensures { λ r. ⌜ Logged narrow (lent (now (records .entry)) (now (texts .entry)) log)
-        (endCall catalogue narrow (lent (now (records .entry)) (now (texts .entry)) log)) r (now (records .exit)) (now (texts .exit)) ⌝ }
+    ensures { λ r. ⌜ ((text : List ℕ) (line : declared.Line) → Meets catalogue narrow (asked.log end) (edits.lent text (now (records .entry)) (now (texts .entry)) line log)
+        r (buffers text (now (records .exit)) (now (texts .exit)))) ⌝ }
 {
     log_calls::end(records, texts, log)
 }
@@ -106,8 +110,8 @@ pub extern "C" fn tlf_log_truncate(
 
 #[no_mangle]
 pub extern "C" fn tlf_log_last_insert(records: &[u8], texts: &[u8], log: Log) -> LogAnswer
-    ensures { λ r. ⌜ r ≡ answerOf narrow (lent (now (records .entry)) (now (texts .entry)) log)
-        (lastInsertCall catalogue narrow (lent (now (records .entry)) (now (texts .entry)) log)) ⌝ }
+    ensures { λ r. ⌜ ((text : List ℕ) (line : declared.Line) → Meets catalogue narrow (asked.log lastInsert) (edits.lent text (now (records .entry)) (now (texts .entry)) line log)
+        r (buffers text (now (records .entry)) (now (texts .entry)))) ⌝ }
 {
     log_calls::last_insert(records, texts, log)
 }
@@ -121,9 +125,8 @@ pub extern "C" fn tlf_log_undo(
     log: Log,
     n: u16,
 ) -> EditAnswer
-    ensures outcome { λ r. ⌜ edits.Edited narrow (edits.lent (now (text .entry)) (now (records .entry)) (now (texts .entry)) line log)
-        (undoCall catalogue narrow (edits.lent (now (text .entry)) (now (records .entry)) (now (texts .entry)) line log) n)
-        r (now (text .exit)) (now (records .entry)) (now (texts .entry)) ⌝ }
+    ensures outcome { λ r. ⌜ Meets catalogue narrow (undo n) (edits.lent (now (text .entry)) (now (records .entry)) (now (texts .entry)) line log)
+        r (buffers (now (text .exit)) (now (records .entry)) (now (texts .entry))) ⌝ }
     ensures still { λ r. ⌜ (r .log ≡ log → now (text .exit) ≡ now (text .entry)) ⌝ }
 {
     undo::undo(text, records, texts, line, log, n)
@@ -138,9 +141,8 @@ pub extern "C" fn tlf_log_redo(
     log: Log,
     n: u16,
 ) -> EditAnswer
-    ensures outcome { λ r. ⌜ edits.Edited narrow (edits.lent (now (text .entry)) (now (records .entry)) (now (texts .entry)) line log)
-        (redoCall catalogue narrow (edits.lent (now (text .entry)) (now (records .entry)) (now (texts .entry)) line log) n)
-        r (now (text .exit)) (now (records .entry)) (now (texts .entry)) ⌝ }
+    ensures outcome { λ r. ⌜ Meets catalogue narrow (redo n) (edits.lent (now (text .entry)) (now (records .entry)) (now (texts .entry)) line log)
+        r (buffers (now (text .exit)) (now (records .entry)) (now (texts .entry))) ⌝ }
     ensures still { λ r. ⌜ (r .log ≡ log → now (text .exit) ≡ now (text .entry)) ⌝ }
 {
     redo::redo(text, records, texts, line, log, n)
@@ -155,9 +157,8 @@ pub extern "C" fn tlf_log_cancel(
     log: Log,
     mark: usize,
 ) -> EditAnswer
-    ensures outcome { λ r. ⌜ edits.Edited narrow (edits.lent (now (text .entry)) (now (records .entry)) (now (texts .entry)) line log)
-        (cancelCall catalogue narrow (edits.lent (now (text .entry)) (now (records .entry)) (now (texts .entry)) line log) mark)
-        r (now (text .exit)) (now (records .entry)) (now (texts .entry)) ⌝ }
+    ensures outcome { λ r. ⌜ Meets catalogue narrow (cancel mark) (edits.lent (now (text .entry)) (now (records .entry)) (now (texts .entry)) line log)
+        r (buffers (now (text .exit)) (now (records .entry)) (now (texts .entry))) ⌝ }
     ensures still { λ r. ⌜ (r .log ≡ log → now (text .exit) ≡ now (text .entry)) ⌝ }
 {
     cancel::cancel(text, records, texts, line, log, mark)

@@ -20,8 +20,9 @@ use Rattle.retrace.specs.Retrace.{Trail, undoing}
 use Rattle.undo.specs.Undo.{Walked, trailOf}
 use Rattle.cancel.specs.Cancel.{opens, walkTo, beginsDown, cancelOut}
 use Rattle.cancel.proofs.Cancels.{opens-within}
-use Rattle.session.specs.Calls.{cancel}
-use Rattle.session.specs.Sessions.{below, openAfter}
+use Rattle.calls.specs.Calls.{cancel}
+use Rattle.session.specs.Runs.{below}
+use Rattle.session.proofs.Values.{openAfter}
 use Rattle.session.proofs.Invariant.{openMarks, Groups, Bound, Chain, Inv, no-redo}
 use Rattle.session.proofs.Links.{undo-link, cursor-link, text-link}
 use Rattle.session.proofs.Walks.{small-tail}

@@ -21,9 +21,9 @@ use Rattle.changeset.specs.Outcomes.{beginOut, endOut, placesOut, lastInsertOut
 use Rattle.changeset.specs.Calls as logs
 use Rattle.edit.specs.Plan.{State}
 use Rattle.edit.specs.Calls.{Lent, logLent, sizesOf, stateOf}
-use Rattle.session.specs.Calls.{Asked, loggedBy, outcomeOf}
-use Rattle.session.specs.Calls as asked
-use Rattle.session.specs.Sessions.{openAfter}
+use Rattle.calls.specs.Calls.{Asked, loggedBy, outcomeOf}
+use Rattle.calls.specs.Calls as asked
+use Rattle.session.proofs.Values.{openAfter}
 use Rattle.session.proofs.Invariant.{Nest, Open, Groups, Chain, Inv, no-redo}
 
 -- ---- end's loop
@@ -96,9 +96,9 @@ module _ (R : Repertoire) (F : Format) (Q : List ℕ → Type 0) (t₀ : List �
   pub refused-keeps : (a : Asked) (k : ℕ) (s : State) (g : List ℕ) → Inv R F Q t₀ s g → Keeps a (refused (suc (suc k))) s g
   refused-keeps (asked.edit x) k s g v = v
   refused-keeps (asked.move x) k s g v = v
-  refused-keeps asked.begin k s g v = rw (lt-leb (suc (suc k)) 1 (omega arith)) v
-  refused-keeps asked.end k s g v = rw (lt-leb (suc (suc k)) 1 (omega arith)) v
-  refused-keeps asked.lastInsert k s g v = v
+  refused-keeps (asked.log asked.begin) k s g v = rw (lt-leb (suc (suc k)) 1 (omega arith)) v
+  refused-keeps (asked.log asked.end) k s g v = rw (lt-leb (suc (suc k)) 1 (omega arith)) v
+  refused-keeps (asked.log asked.lastInsert) k s g v = v
   refused-keeps (asked.undo n) k s g v = v
   refused-keeps (asked.redo n) k s g v = v
   refused-keeps (asked.cancel m) k s g v = rw (ne-eqb (suc (suc k)) 0 (λ e. omega arith)) v
@@ -121,20 +121,20 @@ module _ (R : Repertoire) (F : Format) (Q : List ℕ → Type 0) (t₀ : List �
         rw e (record { opened = h .opened; marks = ap (λ (m : List ℕ). length u ∷ m) (h .marks) })
 
     -- a Begin: check 10, then a group open with its mark
-    begin-made : Keeps asked.begin (loggedBy R F l (beginOut F (sizesOf l) (s .log))) s g
+    begin-made : Keeps (asked.log asked.begin) (loggedBy R F l (beginOut F (sizesOf l) (s .log))) s g
     unfolding beginOut fits allSmall
     begin-made =
-        by-test (Keeps asked.begin (loggedBy R F l (beginOut F (sizesOf l) (s .log))) s g) (ltb level 255 && fits F (sizesOf l) (begin ∷ u))
+        by-test (Keeps (asked.log asked.begin) (loggedBy R F l (beginOut F (sizesOf l) (s .log))) s g) (ltb level 255 && fits F (sizesOf l) (begin ∷ u))
         (λ e. rw e
         (no-redo R F Q t₀ _ _ _ _ _ (record { chain = v .here .chain; text = v .here .text; allowed = v .here .allowed; groups = opened (v .here .groups) }) (v .cursor) (v .undo-small)))
         (λ e. rw e v)
 
     -- the Ends: check 10, then no group open, whether one was put or not
-    end-made : Keeps asked.end (loggedBy R F l (endOut F (sizesOf l) (s .log))) s g
+    end-made : Keeps (asked.log asked.end) (loggedBy R F l (endOut F (sizesOf l) (s .log))) s g
     unfolding endOut fits
     end-made =
-        by-test (Keeps asked.end (loggedBy R F l (endOut F (sizesOf l) (s .log))) s g) (fits F (sizesOf l) (endAll level u))
-        (λ e. by-test (Keeps asked.end (loggedBy R F l (endOut F (sizesOf l) (s .log))) s g) (endsAny level u) (λ f. rw (e, f) (left e)) (λ f. rw (e, f) (left e)))
+        by-test (Keeps (asked.log asked.end) (loggedBy R F l (endOut F (sizesOf l) (s .log))) s g) (fits F (sizesOf l) (endAll level u))
+        (λ e. by-test (Keeps (asked.log asked.end) (loggedBy R F l (endOut F (sizesOf l) (s .log))) s g) (endsAny level u) (λ f. rw (e, f) (left e)) (λ f. rw (e, f) (left e)))
         (λ e. rw e v)
       where
         left : fits F (sizesOf l) (endAll level u) ≡ true → Inv R F Q t₀ (record { text = s .text; cursor = s .cursor; log = ended (s .log) }) []
@@ -149,7 +149,7 @@ module _ (R : Repertoire) (F : Format) (Q : List ℕ → Type 0) (t₀ : List �
             (v .cursor) (and-both (allSmall (F .width) (endAll level u)) _ e .0)
 
     -- places found or none: all is as it was
-    last-insert-made : (p : Option Places) → Keeps asked.lastInsert (loggedBy R F l (placesOut p (s .log))) s g
+    last-insert-made : (p : Option Places) → Keeps (asked.log asked.lastInsert) (loggedBy R F l (placesOut p (s .log))) s g
     last-insert-made none = v
     last-insert-made (some p) = v
 
@@ -177,13 +177,13 @@ module _ (R : Repertoire) (F : Format) (Q : List ℕ → Type 0) (t₀ : List �
         subst (λ (x : Outcome State). Keeps a x s g) (logged n o) (by-checks a n (loggedBy R F l o) (not-one (both (logTests R F (l .log) (l .records) (l .texts)) (ownTests false false false))) (λ e. k))
 
     -- begin opens a group with the mark that it answers
-    pub begin-keeps : Keeps asked.begin (outcomeOf R F l asked.begin) s g
-    begin-keeps = checked-keeps asked.begin (beginOut F (sizesOf l) (stateOf R F l .log)) (begin-made l g held)
+    pub begin-keeps : Keeps (asked.log asked.begin) (outcomeOf R F l (asked.log asked.begin)) s g
+    begin-keeps = checked-keeps (asked.log asked.begin) (beginOut F (sizesOf l) (stateOf R F l .log)) (begin-made l g held)
 
     -- end closes all groups
-    pub end-keeps : Keeps asked.end (outcomeOf R F l asked.end) s g
-    end-keeps = checked-keeps asked.end (endOut F (sizesOf l) (stateOf R F l .log)) (end-made l g held)
+    pub end-keeps : Keeps (asked.log asked.end) (outcomeOf R F l (asked.log asked.end)) s g
+    end-keeps = checked-keeps (asked.log asked.end) (endOut F (sizesOf l) (stateOf R F l .log)) (end-made l g held)
 
     -- last_insert changes nothing
-    pub last-insert-keeps : Keeps asked.lastInsert (outcomeOf R F l asked.lastInsert) s g
-    last-insert-keeps = checked-keeps asked.lastInsert (lastInsertOut (stateOf R F l .log)) (last-insert-made l g held (lastInsertAt (stateOf R F l .log .undo)))
+    pub last-insert-keeps : Keeps (asked.log asked.lastInsert) (outcomeOf R F l (asked.log asked.lastInsert)) s g
+    last-insert-keeps = checked-keeps (asked.log asked.lastInsert) (lastInsertOut (stateOf R F l .log)) (last-insert-made l g held (lastInsertAt (stateOf R F l .log .undo)))

@@ -18,7 +18,8 @@ use Rattle.journal.proofs.Decode.{records-many}
 use Rattle.edit.specs.Plan.{State}
 use Rattle.edit.specs.Calls.{checked, stateOf}
 use Rattle.edit.proofs.Held.{take-within, state-held, state-passes}
-use Rattle.session.specs.Sessions.{Buffers, Handed, lentFor}
+use Rattle.calls.specs.Contracts.{Buffers}
+use Rattle.session.proofs.Values.{Handed, lentFor}
 use Rattle.session.proofs.Invariant.{Chain, Inv}
 
 module _ (R : Repertoire) where

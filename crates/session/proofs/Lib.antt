@@ -1,4 +1,5 @@
 pub mod Invariant
+pub mod Values
 pub mod Handed
 pub mod Links
 pub mod Walks
@@ -10,9 +11,9 @@ pub mod Plans
 pub mod Moves
 pub mod Groups
 pub mod Steps
-pub mod Demand
-pub mod Theorem
-pub mod Next
+pub mod HandOver
+pub mod Starts
+pub mod Demand3
 pub mod Played
 pub mod Needed
 pub mod Example

@@ -1,7 +1,7 @@
--- A movement leaves the cursor between characters, and keeps the invariant. Assumes nothing.
+-- A movement leaves the cursor between characters and the line as long as it was, and keeps the invariant; its answer is what it leaves. Assumes nothing.
 use Prim.Native.Nat.{ℕ, zero, suc, _≤_}
 use native.Mathlib.Omega.{arith}
-use mathlib.Core.Path.{_≡_, refl, sym, subst}
+use mathlib.Core.Path.{_≡_, refl, sym, ap, subst}
 use mathlib.Core.Bool.{Bool, true, false, cond, not}
 use mathlib.Core.List.{List}
 use lib.Dec.{eqb, leb}
@@ -46,9 +46,15 @@ use Rattle.copies.specs.Copy.{ranged, copied, copyBy, copyTests}
 use Rattle.journal.specs.Layout.{Format}
 use Rattle.edit.specs.Plan.{State}
 use Rattle.edit.specs.Calls.{Lent, textOf, stateOf}
-use Rattle.session.specs.Calls.{MoveCall, moveAnswer, movedBy}
-use Rattle.session.specs.Calls as asked
+use Rattle.calls.specs.Calls.{MoveCall, moveAnswer, movedBy, outcomeOf}
+use Rattle.calls.specs.Calls as asked
 use Rattle.session.proofs.Invariant.{Inv}
+
+-- a movement's answer: its cursor stands between characters, the line is as long as it was, and a refusal leaves it as it was
+pub record Within (l : Lent) (a : LineAnswer) : Type 0 where
+  pub place : In (textOf l) (a .line .cursor) (a .line .cursor)
+  pub len : a .line .len ≡ l .line .len
+  pub kept : (k : ℕ) → a .number ≡ suc (suc k) → a .line ≡ l .line
 
 -- a movement is refused by n, or it answers
 unless-refused : (P : LineAnswer → Type 0) (n : ℕ) (line : Line) (a : LineAnswer) → ((k : ℕ) → P (says k line)) → (n ≡ 0 → P a) → P (unlessRefused n line a)
@@ -65,14 +71,21 @@ module _ (R : Repertoire) (F : Format) (l : Lent) (is : isText R (textOf l) ≡ 
   abbrev v : valid t ≡ true
   v = text-valid R t is
 
-  -- the cursor of the answer stands between characters
   abbrev Stands : LineAnswer → Type 0
-  Stands a = In t (a .line .cursor) (a .line .cursor)
+  Stands a = Within l a
+
+  -- the line as it was
+  as-it-was : (a : LineAnswer) → a .line ≡ l .line → Stands a
+  as-it-was a e = record { place = rw e i; len = ap (λ (x : Line). x .len) e; kept = λ k f. e }
+
+  -- with the cursor at a place
+  placed : (p : ℕ) → (p ≤ length t) × (boundary t p ≡ true) → Stands (movedTo (l .line) (At p))
+  placed p h = record { place = (omega arith, h .0, h .1, h .1); len = refl; kept = λ k e. absurd (omega arith) }
 
   -- a call that leaves the cursor there where its checks pass
   called-stands : (own : Tests) (a : LineAnswer) → (refusal (both (lineTests R (l .text) (l .line)) own) ≡ 0 → Stands a) → Stands (called R (l .text) (l .line) own a)
   unfolding called
-  called-stands own a f = unless-refused Stands (refusal (both (lineTests R (l .text) (l .line)) own)) (l .line) a (λ k. i) f
+  called-stands own a f = unless-refused Stands (refusal (both (lineTests R (l .text) (l .line)) own)) (l .line) a (λ k. as-it-was (says k (l .line)) refl) f
 
   -- a place in the text, between characters
   abbrev Place : ℕ → Type 0
@@ -88,8 +101,8 @@ module _ (R : Repertoire) (F : Format) (l : Lent) (is : isText R (textOf l) ≡ 
 
   -- at the place found, or where it was
   moved-stands : (f : Found) → ((p : ℕ) → f ≡ At p → Place p) → Stands (movedTo (l .line) f)
-  moved-stands (At p) g = let z = g p refl in (omega arith, z .0, z .1, z .1)
-  moved-stands Nothing g = i
+  moved-stands (At p) g = placed p (g p refl)
+  moved-stands Nothing g = as-it-was (movedTo (l .line) Nothing) refl
 
   -- to the place found, where no check refuses
   goes : (own : Tests) (f : Found) → ((p : ℕ) → f ≡ At p → Place p) → Stands (called R (l .text) (l .line) own (movedTo (l .line) f))
@@ -100,12 +113,12 @@ module _ (R : Repertoire) (F : Format) (l : Lent) (is : isText R (textOf l) ≡ 
   goes-to p h = called-stands noTests (movedTo (l .line) (elsewhere (l .line) p)) (λ e. at-place (eqb pos p))
     where
       at-place : (b : Bool) → Stands (movedTo (l .line) (cond b Nothing (At p)))
-      at-place true = i
-      at-place false = (omega arith, h .0, h .1, h .1)
+      at-place true = as-it-was (movedTo (l .line) Nothing) refl
+      at-place false = placed p h
 
   -- the line as it is
   stays : (own : Tests) (a : LineAnswer) → a .line ≡ l .line → Stands (called R (l .text) (l .line) own a)
-  stays own a e = called-stands own a (λ z. rw e i)
+  stays own a e = called-stands own a (λ z. as-it-was a e)
 
   -- a place answered leaves the line as it was
   answered-line : (f : Found) → answered (l .line) f .line ≡ l .line
@@ -156,10 +169,10 @@ module _ (R : Repertoire) (F : Format) (l : Lent) (is : isText R (textOf l) ≡ 
       let q = fit R (l .text) (l .line) (placeTests t (l .line .len) p) e .1 in
       let h = ltb-false (l .line .len) p (q .place) in
       let b = not-false (boundary t p) (q .split) in
-      (omega arith, omega (arith, len), b, b))
+      placed p (omega (arith, len), b))
 
   -- every movement
-  pub move-keeps : (x : MoveCall) → In (textOf l) (moveAnswer R F l x .line .cursor) (moveAnswer R F l x .line .cursor)
+  pub move-keeps : (x : MoveCall) → Within l (moveAnswer R (l .text) (l .line) x)
   move-keeps (asked.nextPos n) = stays noTests _ (answered-line (nextPos R t pos n))
   move-keeps (asked.copy m) = copy-stands (movementOf (m .mvt) (m .n) (m .at) (m .word) (m .search) (m .ch))
   move-keeps asked.isCursorAtEnd = stays noTests _ (tells-line (eqb pos (l .line .len)))
@@ -187,10 +200,10 @@ module _ (R : Repertoire) (F : Format) (l : Lent) (is : isText R (textOf l) ≡ 
 
     -- a movement that is refused changes nothing
     answer-keeps : (n : ℕ) (a : LineAnswer) → Stands a → Inv R F Q t₀ (leaves (movedBy R F l n a) s) g
-    answer-keeps zero a h = cursor-keeps (a .line .cursor) h
-    answer-keeps (suc zero) a h = cursor-keeps (a .line .cursor) h
+    answer-keeps zero a h = cursor-keeps (a .line .cursor) (h .place)
+    answer-keeps (suc zero) a h = cursor-keeps (a .line .cursor) (h .place)
     answer-keeps (suc (suc n)) a h = q
 
     -- a movement keeps the invariant
-    pub moved-keeps : (x : MoveCall) → Inv R F Q t₀ (leaves (movedBy R F l (moveAnswer R F l x .number) (moveAnswer R F l x)) s) g
-    moved-keeps x = answer-keeps (moveAnswer R F l x .number) (moveAnswer R F l x) (move-keeps x)
+    pub moved-keeps : (x : MoveCall) → Inv R F Q t₀ (leaves (outcomeOf R F l (asked.move x)) s) g
+    moved-keeps x = answer-keeps (moveAnswer R (l .text) (l .line) x .number) (moveAnswer R (l .text) (l .line) x) (move-keeps x)

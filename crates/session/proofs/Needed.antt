@@ -23,7 +23,7 @@ use Rattle.changeset.specs.Outcomes.{beginOut, endOut}
 use Rattle.edit.specs.Plan.{splice, textAfter, listAfter, tooLong, edited}
 use Rattle.retrace.specs.Retrace.{misfit, exchanging, undoing as Retrace·undoing}
 use Rattle.undo.specs.Undo.{walk, undoOut, redoOut}
-use Rattle.session.specs.Calls as calls
+use Rattle.calls.specs.Calls as calls
 use Rattle.session.proofs.Played.{state, lendingIn, asking, typing, beginning, ending, undoing, redoing, played, after}
 
 -- a letter, and a space, which is a record of its own

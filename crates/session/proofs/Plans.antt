@@ -1,6 +1,5 @@
 -- Every edit is a plan that suits the text, where the checks pass, and leaves the cursor between characters. Assumes nothing.
-use Prim.Native.Nat.{ℕ, _+_, _-_, _≤_}
-use native.Mathlib.Omega.{arith}
+use Prim.Native.Nat.{ℕ, _+_, _-_}
 use mathlib.Core.Path.{_≡_, refl}
 use mathlib.Core.Bool.{Bool, true, false, cond, not}
 use mathlib.Core.List.{List}
@@ -44,8 +43,8 @@ use Rattle.indent_plans.specs.IndentPlans.{indentPlan, linesIn}
 use Rattle.indents.specs.Indents.{indentTests, indentOf, indentBy}
 use Rattle.indent_plans.proofs.Suits.{indent-suits}
 use Rattle.indent_plans.proofs.Cursors.{plan-cursor}
-use Rattle.session.specs.Calls.{EditCall, editOutcome}
-use Rattle.session.specs.Calls as asked
+use Rattle.calls.specs.Calls.{EditCall, editOutcome}
+use Rattle.calls.specs.Calls as asked
 
 -- an outcome is that of a plan, tried by the call's own tests too; where all pass, the plan suits the text and its cursor stands between characters
 pub record Planned (R : Repertoire) (F : Format) (l : Lent) (o : Outcome State) : Type 0 where
@@ -146,7 +145,7 @@ module _ (R : Repertoire) (law : Lawful R) (space : R .member 0x20 ≡ true) (F 
   word-edited action.Unknown = unnamed
 
   -- ---- lines indented and dedented
-  module _ (amount : ℕ) (small : amount ≤ 255) where
+  module _ (amount : ℕ) where
     abbrev lines : Movement → List (List ℕ)
     lines mvt = linesIn t (touched R t pos mvt)
 
@@ -161,7 +160,7 @@ module _ (R : Repertoire) (law : Lawful R) (space : R .member 0x20 ≡ true) (F 
         by-plan (indentTests R t pos mvt amount dedent) (indentPlan R amount dedent pos (touched R t pos mvt .start) (lines mvt))
         (λ q.
         let s = whole mvt dedent (q .split) in
-        (indent-suits R space amount (omega arith) t pos v (i .2) (i .1) mvt dedent s, plan-cursor R space amount (omega arith) t pos v (i .2) (i .1) mvt dedent s))
+        (indent-suits R space amount t pos v (i .2) (i .1) mvt dedent s, plan-cursor R space amount t pos v (i .2) (i .1) mvt dedent s))
 
     -- by its codes
     indented-by : (dedent : Bool) (c : MovementCode) → Planned R F l (indentBy R F l amount dedent c)
@@ -189,4 +188,4 @@ module _ (R : Repertoire) (law : Lawful R) (space : R .member 0x20 ≡ true) (F 
   planned (asked.replace a b s) = replaced a b s
   planned (asked.deleteRange a b) = range-deleted a b
   planned (asked.kill c) = killed-by (movementOf (c .mvt) (c .n) (c .at) (c .word) (c .search) (c .ch))
-  planned (asked.indent c amount dedent) = indented-by (amount .spaces) (amount .byte) dedent (movementOf (c .mvt) (c .n) (c .at) (c .word) (c .search) (c .ch))
+  planned (asked.indent c amount dedent) = indented-by amount dedent (movementOf (c .mvt) (c .n) (c .at) (c .word) (c .search) (c .ch))

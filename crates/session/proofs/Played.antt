@@ -10,8 +10,8 @@ use Rattle.journal.specs.Layout.{narrow, encodeRecords, encodeTexts}
 use Rattle.changeset.specs.Calls.{row, logOf, truncateCall}
 use Rattle.edit.specs.Plan.{State}
 use Rattle.edit.specs.Calls.{Lent, lent, logLent}
-use Rattle.session.specs.Calls as calls
-use Rattle.session.specs.Calls.{Asked, loggedBy, outcomeOf}
+use Rattle.calls.specs.Calls as calls
+use Rattle.calls.specs.Calls.{Asked, loggedBy, outcomeOf}
 
 -- a text of len bytes with the cursor at a place
 abbrev pub at : ℕ → ℕ → Line
@@ -46,10 +46,10 @@ abbrev pub typing : ℕ → Doing
 typing c = asking (calls.edit (calls.insert c 1))
 
 abbrev pub beginning : Doing
-beginning = asking calls.begin
+beginning = asking (calls.log calls.begin)
 
 abbrev pub ending : Doing
-ending = asking calls.end
+ending = asking (calls.log calls.end)
 
 abbrev pub undoing : ℕ → Doing
 undoing n = asking (calls.undo n)

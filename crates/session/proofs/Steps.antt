@@ -1,4 +1,4 @@
--- Every call keeps the invariant, and so does every list of calls. Q is what holds of every text on the way. Assumes nothing.
+-- Every call keeps the invariant. Q is what holds of every text on the way. Assumes nothing.
 use Prim.Native.Nat.{ℕ, _≤_}
 use native.Mathlib.Omega.{arith}
 use mathlib.Core.Path.{_≡_, sym, ap, subst}
@@ -15,8 +15,10 @@ use Rattle.edit.specs.Plan.{Piece, made, State}
 use Rattle.edit.specs.Calls.{Lent, textOf, sizesOf, checked, stateOf}
 use Rattle.undo.specs.Undo.{undoOut, redoOut}
 use Rattle.cancel.specs.Cancel.{cancelOut}
-use Rattle.session.specs.Calls.{EditCall, editOutcome, Asked, edit, move, begin, end, lastInsert, undo, redo, cancel, outcomeOf}
-use Rattle.session.specs.Sessions.{Buffers, Handed, lentFor, Call, step, run, lastOf, openAfter, Allowed, Listed}
+use Rattle.calls.specs.Calls.{EditCall, editOutcome, Asked, edit, move, log, begin, end, lastInsert, undo, redo, cancel, outcomeOf}
+use Rattle.calls.specs.Contracts.{Buffers}
+use Rattle.session.specs.Runs.{Allowed}
+use Rattle.session.proofs.Values.{Handed, lentFor, openAfter}
 use Rattle.session.proofs.Invariant.{Bound, Chain, Inv}
 use Rattle.session.proofs.Handed.{found}
 use Rattle.session.proofs.Recorded.{New, plan-keeps}
@@ -89,9 +91,9 @@ module _ (R : Repertoire) (law : Lawful R) (space : R .member 0x20 ≡ true) (F 
     pub keeps : Bound Q (length (l .text)) → ((x : EditCall) → New Q (length (l .text)) (planOf x .plan .pieces) (textOf l)) → (a : Asked) → Allowed a g → Keeps R F Q t₀ a (outcomeOf R F l a) s g
     keeps b n (edit x) q = edit-keeps x (n x)
     keeps b n (move x) q = moved-keeps R F l (held .here .text) (held .cursor) len Q t₀ s g v is x
-    keeps b n begin q = begin-keeps R F Q t₀ l s g is v
-    keeps b n end q = end-keeps R F Q t₀ l s g is v
-    keeps b n lastInsert q = last-insert-keeps R F Q t₀ l s g is v
+    keeps b n (log begin) q = begin-keeps R F Q t₀ l s g is v
+    keeps b n (log end) q = end-keeps R F Q t₀ l s g is v
+    keeps b n (log lastInsert) q = last-insert-keeps R F Q t₀ l s g is v
     keeps b n (undo i) q =
         log-keeps (undo i) (undoOut (length (l .text)) i) (subst (Inv R F Q t₀ (leaves (undoOut (length (l .text)) i (stateOf R F l)) (stateOf R F l))) (sym q)
         (undo-keeps R F Q t₀ (length (l .text)) i (stateOf R F l) b (subst (Inv R F Q t₀ (stateOf R F l)) q held) .1))
@@ -100,7 +102,7 @@ module _ (R : Repertoire) (law : Lawful R) (space : R .member 0x20 ≡ true) (F 
         (redo-keeps R F Q t₀ (length (l .text)) i (stateOf R F l) b (subst (Inv R F Q t₀ (stateOf R F l)) q held) .1))
     keeps b n (cancel m) q = log-keeps (cancel m) (cancelOut (length (l .text)) m) (cancel-keeps R F Q t₀ (length (l .text)) m (stateOf R F l) g b held)
 
--- ---- a list of calls
+-- ---- a call of a run
 -- no longer than a buffer of so many bytes
 abbrev pub Short : ℕ → List ℕ → Type 0
 Short C t = length t ≤ C
@@ -109,20 +111,12 @@ new-short : (C : ℕ) (xs : List Piece) (t : List ℕ) → New (Short C) C xs t
 new-short C [] t = tt
 new-short C (x ∷ xs) t = ((λ h. h), new-short C xs (made x t))
 
-module _ (R : Repertoire) (law : Lawful R) (space : R .member 0x20 ≡ true) (F : Format) (t₀ : List ℕ) where
-  pub step-keeps : (b : Buffers) (c : Call) (s : State) (g : List ℕ) → Handed F b s (c .buffers) → Allowed (c .asked) g → Inv R F (Short (length (b .text))) t₀ s g
-      → Inv R F (Short (length (c .buffers .text))) t₀ (leaves (step R F c s) s) (openAfter (c .asked) (step R F c s) g)
-  step-keeps b c s g h q v =
-      let C = length (c .buffers .text) in
-      let l = lentFor F s (c .buffers) in
-      let w = inv-more R (Short (length (b .text))) (Short C) (λ t k. omega (arith, h .noSmaller .text)) F t₀ s g v in
-      let is = found R F (Short C) t₀ b s g w (c .buffers) h in
-      let len = ap length (sym (h .stored .text)) in
-      keeps R law space F (Short C) t₀ l s g is len w (λ t k. k) (λ x. new-short C (planOf R law space F (Short C) t₀ l s g is len w x .plan .pieces) (textOf l)) (c .asked) q
-
-  pub run-keeps : (cs : List Call) (b : Buffers) (s : State) (g : List ℕ) → Listed R F b cs s g → Inv R F (Short (length (b .text))) t₀ s g
-      → Inv R F (Short (length (lastOf b cs .text))) t₀ (run R F cs s) []
-  unfolding run
-  run-keeps [] b s g q v = subst (Inv R F (Short (length (b .text))) t₀ s) q v
-  run-keeps (c ∷ cs) b s g q v =
-      run-keeps cs (c .buffers) (leaves (step R F c s) s) (openAfter (c .asked) (step R F c s) g) (q .2) (step-keeps b c s g (q .0) (q .1) v)
+pub step-keeps : (R : Repertoire) → Lawful R → R .member 0x20 ≡ true → (F : Format) (t₀ : List ℕ) (b b′ : Buffers) (a : Asked) (s : State) (g : List ℕ) → Handed F b s b′ → Allowed a g → Inv R F (Short (length (b .text))) t₀ s g
+    → Inv R F (Short (length (b′ .text))) t₀ (leaves (outcomeOf R F (lentFor F s b′) a) s) (openAfter a (outcomeOf R F (lentFor F s b′) a) g)
+step-keeps R law space F t₀ b b′ a s g h q v =
+    let C = length (b′ .text) in
+    let l = lentFor F s b′ in
+    let w = inv-more R (Short (length (b .text))) (Short C) (λ t k. omega (arith, h .noSmaller .text)) F t₀ s g v in
+    let is = found R F (Short C) t₀ b s g w b′ h in
+    let len = ap length (sym (h .stored .text)) in
+    keeps R law space F (Short C) t₀ l s g is len w (λ t k. k) (λ x. new-short C (planOf R law space F (Short C) t₀ l s g is len w x .plan .pieces) (textOf l)) a q

@@ -14,7 +14,7 @@ use Rattle.journal.specs.Change.{Change, begin, end, edit}
 use Rattle.journal.specs.Layout.{Format}
 use Rattle.edit.specs.Plan.{State}
 use Rattle.undo.specs.Undo.{owed, Walked, walk, numberOf, trailOf, undoneState, undoWalk, undoOut, redoWalk, redoneState, behindNumber, redoOut}
-use Rattle.session.specs.Demand.{Units, SameTextAndLog}
+use Rattle.session.proofs.Values.{Units, SameTextAndLog}
 use Rattle.session.proofs.Invariant.{Nest, Open, Groups, Bound, Chain, Inv}
 use Rattle.session.proofs.Walks.{At, at-turned, Good, good, WalkedBack, walk-back, more, further, walk-cap, walk-lt, forget, walk-undone}
 
@@ -160,7 +160,7 @@ module _ (R : Repertoire) (F : Format) (Q : List ℕ → Type 0) (t₀ : List �
   one-cap C C′ s h h′ v = rw (walk-cap R F Q C C′ (v .goal) t₀ h h′ (s .log .redo) (s .log .undo) 0 0 (trailOf s) (at-turned R F Q (at s v)))
 
   -- in n units redone
-  redo-cap : (C C′ n : ℕ) (s : State) → Bound Q C → Bound Q C′ → Inv R F Q t₀ s [] → afterRedo C n s ≡ afterRedo C′ n s
+  pub redo-cap : (C C′ n : ℕ) (s : State) → Bound Q C → Bound Q C′ → Inv R F Q t₀ s [] → leaves (redoOut C n s) s ≡ leaves (redoOut C′ n s) s
   unfolding redoOut
   redo-cap C C′ zero s h h′ v = refl
   redo-cap C C′ (suc n) s h h′ v =
@@ -215,7 +215,7 @@ module _ (R : Repertoire) (F : Format) (Q : List ℕ → Type 0) (t₀ : List �
       ap (λ (i : ℕ). afterUndo C i s) e ∙ sym (sum C 1 (suc n) s h v (omega arith) (omega arith))
 
   -- an empty list stays empty
-  nothing-left : (C n : ℕ) (s : State) → s .log .undo ≡ [] → afterUndo C n s .log .undo ≡ []
+  pub nothing-left : (C n : ℕ) (s : State) → s .log .undo ≡ [] → leaves (undoOut C n s) s .log .undo ≡ []
   unfolding undoOut walk
   nothing-left C n s q = rw q
 

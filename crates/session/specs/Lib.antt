@@ -1,4 +1,3 @@
--- Calls as values, lists of calls, and what demand 3 says of them.
-pub mod Calls
-pub mod Sessions
-pub mod Demand
+-- Runs of the program, and what demand 3 says of them.
+pub mod Runs
+pub mod Demand3

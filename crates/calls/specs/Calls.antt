@@ -1,9 +1,11 @@
--- Every call of document 01, "The list of demand 3", as a value: an edit is a call of LineBuffer that may change the text, a movement one that changes
--- at most the cursor; begin, end, cancel, undo, redo and last_insert are the log's. What a call takes goes with it, fit or unfit, in the order of the entries for C.
-use Prim.Native.Nat.{ℕ, zero, suc, _≤_}
+-- Every call of document 01, "The list of demand 3", as a value, and what each comes to: the contracts of the entries for C say it by these values, and so
+-- does the theorem about runs. An edit is a call of LineBuffer that may change the text, a movement one that changes at most the cursor; the other calls are
+-- the log's. What a call takes goes with it, fit or unfit, in the order of the entries for C.
+use Prim.Native.Nat.{ℕ, zero, suc}
 use mathlib.Core.Bool.{Bool}
 use mathlib.Core.List.{List}
 use Rattle.unicode.specs.Repertoire.{Repertoire}
+use Rattle.checks.specs.declared.Line.{Line}
 use Rattle.checks.specs.declared.LineAnswer.{LineAnswer}
 use Rattle.checks.specs.Outcome.{Outcome, refused, answered}
 use Rattle.movement.specs.Moves as moves
@@ -23,7 +25,7 @@ use Rattle.indents.specs.Indents.{indentCall}
 use Rattle.undo.specs.Undo.{undoCall, redoCall}
 use Rattle.cancel.specs.Cancel.{cancelCall}
 
--- a movement by its numbers: mvt, n, at, word, search, ch
+-- a movement by its numbers
 pub record Codes : Type 0 where
   pub mvt : ℕ
   pub n : ℕ
@@ -32,10 +34,8 @@ pub record Codes : Type 0 where
   pub search : ℕ
   pub ch : ℕ
 
--- indent's amount is a byte
-pub record Amount : Type 0 where
-  pub spaces : ℕ
-  pub byte : spaces ≤ 255
+abbrev pub codes : ℕ → ℕ → ℕ → ℕ → ℕ → ℕ → Codes
+codes mvt n at word search ch = record { mvt = mvt; n = n; at = at; word = word; search = search; ch = ch }
 
 pub data EditCall : Type 0 where
   update : List ℕ → ℕ → EditCall
@@ -50,7 +50,7 @@ pub data EditCall : Type 0 where
   replace : ℕ → ℕ → List ℕ → EditCall
   deleteRange : ℕ → ℕ → EditCall
   kill : Codes → EditCall
-  indent : Codes → Amount → Bool → EditCall
+  indent : Codes → ℕ → Bool → EditCall
 
 pub data MoveCall : Type 0 where
   nextPos : ℕ → MoveCall
@@ -63,13 +63,45 @@ pub data MoveCall : Type 0 where
   moveToLineUp moveToLineDown : ℕ → ℕ → MoveCall
   moveTo : ℕ → ℕ → ℕ → MoveCall
 
+-- the calls of the log that are lent no text
+pub data LogCall : Type 0 where
+  begin end lastInsert : LogCall
+
 pub data Asked : Type 0 where
   edit : EditCall → Asked
   move : MoveCall → Asked
-  begin end lastInsert : Asked
+  log : LogCall → Asked
   undo redo cancel : ℕ → Asked
 
--- ---- what the call comes to, by the definition that the contract of its public function cites
+-- ---- what a call comes to
+-- a movement is lent a text to read, and answers a line
+module _ (R : Repertoire) (t : List ℕ) (line : Line) where
+  abbrev pub moveAnswer : MoveCall → LineAnswer
+  moveAnswer (nextPos n) = moves.nextPosCall R t line n
+  moveAnswer (copy m) = copyCall R t line (m .mvt) (m .n) (m .at) (m .word) (m .search) (m .ch)
+  moveAnswer isCursorAtEnd = moves.isCursorAtEnd R t line
+  moveAnswer isEndOfInput = moves.isEndOfInput R t line
+  moveAnswer (setPos pos) = moves.setPos R t line pos
+  moveAnswer (moveForward n) = moves.moveForward R t line n
+  moveAnswer (moveBackward n) = moves.moveBackward R t line n
+  moveAnswer moveBufferStart = moves.moveBufferStart R t line
+  moveAnswer moveBufferEnd = moves.moveBufferEnd R t line
+  moveAnswer moveHome = moves.moveHome R t line
+  moveAnswer moveEnd = moves.moveEnd R t line
+  moveAnswer (moveToPrevWord w n) = moves.moveToPrevWord R t line w n
+  moveAnswer (moveToNextWord at w n) = moves.moveToNextWord R t line at w n
+  moveAnswer (moveToLineUp n prompt) = moves.moveToLineUp R t line n prompt
+  moveAnswer (moveToLineDown n prompt) = moves.moveToLineDown R t line n prompt
+  moveAnswer (moveTo s c n) = moves.moveTo R t line s c n
+
+-- begin, end and last_insert are lent a log
+module _ (R : Repertoire) (F : Format) (l : logs.Lent) where
+  abbrev pub logOutcome : LogCall → Outcome Log
+  logOutcome begin = logs.beginCall R F l
+  logOutcome end = logs.endCall R F l
+  logOutcome lastInsert = logs.lastInsertCall R F l
+
+-- all others are lent text, line and log
 module _ (R : Repertoire) (F : Format) (l : Lent) where
   abbrev pub editOutcome : EditCall → Outcome State
   editOutcome (update s pos) = updateCall R F l s pos
@@ -91,43 +123,23 @@ module _ (R : Repertoire) (F : Format) (l : Lent) where
   editOutcome (replace a b s) = replaceCall R F l a b s
   editOutcome (deleteRange a b) = deleteRangeCall R F l a b
   editOutcome (kill m) = killCall R F l (m .mvt) (m .n) (m .at) (m .word) (m .search) (m .ch)
-  editOutcome (indent m amount dedent) = indentCall R F l (amount .spaces) dedent (m .mvt) (m .n) (m .at) (m .word) (m .search) (m .ch)
+  editOutcome (indent m amount dedent) = indentCall R F l amount dedent (m .mvt) (m .n) (m .at) (m .word) (m .search) (m .ch)
 
-  abbrev pub moveAnswer : MoveCall → LineAnswer
-  moveAnswer (nextPos n) = moves.nextPosCall R (l .text) (l .line) n
-  moveAnswer (copy m) = copyCall R (l .text) (l .line) (m .mvt) (m .n) (m .at) (m .word) (m .search) (m .ch)
-  moveAnswer isCursorAtEnd = moves.isCursorAtEnd R (l .text) (l .line)
-  moveAnswer isEndOfInput = moves.isEndOfInput R (l .text) (l .line)
-  moveAnswer (setPos pos) = moves.setPos R (l .text) (l .line) pos
-  moveAnswer (moveForward n) = moves.moveForward R (l .text) (l .line) n
-  moveAnswer (moveBackward n) = moves.moveBackward R (l .text) (l .line) n
-  moveAnswer moveBufferStart = moves.moveBufferStart R (l .text) (l .line)
-  moveAnswer moveBufferEnd = moves.moveBufferEnd R (l .text) (l .line)
-  moveAnswer moveHome = moves.moveHome R (l .text) (l .line)
-  moveAnswer moveEnd = moves.moveEnd R (l .text) (l .line)
-  moveAnswer (moveToPrevWord w n) = moves.moveToPrevWord R (l .text) (l .line) w n
-  moveAnswer (moveToNextWord at w n) = moves.moveToNextWord R (l .text) (l .line) at w n
-  moveAnswer (moveToLineUp n prompt) = moves.moveToLineUp R (l .text) (l .line) n prompt
-  moveAnswer (moveToLineDown n prompt) = moves.moveToLineDown R (l .text) (l .line) n prompt
-  moveAnswer (moveTo s c n) = moves.moveTo R (l .text) (l .line) s c n
-
-  -- a movement is lent the text to read: what its answer leaves is the cursor
+  -- what a movement's answer leaves is the cursor
   abbrev pub movedBy : ℕ → LineAnswer → Outcome State
   movedBy zero a = answered 0 (a .from) (a .to) (record { text = stateOf R F l .text; cursor = a .line .cursor; log = stateOf R F l .log })
   movedBy (suc zero) a = answered 1 (a .from) (a .to) (record { text = stateOf R F l .text; cursor = a .line .cursor; log = stateOf R F l .log })
   movedBy (suc (suc k)) a = refused (suc (suc k))
 
-  -- a call of the log is lent no text
+  -- what a log's outcome leaves is the log
   abbrev pub loggedBy : Outcome Log → Outcome State
   loggedBy (refused k) = refused k
   loggedBy (answered k a b g) = answered k a b (record { text = stateOf R F l .text; cursor = l .line .cursor; log = g })
 
   abbrev pub outcomeOf : Asked → Outcome State
   outcomeOf (edit x) = editOutcome x
-  outcomeOf (move x) = movedBy (moveAnswer x .number) (moveAnswer x)
-  outcomeOf begin = loggedBy (logs.beginCall R F (logLent l))
-  outcomeOf end = loggedBy (logs.endCall R F (logLent l))
-  outcomeOf lastInsert = loggedBy (logs.lastInsertCall R F (logLent l))
+  outcomeOf (move x) = movedBy (moveAnswer R (l .text) (l .line) x .number) (moveAnswer R (l .text) (l .line) x)
+  outcomeOf (log x) = loggedBy (logOutcome R F (logLent l) x)
   outcomeOf (undo n) = undoCall R F l n
   outcomeOf (redo n) = redoCall R F l n
   outcomeOf (cancel mark) = cancelCall R F l mark

@@ -1,0 +1,248 @@
+-- From the contract of each entry to what the next call is handed: the state that a call's outcome leaves stands in the bytes, the line and the log that it
+-- left, and in those that the next call is lent. Assumes nothing.
+use Prim.Native.Nat.{ℕ, zero, suc, _+_, _≤_}
+use native.Mathlib.Omega.{arith}
+use mathlib.Core.Path.{_≡_, refl, sym, ap, ap₂, subst, _∙_}
+use mathlib.Core.Bool.{false, cond}
+use mathlib.Core.List.{List, [], _∷_, map, reverse}
+use mathlib.Core.Option.{Option, some, none}
+use lib.Dec.{eqb, leb}
+use lib.ListN.{length, take, length-append, length-reverse}
+use Rattle.unicode.specs.Repertoire.{Repertoire}
+use Rattle.checks.specs.declared.Line.{Line}
+use Rattle.checks.specs.declared.LineAnswer.{LineAnswer}
+use Rattle.checks.specs.Outcome.{Outcome, refused, answered, called, numberIn, leaves}
+use Rattle.journal.specs.Change.{Change, turn}
+use Rattle.journal.specs.Layout.{Format, encodeRecords, encodeTexts}
+use Rattle.journal.specs.Groups as groups
+use Rattle.journal.specs.Undo.{Places, lastInsertAt}
+use Rattle.journal.proofs.Decode.{records-many}
+use Rattle.journal.proofs.Holds.{records-append, texts-append}
+use Rattle.changeset.specs.Calls as logs
+use Rattle.changeset.specs.Outcomes.{placesOut}
+use Rattle.changeset.specs.declared.Log.{Log}
+use Rattle.changeset.specs.declared.LogAnswer.{LogAnswer}
+use Rattle.changeset.specs.declared.Used.{Used}
+use Rattle.edit.specs.Plan.{State}
+use Rattle.edit.specs.Calls.{Lent, lent, logLent, textOf, stateOf, answerOf, Stored, Edited}
+use Rattle.edit.specs.declared.EditAnswer.{EditAnswer}
+use Rattle.calls.specs.Calls as asked
+use Rattle.calls.specs.Calls.{Asked, MoveCall, moveAnswer, movedBy, logOutcome, loggedBy, outcomeOf}
+use Rattle.calls.specs.Contracts.{Buffers, Meets}
+use Rattle.session.specs.Runs.{buffersOf, Step, left, usedRecords, usedTexts, SameText, SameLog, HandedOn, below, openAfter}
+use Rattle.session.specs.Demand3.{Emptied}
+use Rattle.session.proofs.Values as values
+use Rattle.session.proofs.Values.{Handed, lentFor, markIn}
+use Rattle.session.proofs.Moves.{Within}
+
+-- the state s stands in what was left
+pub record Stands (F : Format) (s : State) (l : Lent) : Type 0 where
+  pub stored : Stored F s (l .text) (l .records) (l .texts)
+  pub line : l .line ≡ record { len = length (s .text); cursor = s .cursor }
+  pub log : l .log ≡ logs.logOf F (s .log)
+
+-- ---- its bytes
+-- the used lengths of both lists together
+module _ (F : Format) (s : State) (g : Log) (e : g ≡ logs.logOf F (s .log)) where
+  abbrev us : List Change
+  us = reverse (s .log .undo)
+
+  abbrev rs : List Change
+  rs = map turn (s .log .redo)
+
+  records-length : g .undo .records + g .redo .records ≡ length (encodeRecords F (logs.row F (s .log)))
+  records-length = ap (λ (x : Log). x .undo .records + x .redo .records) e ∙ sym (ap length (records-append F us rs) ∙ length-append (encodeRecords F us) (encodeRecords F rs))
+
+  texts-length : g .undo .texts + g .redo .texts ≡ length (encodeTexts (logs.row F (s .log)))
+  texts-length = ap (λ (x : Log). x .undo .texts + x .redo .texts) e ∙ sym (ap length (texts-append us rs) ∙ length-append (encodeTexts us) (encodeTexts rs))
+
+module _ (F : Format) (s : State) (l : Lent) (h : Stands F s l) where
+  pub text-is : textOf l ≡ s .text
+  text-is = ap (λ (x : Line). take (x .len) (l .text)) (h .line) ∙ h .stored .text
+
+  pub records-are : usedRecords l ≡ encodeRecords F (logs.row F (s .log))
+  records-are = ap (λ (n : ℕ). take n (l .records)) (records-length F s (l .log) (h .log)) ∙ h .stored .log .records
+
+  pub texts-are : usedTexts l ≡ encodeTexts (logs.row F (s .log))
+  texts-are = ap (λ (n : ℕ). take n (l .texts)) (texts-length F s (l .log) (h .log)) ∙ h .stored .log .texts
+
+  -- with no record in the undo list its used lengths are 0
+  pub none-emptied : s .log .undo ≡ [] → Emptied l
+  none-emptied e = ap (λ (g : Log). g .undo) (h .log) ∙ ap (λ (u : List Change). logs.usedBy F (reverse u)) e
+
+  -- and the other way round
+  pub emptied-none : Emptied l → s .log .undo ≡ []
+  emptied-none e =
+      no-change (s .log .undo)
+      (omega (arith, ap (λ (g : Log). g .undo .records) (h .log), ap (λ (x : Used). x .records) e, records-many F (reverse (s .log .undo)), length-reverse (s .log .undo)))
+    where
+      no-change : (u : List Change) → length u ≤ 0 → u ≡ []
+      no-change [] k = refl
+      no-change (c ∷ u) k = absurd (omega arith)
+
+-- the same text stands in the same bytes
+pub same-text : (F : Format) (s s′ : State) (a b : Lent) → Stands F s a → Stands F s′ b → s′ .text ≡ s .text → SameText a b
+same-text F s s′ a b h k e =
+    record {
+      len = ap (λ (x : Line). x .len) (k .line) ∙ ap length e ∙ sym (ap (λ (x : Line). x .len) (h .line));
+      bytes = text-is F s′ b k ∙ e ∙ sym (text-is F s a h);
+    }
+
+-- and so does the same log
+pub same-log : (F : Format) (s s′ : State) (a b : Lent) → Stands F s a → Stands F s′ b → s′ .log ≡ s .log → SameLog a b
+same-log F s s′ a b h k e =
+    record {
+      state = k .log ∙ ap (logs.logOf F) e ∙ sym (h .log);
+      records = records-are F s′ b k ∙ ap (λ (g : groups.Log). encodeRecords F (logs.row F g)) e ∙ sym (records-are F s a h);
+      texts = texts-are F s′ b k ∙ ap (λ (g : groups.Log). encodeTexts (logs.row F g)) e ∙ sym (texts-are F s a h);
+    }
+
+-- ---- what is handed on
+module _ (F : Format) (s : State) (a b : Lent) (h : Stands F s a) (k : HandedOn a b) where
+  -- the state stands in it too
+  pub handed-stands : Stands F s b
+  handed-stands =
+      let line = k .line ∙ h .line in
+      let log = k .log .state ∙ h .log in
+      record {
+        stored =
+            record {
+              text = sym (ap (λ (x : Line). take (x .len) (b .text)) line) ∙ k .text .bytes ∙ text-is F s a h;
+              log =
+                  record {
+                    records = sym (ap (λ (n : ℕ). take n (b .records)) (records-length F s (b .log) log)) ∙ k .log .records ∙ records-are F s a h;
+                    texts = sym (ap (λ (n : ℕ). take n (b .texts)) (texts-length F s (b .log) log)) ∙ k .log .texts ∙ texts-are F s a h;
+                  };
+            };
+        line = line;
+        log = log;
+      }
+
+  -- it is what a list of calls on values hands on
+  pub handed-is : b ≡ lentFor F s (buffersOf b)
+  handed-is = ap₂ (λ (x : Line) (g : Log). lent (b .text) (b .records) (b .texts) x g) (handed-stands .line) (handed-stands .log)
+
+  pub handed-on : Handed F (buffersOf a) s (buffersOf b)
+  handed-on = record { stored = handed-stands .stored; noSmaller = k .noSmaller; sized = k .sized }
+
+-- ---- what a call leaves
+module _ (R : Repertoire) (F : Format) (s : State) (l : Lent) (h : Stands F s l) where
+  -- an edit, undo, redo, cancel
+  edited-leaves : (o : Outcome State) (r : EditAnswer) (t rb tb : List ℕ) → Edited F l o r t rb tb → Stands F (leaves o s) (lent t rb tb (r .line) (r .log))
+  edited-leaves (refused k) r t rb tb e =
+      record {
+        stored = rw (e .bytes .text, e .bytes .records, e .bytes .texts) (h .stored);
+        line = ap (λ (a : EditAnswer). a .line) (e .answer) ∙ h .line;
+        log = ap (λ (a : EditAnswer). a .log) (e .answer) ∙ h .log;
+      }
+  edited-leaves (answered k p q s′) r t rb tb e =
+      record { stored = e .bytes; line = ap (λ (a : EditAnswer). a .line) (e .answer); log = ap (λ (a : EditAnswer). a .log) (e .answer) }
+
+  -- begin, end: the text's buffer is not lent
+  logged-leaves : (o : Outcome groups.Log) (r : LogAnswer) (rb tb : List ℕ) → logs.Logged F (logLent l) o r rb tb → Stands F (leaves (loggedBy R F l o) s) (lent (l .text) rb tb (l .line) (r .log))
+  logged-leaves (refused k) r rb tb e =
+      record {
+        stored = rw (e .bytes .records, e .bytes .texts) (h .stored);
+        line = h .line;
+        log = ap (λ (a : LogAnswer). a .log) (e .answer) ∙ h .log;
+      }
+  logged-leaves (answered k p q g) r rb tb e =
+      let t = text-is F s l h in
+      record {
+        stored = record { text = subst (λ (x : List ℕ). take (length x) (l .text) ≡ x) (sym t) (h .stored .text); log = e .bytes };
+        line = ap (λ (n : ℕ). record { len = n; cursor = l .line .cursor }) (ap (λ (x : Line). x .len) (h .line) ∙ ap length (sym t));
+        log = ap (λ (a : LogAnswer). a .log) (e .answer);
+      }
+
+  module _ (is : stateOf R F l ≡ s) where
+    -- a movement: the cursor alone is another
+    moved : (a : LineAnswer) → Within l a → Stands F (record { text = stateOf R F l .text; cursor = a .line .cursor; log = stateOf R F l .log }) (lent (l .text) (l .records) (l .texts) (a .line) (l .log))
+    moved a w =
+        subst (λ (x : State). Stands F (record { text = x .text; cursor = a .line .cursor; log = x .log }) (lent (l .text) (l .records) (l .texts) (a .line) (l .log))) (sym is)
+        (record {
+          stored = record { text = h .stored .text; log = h .stored .log };
+          line = ap (λ (n : ℕ). record { len = n; cursor = a .line .cursor }) (w .len ∙ ap (λ (x : Line). x .len) (h .line));
+          log = h .log;
+        })
+
+    -- and a refusal changes nothing
+    moved-leaves : (n : ℕ) (a : LineAnswer) → a .number ≡ n → Within l a → Stands F (leaves (movedBy R F l n a) s) (lent (l .text) (l .records) (l .texts) (a .line) (l .log))
+    moved-leaves zero a e w = moved a w
+    moved-leaves (suc zero) a e w = moved a w
+    moved-leaves (suc (suc k)) a e w = record { stored = h .stored; line = w .kept k e ∙ h .line; log = h .log }
+
+    -- last_insert: the log's buffers are lent to read
+    read-leaves : (o : Outcome groups.Log) → leaves o (stateOf R F l .log) ≡ stateOf R F l .log → logs.Bytes F (logLent l) o (l .records) (l .texts)
+    read-leaves (refused k) e = record { records = refl; texts = refl }
+    read-leaves (answered k p q g) e = subst (λ (x : groups.Log). logs.Stored F x (l .records) (l .texts)) (sym (e ∙ ap (λ (x : State). x .log) is)) (h .stored .log)
+
+-- last_insert leaves the log as it was
+inserted-leaves : (n : ℕ) (p : Option Places) (g : groups.Log) → leaves (called n (placesOut p g)) g ≡ g
+inserted-leaves zero none g = refl
+inserted-leaves zero (some p) g = refl
+inserted-leaves (suc n) p g = refl
+
+module _ (R : Repertoire) (F : Format) where
+  -- in buffers that are as they were
+  same-stands : (s : State) (l : Lent) (t rb tb : List ℕ) (x : Line) (g : Log) → t ≡ l .text → rb ≡ l .records → tb ≡ l .texts → Stands F s (lent (l .text) (l .records) (l .texts) x g) → Stands F s (lent t rb tb x g)
+  same-stands s l t rb tb x g p q r h = rw (p, q, r) h
+
+  text-same : (s : State) (l : Lent) (t rb tb : List ℕ) (x : Line) (g : Log) → t ≡ l .text → Stands F s (lent (l .text) rb tb x g) → Stands F s (lent t rb tb x g)
+  text-same s l t rb tb x g p h = rw p h
+
+  -- undo, redo, cancel: the log's buffers are lent to read
+  pub walked-leaves : (s s′ : State) (l : Lent) (o : Outcome State) (r : EditAnswer) (b : Buffers) → Stands F s l
+      → Edited F l o r (b .text) (l .records) (l .texts) × (b .records ≡ l .records) × (b .texts ≡ l .texts) → leaves o s ≡ s′
+      → Stands F s′ (lent (b .text) (b .records) (b .texts) (r .line) (r .log))
+  walked-leaves s s′ l o r b h m e = rw (m .1, m .2) (subst (λ (x : State). Stands F x (lent (b .text) (l .records) (l .texts) (r .line) (r .log))) e (edited-leaves R F s l h o r (b .text) (l .records) (l .texts) (m .0)))
+
+  -- every call: what its outcome leaves stands in what it left
+  pub step-leaves : (s : State) (a : Asked) (x : Step a) → Stands F s (x .lent) → stateOf R F (x .lent) ≡ s
+      → ((y : MoveCall) → Within (x .lent) (moveAnswer R (x .lent .text) (x .lent .line) y)) → Meets R F a (x .lent) (x .answer) (x .after)
+      → Stands F (leaves (outcomeOf R F (x .lent) a) s) (left a x)
+  step-leaves s (asked.edit y) x h is w m = edited-leaves R F s (x .lent) h _ (x .answer) _ _ _ m
+  step-leaves s (asked.move y) x h is w m =
+      let r = moveAnswer R (x .lent .text) (x .lent .line) y in
+      same-stands _ (x .lent) _ _ _ _ _ (m .1 .text) (m .1 .records) (m .1 .texts)
+      (subst (λ (a : LineAnswer). Stands F (leaves (movedBy R F (x .lent) (r .number) r) s) (lent (x .lent .text) (x .lent .records) (x .lent .texts) (a .line) (x .lent .log))) (sym (m .0))
+      (moved-leaves R F s (x .lent) h is (r .number) r refl (w y)))
+  step-leaves s (asked.log asked.begin) x h is w m = text-same _ (x .lent) _ _ _ _ _ (m .1) (logged-leaves R F s (x .lent) h _ (x .answer) _ _ (m .0))
+  step-leaves s (asked.log asked.end) x h is w m = text-same _ (x .lent) _ _ _ _ _ (m .1) (logged-leaves R F s (x .lent) h _ (x .answer) _ _ (m .0))
+  step-leaves s (asked.log asked.lastInsert) x h is w m =
+      let l = x .lent in
+      let n = logs.checked R F (logLent l) false in
+      same-stands _ l _ _ _ _ _ (m .1 .text) (m .1 .records) (m .1 .texts)
+      (logged-leaves R F s l h (logOutcome R F (logLent l) asked.lastInsert) (x .answer) (l .records) (l .texts)
+      (record { answer = m .0; bytes = read-leaves R F s l h is (logOutcome R F (logLent l) asked.lastInsert) (inserted-leaves n (lastInsertAt (stateOf R F l .log .undo)) (stateOf R F l .log)) }))
+  step-leaves s (asked.undo n) x h is w m = walked-leaves s _ (x .lent) _ (x .answer) (x .after) h m refl
+  step-leaves s (asked.redo n) x h is w m = walked-leaves s _ (x .lent) _ (x .answer) (x .after) h m refl
+  step-leaves s (asked.cancel n) x h is w m = walked-leaves s _ (x .lent) _ (x .answer) (x .after) h m refl
+
+  -- ---- the groups that are open then, by the answers and by the outcomes
+  log-number : (l : Lent) (o : Outcome groups.Log) → logs.answerOf F (logLent l) o .number ≡ numberIn (loggedBy R F l o)
+  log-number l (refused k) = refl
+  log-number l (answered k p q g) = refl
+
+  log-mark : (l : Lent) (o : Outcome groups.Log) → logs.answerOf F (logLent l) o .from ≡ markIn (loggedBy R F l o)
+  log-mark l (refused k) = refl
+  log-mark l (answered k p q g) = refl
+
+  pub edit-number : (l : Lent) (o : Outcome State) → answerOf F l o .number ≡ numberIn o
+  edit-number l (refused k) = refl
+  edit-number l (answered k p q g) = refl
+
+  pub opened : (a : Asked) (x : Step a) (g : List ℕ) → Meets R F a (x .lent) (x .answer) (x .after) → openAfter a x g ≡ values.openAfter a (outcomeOf R F (x .lent) a) g
+  opened (asked.edit y) x g m = refl
+  opened (asked.move y) x g m = refl
+  opened (asked.log asked.begin) x g m =
+      let o = logOutcome R F (logLent (x .lent)) asked.begin in
+      ap₂ (λ (k i : ℕ). cond (leb k 1) (i ∷ g) g) (ap (λ (r : LogAnswer). r .number) (m .0 .answer) ∙ log-number (x .lent) o) (ap (λ (r : LogAnswer). r .from) (m .0 .answer) ∙ log-mark (x .lent) o)
+  opened (asked.log asked.end) x g m =
+      let o = logOutcome R F (logLent (x .lent)) asked.end in
+      ap (λ (k : ℕ). cond (leb k 1) [] g) (ap (λ (r : LogAnswer). r .number) (m .0 .answer) ∙ log-number (x .lent) o)
+  opened (asked.log asked.lastInsert) x g m = refl
+  opened (asked.undo n) x g m = refl
+  opened (asked.redo n) x g m = refl
+  opened (asked.cancel n) x g m =
+      let o = outcomeOf R F (x .lent) (asked.cancel n) in
+      ap (λ (k : ℕ). cond (eqb k 0) (below n g) g) (ap (λ (r : EditAnswer). r .number) (m .0 .answer) ∙ edit-number (x .lent) o)
