@@ -131,9 +131,21 @@ fn wholes() -> Vec<Whole> {
     rows.into_iter().flat_map(sized).collect()
 }
 
+/// What is done with all of a log in one call.
+#[derive(Clone, Copy, PartialEq)]
+enum Walk {
+    Undo,
+    Redo,
+    /// As a group that a Begin in front of it opens.
+    Cancel,
+}
+
 impl Whole {
-    fn list(&self) -> List {
+    fn list(&self, walk: Walk) -> List {
         let (mut list, words) = (List::default(), "box 12, no");
+        if walk == Walk::Cancel {
+            list.push(1, None, &[]);
+        }
         let [first, second] = self.places;
         let behind = if first < second { second + words.len() } else { second };
         let four = [(3, first), (3, behind), (4, first), (4, second)];
@@ -148,21 +160,30 @@ impl Whole {
         list
     }
 
-    /// All of it in one call, in nanoseconds a record: as the undo list undone (`back`), as the redo list redone.
-    fn check<'a>(&self, list: &'a List, back: bool) -> Check<'a> {
+    /// All of it in one call, in nanoseconds a record.
+    fn check<'a>(&self, list: &'a List, walk: Walk) -> Check<'a> {
         let all = used(list);
-        let log = if back { Log { undo: all, ..Log::default() } } else { Log { redo: all, ..Log::default() } };
+        let log = match walk {
+            Walk::Undo => Log { undo: all, ..Log::default() },
+            Walk::Redo => Log { redo: all, ..Log::default() },
+            Walk::Cancel => Log { undo: all, level: 1, ..Log::default() },
+        };
         let line = Line { len: self.text, cursor: 0 };
         let buffer = RefCell::new(vec![b'a'; self.text + 20]);
-        let call = if back { ffi::tlf_log_undo } else { ffi::tlf_log_redo };
         let check = move || {
             let mut text = buffer.borrow_mut();
             let (text, text_len) = (text.as_mut_ptr(), text.len());
             let (records, records_len) = (list.records.as_ptr(), list.records.len());
             let (texts, texts_len, log) = (list.texts.as_ptr(), list.texts.len(), black_box(log));
             // SAFETY: three buffers, each with its length.
-            let answer = unsafe { call(text, text_len, records, records_len, texts, texts_len, line, log, u16::MAX) };
-            let left = if back { answer.log.undo } else { answer.log.redo };
+            let answer = unsafe {
+                match walk {
+                    Walk::Undo => ffi::tlf_log_undo(text, text_len, records, records_len, texts, texts_len, line, log, u16::MAX),
+                    Walk::Redo => ffi::tlf_log_redo(text, text_len, records, records_len, texts, texts_len, line, log, u16::MAX),
+                    Walk::Cancel => ffi::tlf_log_cancel(text, text_len, records, records_len, texts, texts_len, line, log, 0),
+                }
+            };
+            let left = if walk == Walk::Redo { answer.log.redo } else { answer.log.undo };
             answer.number <= 1 && answer.line.len == line.len && left.records == 0
         };
         Check { call: Box::new(check), by: self.count }
@@ -170,16 +191,21 @@ impl Whole {
 }
 
 pub fn measure_undo() -> Vec<Figure> {
-    let both = |whole: Whole| {
-        let list = whole.list();
-        checks([true, false].map(|back| whole.check(&list, back)))
+    let three = |whole: Whole| {
+        let (list, group) = (whole.list(Walk::Undo), whole.list(Walk::Cancel));
+        let [undo, redo] = [Walk::Undo, Walk::Redo].map(|walk| whole.check(&list, walk));
+        if whole.groups {
+            let [undo, redo] = checks([undo, redo]);
+            return [undo, redo, Figure::NONE];
+        }
+        checks([undo, redo, whole.check(&group, Walk::Cancel)])
     };
-    wholes().into_iter().flat_map(both).collect()
+    wholes().into_iter().flat_map(three).collect()
 }
 
 pub fn print_undo(figures: &[Figure]) {
-    head("A whole log in one call, nanoseconds a record", &["log", "records", "undo", "redo"]);
-    for (whole, pair) in wholes().iter().zip(figures.chunks(2)) {
-        line(&[whole.name.into(), grouped(whole.count), figure(&pair[0]), figure(&pair[1])]);
+    head("A whole log in one call, nanoseconds a record", &["log", "records", "undo", "redo", "cancel"]);
+    for (whole, three) in wholes().iter().zip(figures.chunks(3)) {
+        line(&[whole.name.into(), grouped(whole.count), figure(&three[0]), figure(&three[1]), figure(&three[2])]);
     }
 }

@@ -126,6 +126,7 @@ fn more() -> Vec<Row> {
         Row::new("indent 1, a log of 71 bytes of records a line", LoggedLines, Indent, LINES, LINE_SIZES),
         Row::new("dedent 1, a log of 71 bytes of records a line", LoggedLines, Dedent, LINES, LINE_SIZES),
         Row::new("indent 1, lines of one newline", Newlines(Start), Indent, newlines, [512, 1_024, 2_047]),
+        Row::new("dedent 1, lines of one space", SpacedLines, Dedent, LINES, [512, 1_024, 2_047]),
         Row::new("undo of all units in one call, at the start", UnitsAtStart, UndoAll, UNITS, UNIT_SIZES),
         Row::new("undo of all units in one call, at both ends of 3,000", UnitsAtEndsOf3000, UndoAll, UNITS, UNIT_SIZES),
         Row::new("undo of 250 units in one call, at both ends", UnitsAtEndsOfText, UndoAll, BYTES, [960, 1_920, 3_840]),

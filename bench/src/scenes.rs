@@ -22,6 +22,8 @@ pub enum Scene {
     Lines,
     /// So many newlines.
     Newlines(Place),
+    /// So many lines of one space.
+    SpacedLines,
     /// A letter and marks, so many bytes.
     Marks(Place),
     /// One word of so many bytes.
@@ -119,6 +121,7 @@ pub fn scene<E: Editor>(scene: Scene, size: usize, session: &Session<E>) -> E {
             e
         }
         Newlines(place) => placed(&"\n".repeat(size), place),
+        SpacedLines => placed(&" \n".repeat(size), Start),
         Marks(place) => placed(&format!("e{}", "\u{301}".repeat((size - 1) / 2)), place),
         Word(place) => placed(&"a".repeat(size), place),
         Spaces => placed(&" ".repeat(size), Start),

@@ -1,16 +1,15 @@
 -- Every call of document 01, "The list of demand 3", as a value, and what each comes to: the contracts of the entries for C say it by these values, and so
 -- does the theorem about runs. An edit is a call of LineBuffer that may change the text, a movement one that changes at most the cursor; the other calls are
 -- the log's. What a call takes goes with it, fit or unfit, in the order of the entries for C.
-use Prim.Native.Nat.{ℕ, zero, suc}
+use Prim.Native.Nat.{ℕ}
 use mathlib.Core.Bool.{Bool}
 use mathlib.Core.List.{List}
 use Rattle.unicode.specs.Repertoire.{Repertoire}
 use Rattle.checks.specs.declared.Line.{Line}
-use Rattle.checks.specs.declared.LineAnswer.{LineAnswer}
 use Rattle.checks.specs.Outcome.{Outcome, refused, answered}
 use Rattle.movement.specs.Moves as moves
 use Rattle.copies.specs.Copy.{copyCall}
-use Rattle.journal.specs.Layout.{Format}
+use Rattle.formats.specs.declared.Format.{Format}
 use Rattle.journal.specs.Groups.{Log}
 use Rattle.changeset.specs.Calls as logs
 use Rattle.edit.specs.Plan.{State}
@@ -74,25 +73,25 @@ pub data Asked : Type 0 where
   undo redo cancel : ℕ → Asked
 
 -- ---- what a call comes to
--- a movement is lent a text to read, and answers a line
+-- a movement is lent a text to read
 module _ (R : Repertoire) (t : List ℕ) (line : Line) where
-  abbrev pub moveAnswer : MoveCall → LineAnswer
-  moveAnswer (nextPos n) = moves.nextPosCall R t line n
-  moveAnswer (copy m) = copyCall R t line (m .mvt) (m .n) (m .at) (m .word) (m .search) (m .ch)
-  moveAnswer isCursorAtEnd = moves.isCursorAtEnd R t line
-  moveAnswer isEndOfInput = moves.isEndOfInput R t line
-  moveAnswer (setPos pos) = moves.setPos R t line pos
-  moveAnswer (moveForward n) = moves.moveForward R t line n
-  moveAnswer (moveBackward n) = moves.moveBackward R t line n
-  moveAnswer moveBufferStart = moves.moveBufferStart R t line
-  moveAnswer moveBufferEnd = moves.moveBufferEnd R t line
-  moveAnswer moveHome = moves.moveHome R t line
-  moveAnswer moveEnd = moves.moveEnd R t line
-  moveAnswer (moveToPrevWord w n) = moves.moveToPrevWord R t line w n
-  moveAnswer (moveToNextWord at w n) = moves.moveToNextWord R t line at w n
-  moveAnswer (moveToLineUp n prompt) = moves.moveToLineUp R t line n prompt
-  moveAnswer (moveToLineDown n prompt) = moves.moveToLineDown R t line n prompt
-  moveAnswer (moveTo s c n) = moves.moveTo R t line s c n
+  abbrev pub moveOutcome : MoveCall → Outcome Line
+  moveOutcome (nextPos n) = moves.nextPosCall R t line n
+  moveOutcome (copy m) = copyCall R t line (m .mvt) (m .n) (m .at) (m .word) (m .search) (m .ch)
+  moveOutcome isCursorAtEnd = moves.isCursorAtEnd R t line
+  moveOutcome isEndOfInput = moves.isEndOfInput R t line
+  moveOutcome (setPos pos) = moves.setPos R t line pos
+  moveOutcome (moveForward n) = moves.moveForward R t line n
+  moveOutcome (moveBackward n) = moves.moveBackward R t line n
+  moveOutcome moveBufferStart = moves.moveBufferStart R t line
+  moveOutcome moveBufferEnd = moves.moveBufferEnd R t line
+  moveOutcome moveHome = moves.moveHome R t line
+  moveOutcome moveEnd = moves.moveEnd R t line
+  moveOutcome (moveToPrevWord w n) = moves.moveToPrevWord R t line w n
+  moveOutcome (moveToNextWord at w n) = moves.moveToNextWord R t line at w n
+  moveOutcome (moveToLineUp n prompt) = moves.moveToLineUp R t line n prompt
+  moveOutcome (moveToLineDown n prompt) = moves.moveToLineDown R t line n prompt
+  moveOutcome (moveTo s c n) = moves.moveTo R t line s c n
 
 -- begin, end and last_insert are lent a log
 module _ (R : Repertoire) (F : Format) (l : logs.Lent) where
@@ -125,11 +124,10 @@ module _ (R : Repertoire) (F : Format) (l : Lent) where
   editOutcome (kill m) = killCall R F l (m .mvt) (m .n) (m .at) (m .word) (m .search) (m .ch)
   editOutcome (indent m amount dedent) = indentCall R F l amount dedent (m .mvt) (m .n) (m .at) (m .word) (m .search) (m .ch)
 
-  -- what a movement's answer leaves is the cursor
-  abbrev pub movedBy : ℕ → LineAnswer → Outcome State
-  movedBy zero a = answered 0 (a .from) (a .to) (record { text = stateOf R F l .text; cursor = a .line .cursor; log = stateOf R F l .log })
-  movedBy (suc zero) a = answered 1 (a .from) (a .to) (record { text = stateOf R F l .text; cursor = a .line .cursor; log = stateOf R F l .log })
-  movedBy (suc (suc k)) a = refused (suc (suc k))
+  -- what a movement leaves is the cursor
+  abbrev pub movedBy : Outcome Line → Outcome State
+  movedBy (refused k) = refused k
+  movedBy (answered k a b line) = answered k a b (record { text = stateOf R F l .text; cursor = line .cursor; log = stateOf R F l .log })
 
   -- what a log's outcome leaves is the log
   abbrev pub loggedBy : Outcome Log → Outcome State
@@ -138,7 +136,7 @@ module _ (R : Repertoire) (F : Format) (l : Lent) where
 
   abbrev pub outcomeOf : Asked → Outcome State
   outcomeOf (edit x) = editOutcome x
-  outcomeOf (move x) = movedBy (moveAnswer R (l .text) (l .line) x .number) (moveAnswer R (l .text) (l .line) x)
+  outcomeOf (move x) = movedBy (moveOutcome R (l .text) (l .line) x)
   outcomeOf (log x) = loggedBy (logOutcome R F (logLent l) x)
   outcomeOf (undo n) = undoCall R F l n
   outcomeOf (redo n) = redoCall R F l n

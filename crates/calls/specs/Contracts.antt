@@ -4,12 +4,14 @@ use mathlib.Core.Path.{_≡_}
 use mathlib.Core.List.{List}
 use Rattle.unicode.specs.Repertoire.{Repertoire}
 use Rattle.checks.specs.declared.LineAnswer.{LineAnswer}
-use Rattle.journal.specs.Layout.{Format}
+use Rattle.checks.specs.Answers.{lineAnswer}
+use Rattle.formats.specs.declared.Format.{Format}
+use Rattle.formats.specs.Formats.{logFormat}
 use Rattle.changeset.specs.Calls.{Logged, answerOf}
 use Rattle.changeset.specs.declared.LogAnswer.{LogAnswer}
-use Rattle.edit.specs.Calls.{Lent, logLent, Same, Edited}
+use Rattle.edit.specs.Calls.{Lent, formatOf, logLent, Same, Edited}
 use Rattle.edit.specs.declared.EditAnswer.{EditAnswer}
-use Rattle.calls.specs.Calls.{Asked, edit, move, log, begin, end, lastInsert, undo, redo, cancel, moveAnswer, logOutcome, outcomeOf}
+use Rattle.calls.specs.Calls.{Asked, edit, move, log, begin, end, lastInsert, undo, redo, cancel, moveOutcome, logOutcome, outcomeOf}
 
 pub record Buffers : Type 0 where
   pub text : List ℕ
@@ -28,14 +30,26 @@ AnswerTo (undo n) = EditAnswer
 AnswerTo (redo n) = EditAnswer
 AnswerTo (cancel mark) = EditAnswer
 
--- what is lent, the answer and the bytes of the buffers afterwards. What an entry is lent to read, or is not lent, is as it was
+-- what is lent, the answer and the bytes of the buffers afterwards, in the format F. What an entry is lent to read, or is not lent, is as it was
 module _ (R : Repertoire) (F : Format) where
-  abbrev pub Meets : (a : Asked) → Lent → AnswerTo a → Buffers → Type 0
-  Meets (edit x) l r b = Edited F l (outcomeOf R F l (edit x)) r (b .text) (b .records) (b .texts)
-  Meets (move x) l r b = (r ≡ moveAnswer R (l .text) (l .line) x) × Same l (b .text) (b .records) (b .texts)
-  Meets (log begin) l r b = Logged F (logLent l) (logOutcome R F (logLent l) begin) r (b .records) (b .texts) × (b .text ≡ l .text)
-  Meets (log end) l r b = Logged F (logLent l) (logOutcome R F (logLent l) end) r (b .records) (b .texts) × (b .text ≡ l .text)
-  Meets (log lastInsert) l r b = (r ≡ answerOf F (logLent l) (logOutcome R F (logLent l) lastInsert)) × Same l (b .text) (b .records) (b .texts)
-  Meets (undo n) l r b = Edited F l (outcomeOf R F l (undo n)) r (b .text) (l .records) (l .texts) × (b .records ≡ l .records) × (b .texts ≡ l .texts)
-  Meets (redo n) l r b = Edited F l (outcomeOf R F l (redo n)) r (b .text) (l .records) (l .texts) × (b .records ≡ l .records) × (b .texts ≡ l .texts)
-  Meets (cancel mark) l r b = Edited F l (outcomeOf R F l (cancel mark)) r (b .text) (l .records) (l .texts) × (b .records ≡ l .records) × (b .texts ≡ l .texts)
+  abbrev pub MeetsIn : (a : Asked) → Lent → AnswerTo a → Buffers → Type 0
+  MeetsIn (edit x) l r b = Edited F l (outcomeOf R F l (edit x)) r (b .text) (b .records) (b .texts)
+  MeetsIn (move x) l r b = (r ≡ lineAnswer (l .line) (moveOutcome R (l .text) (l .line) x)) × Same l (b .text) (b .records) (b .texts)
+  MeetsIn (log begin) l r b = Logged F (logLent l) (logOutcome R F (logLent l) begin) r (b .records) (b .texts) × (b .text ≡ l .text)
+  MeetsIn (log end) l r b = Logged F (logLent l) (logOutcome R F (logLent l) end) r (b .records) (b .texts) × (b .text ≡ l .text)
+  MeetsIn (log lastInsert) l r b = (r ≡ answerOf F (logLent l) (logOutcome R F (logLent l) lastInsert)) × Same l (b .text) (b .records) (b .texts)
+  MeetsIn (undo n) l r b = Edited F l (outcomeOf R F l (undo n)) r (b .text) (l .records) (l .texts) × (b .records ≡ l .records) × (b .texts ≡ l .texts)
+  MeetsIn (redo n) l r b = Edited F l (outcomeOf R F l (redo n)) r (b .text) (l .records) (l .texts) × (b .records ≡ l .records) × (b .texts ≡ l .texts)
+  MeetsIn (cancel mark) l r b = Edited F l (outcomeOf R F l (cancel mark)) r (b .text) (l .records) (l .texts) × (b .records ≡ l .records) × (b .texts ≡ l .texts)
+
+-- the format of a call: the one that the text's buffer brings, or a log's that is lent without its text
+abbrev pub formatIn : Asked → Lent → Format
+formatIn (edit x) l = formatOf l
+formatIn (move x) l = formatOf l
+formatIn (log x) l = logFormat
+formatIn (undo n) l = formatOf l
+formatIn (redo n) l = formatOf l
+formatIn (cancel mark) l = formatOf l
+
+abbrev pub Meets : Repertoire → (a : Asked) → Lent → AnswerTo a → Buffers → Type 0
+Meets R a l r b = MeetsIn R (formatIn a l) a l r b

@@ -11,7 +11,7 @@ use Rattle.lists.proofs.Bools.{by-test, never}
 use Rattle.unicode.specs.Repertoire.{catalogue}
 use Rattle.checks.specs.Outcome.{Outcome, answered}
 use Rattle.journal.specs.Change.{Change, begin, end, edit, turn}
-use Rattle.journal.specs.Layout.{Format}
+use Rattle.formats.specs.declared.Format.{Format}
 use Rattle.journal.specs.Hold.{Holds}
 use Rattle.journal.proofs.Holds.{cleared}
 use Rattle.changeset.specs.declared.Log.{Log}

@@ -11,7 +11,8 @@ use borrow.Author.Tests.{eqb-true, eqb-false}
 use Rattle.lists.proofs.Bools.{and-both, by-test}
 use Rattle.unicode.specs.Repertoire.{Repertoire}
 use Rattle.journal.specs.Change.{Change, begin, end, edit, insert, delete, replace}
-use Rattle.journal.specs.Layout.{Format, kindOf, recordOf, encodeTexts, Layout}
+use Rattle.formats.specs.declared.Format.{Format}
+use Rattle.journal.specs.Layout.{kindOf, recordOf, encodeTexts, Layout}
 use Rattle.journal.specs.Undo.{undoRecords}
 use Rattle.journal.proofs.Decode.{record-pos}
 use Rattle.journal.proofs.Newest.{undo-reverse, undo-nil}

@@ -5,7 +5,8 @@ use mathlib.Core.Bool.{cond}
 use mathlib.Core.List.{List, reverse}
 use Rattle.unicode.specs.Repertoire.{catalogue}
 use Rattle.journal.specs.Change.{Change}
-use Rattle.journal.specs.Layout.{Format, Layout}
+use Rattle.formats.specs.declared.Format.{Format}
+use Rattle.journal.specs.Layout.{Layout}
 use Rattle.journal.specs.Hold.{Listed}
 use Rattle.retrace.specs.Records.{Noted}
 use Rattle.cancel.specs.Cancel.{opens, beginsDown}

@@ -5,9 +5,8 @@ ghost use mathlib.Core.Bool.{true};
 ghost use Prim.Native.Nat.{_≤_};
 ghost use lib.ListN.{length};
 ghost use Rattle.unicode.specs.Repertoire.{catalogue};
-ghost use Rattle.journal.specs.Layout.{narrow};
-ghost use Rattle.records.specs.Formats.{asFormat, Fit};
-ghost use Rattle.edit.specs.Calls.{lent, stateOf, Edited, Ready};
+ghost use Rattle.formats.specs.Formats.{Fit, recordsMax};
+ghost use Rattle.edit.specs.Calls.{lent, formatOf, stateOf, Edited, Ready};
 ghost use Rattle.retrace.specs.Records.{SizesOf};
 ghost use Rattle.cancel.specs.Cancel.{opens, beginsDown, cancelOut, cancelCall};
 ghost use Rattle.cancel.specs.Open.{NotedIn, OpenAt};
@@ -17,8 +16,9 @@ use edit::EditAnswer;
 use edit::Own;
 use edit::refusal;
 use edit::says;
-use records::Format;
-use records::NARROW;
+use formats::Format;
+use formats::RECORDS_MAX;
+use formats::format_for;
 use retrace::Step;
 use retrace::note_sizes;
 use undo::answer;
@@ -29,7 +29,7 @@ use undo::undo_record;
 // after it; else 0. The sizes of the records are noted.
 fn open_begins(records: &[u8], sizes: &[u8], count: usize, mark: usize) -> usize
     requires { ⌜ NotedIn (now records) count (now sizes) ⌝ }
-    requires { ⌜ (length (now records) ≤ length (now sizes)) × (length (now records) ≤ 32768) ⌝ }
+    requires { ⌜ (length (now records) ≤ length (now sizes)) × (length (now records) ≤ recordsMax) ⌝ }
     ensures { λ r. ⌜ OpenAt (now (records .entry)) count (now (sizes .entry)) mark r ⌝ }
 {
     let mut at = records.len();
@@ -64,14 +64,14 @@ fn cancel_noted(
     begins: usize,
 ) -> EditAnswer
     requires { ⌜ Fit f ⌝ }
-    requires { ⌜ Ready (asFormat f) (lent (now text) (now records) (now texts) line log) ⌝ }
+    requires { ⌜ Ready f (lent (now text) (now records) (now texts) line log) ⌝ }
     requires { ⌜ log .undo .records ≤ length (now sizes) ⌝ }
-    requires { ⌜ SizesOf (asFormat f) (now sizes) (stateOf catalogue (asFormat f) (lent (now text) (now records) (now texts) line log) .log .undo) ⌝ }
-    requires { ⌜ count ≡ length (stateOf catalogue (asFormat f) (lent (now text) (now records) (now texts) line log) .log .undo) ⌝ }
-    requires { ⌜ opens mark (stateOf catalogue (asFormat f) (lent (now text) (now records) (now texts) line log) .log .undo) ≡ true ⌝ }
-    requires { ⌜ begins ≡ beginsDown mark (stateOf catalogue (asFormat f) (lent (now text) (now records) (now texts) line log) .log .undo) ⌝ }
-    ensures outcome { λ r. ⌜ Edited (asFormat f) (lent (now (text .entry)) (now (records .entry)) (now (texts .entry)) line log)
-        (cancelOut (length (now (text .entry))) mark (stateOf catalogue (asFormat f) (lent (now (text .entry)) (now (records .entry)) (now (texts .entry)) line log)))
+    requires { ⌜ SizesOf f (now sizes) (stateOf catalogue f (lent (now text) (now records) (now texts) line log) .log .undo) ⌝ }
+    requires { ⌜ count ≡ length (stateOf catalogue f (lent (now text) (now records) (now texts) line log) .log .undo) ⌝ }
+    requires { ⌜ opens mark (stateOf catalogue f (lent (now text) (now records) (now texts) line log) .log .undo) ≡ true ⌝ }
+    requires { ⌜ begins ≡ beginsDown mark (stateOf catalogue f (lent (now text) (now records) (now texts) line log) .log .undo) ⌝ }
+    ensures outcome { λ r. ⌜ Edited f (lent (now (text .entry)) (now (records .entry)) (now (texts .entry)) line log)
+        (cancelOut (length (now (text .entry))) mark (stateOf catalogue f (lent (now (text .entry)) (now (records .entry)) (now (texts .entry)) line log)))
         r (now (text .exit)) (now (records .entry)) (now (texts .entry)) ⌝ }
     ensures still { λ r. ⌜ (r .log ≡ log → now (text .exit) ≡ now (text .entry)) ⌝ }
 {
@@ -92,12 +92,11 @@ fn cancel_noted(
         }
         left -= 1;
     }
-    let u = g.undo;
     let last = Line {
         len: s.len,
         cursor: s.cursor,
     };
-    says(0, last, g.cancel(u.records, u.texts, begins))
+    says(0, last, g.cancel(begins))
 }
 
 // cancel_group, with room to note the sizes of the undo list's records.
@@ -112,10 +111,10 @@ fn note_and_cancel(
     mark: usize,
 ) -> EditAnswer
     requires { ⌜ Fit f ⌝ }
-    requires { ⌜ Ready (asFormat f) (lent (now text) (now records) (now texts) line log) ⌝ }
+    requires { ⌜ Ready f (lent (now text) (now records) (now texts) line log) ⌝ }
     requires { ⌜ log .undo .records ≤ length (now sizes) ⌝ }
-    ensures outcome { λ r. ⌜ Edited (asFormat f) (lent (now (text .entry)) (now (records .entry)) (now (texts .entry)) line log)
-        (cancelOut (length (now (text .entry))) mark (stateOf catalogue (asFormat f) (lent (now (text .entry)) (now (records .entry)) (now (texts .entry)) line log)))
+    ensures outcome { λ r. ⌜ Edited f (lent (now (text .entry)) (now (records .entry)) (now (texts .entry)) line log)
+        (cancelOut (length (now (text .entry))) mark (stateOf catalogue f (lent (now (text .entry)) (now (records .entry)) (now (texts .entry)) line log)))
         r (now (text .exit)) (now (records .entry)) (now (texts .entry)) ⌝ }
     ensures still { λ r. ⌜ (r .log ≡ log → now (text .exit) ≡ now (text .entry)) ⌝ }
 {
@@ -152,9 +151,9 @@ fn cancel_group(
     mark: usize,
 ) -> EditAnswer
     requires { ⌜ Fit f ⌝ }
-    requires { ⌜ Ready (asFormat f) (lent (now text) (now records) (now texts) line log) ⌝ }
-    ensures outcome { λ r. ⌜ Edited (asFormat f) (lent (now (text .entry)) (now (records .entry)) (now (texts .entry)) line log)
-        (cancelOut (length (now (text .entry))) mark (stateOf catalogue (asFormat f) (lent (now (text .entry)) (now (records .entry)) (now (texts .entry)) line log)))
+    requires { ⌜ Ready f (lent (now text) (now records) (now texts) line log) ⌝ }
+    ensures outcome { λ r. ⌜ Edited f (lent (now (text .entry)) (now (records .entry)) (now (texts .entry)) line log)
+        (cancelOut (length (now (text .entry))) mark (stateOf catalogue f (lent (now (text .entry)) (now (records .entry)) (now (texts .entry)) line log)))
         r (now (text .exit)) (now (records .entry)) (now (texts .entry)) ⌝ }
     ensures still { λ r. ⌜ (r .log ≡ log → now (text .exit) ≡ now (text .entry)) ⌝ }
 {
@@ -163,7 +162,7 @@ fn cancel_group(
         let mut few = [0u8; 1024];
         return note_and_cancel(f, text, records, texts, &mut few, line, log, mark);
     }
-    let mut sizes = [0u8; 32768];
+    let mut sizes = [0u8; RECORDS_MAX];
     note_and_cancel(f, text, records, texts, &mut sizes, line, log, mark)
 }
 
@@ -177,14 +176,15 @@ pub fn cancel(
     log: Log,
     mark: usize,
 ) -> EditAnswer
-    ensures outcome { λ r. ⌜ Edited narrow (lent (now (text .entry)) (now (records .entry)) (now (texts .entry)) line log)
-        (cancelCall catalogue narrow (lent (now (text .entry)) (now (records .entry)) (now (texts .entry)) line log) mark)
+    ensures outcome { λ r. ⌜ Edited (formatOf (lent (now (text .entry)) (now (records .entry)) (now (texts .entry)) line log)) (lent (now (text .entry)) (now (records .entry)) (now (texts .entry)) line log)
+        (cancelCall catalogue (formatOf (lent (now (text .entry)) (now (records .entry)) (now (texts .entry)) line log)) (lent (now (text .entry)) (now (records .entry)) (now (texts .entry)) line log) mark)
         r (now (text .exit)) (now (records .entry)) (now (texts .entry)) ⌝ }
     ensures still { λ r. ⌜ (r .log ≡ log → now (text .exit) ≡ now (text .entry)) ⌝ }
 {
-    let k = refusal(NARROW, text, records, texts, line, log, Own::none());
+    let f = format_for(text.len());
+    let k = refusal(f, text, records, texts, line, log, Own::none());
     if k != 0 {
         return says(k, line, log);
     }
-    cancel_group(NARROW, text, records, texts, line, log, mark)
+    cancel_group(f, text, records, texts, line, log, mark)
 }

@@ -10,7 +10,8 @@ use Rattle.unicode.specs.Repertoire.{Repertoire}
 use Rattle.checks.specs.Outcome.{Outcome, refused, answered, called}
 use Rattle.checks.proofs.Outcomes.{called-refused, called-passed}
 use Rattle.journal.specs.Change.{Change, turn}
-use Rattle.journal.specs.Layout.{Format, encodeRecords, encodeTexts}
+use Rattle.formats.specs.declared.Format.{Format}
+use Rattle.journal.specs.Layout.{encodeRecords, encodeTexts}
 use Rattle.journal.specs.Hold.{Holds}
 use Rattle.journal.specs.Groups as groups
 use Rattle.journal.specs.Undo.{fits}

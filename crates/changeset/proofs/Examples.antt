@@ -9,7 +9,7 @@ use Rattle.unicode.specs.Repertoire.{catalogue, isAlnum, isControl, isMark}
 use Rattle.cluster.specs.Clusters.{clusters, joined}
 use Rattle.checks.specs.Outcome.{refused, answered}
 use Rattle.journal.specs.Change.{Change, begin, end, edit, insert, delete, replace}
-use Rattle.journal.specs.Layout.{narrow}
+use Rattle.formats.specs.Formats.{formatFor, logFormat}
 use Rattle.journal.specs.Recording.{note, recordInsert, recordInsertStr, recordDelete, recordReplace}
 use Rattle.journal.specs.Groups.{Log, empty, endAll, endsAny}
 use Rattle.journal.specs.Undo.{Sizes, undoRecords, undoTexts, allSmall, fits, lastInsertAt}
@@ -34,21 +34,21 @@ abbrev redoable : List Change → Log
 redoable u = record { undo = u; redo = end ∷ []; level = 1 }
 
 -- new: the value of its contract is the state of the empty log, with level 0 and used lengths 0
-new-empty : logOf narrow empty ≡ record { undo = record { records = 0; texts = 0 }; redo = record { records = 0; texts = 0 }; level = 0 }
+new-empty : logOf logFormat empty ≡ record { undo = record { records = 0; texts = 0 }; redo = record { records = 0; texts = 0 }; level = 0 }
 new-empty = refl
 
 -- begin: not 10 while there is space, and its mark is the number of records before it
-begin-fits : (beginOut narrow (room 1 0) empty ≡ answered 0 0 0 (record { undo = begin ∷ []; redo = []; level = 1 })) × (beginOut narrow (room 0 0) empty ≡ refused 10)
-unfolding beginOut fits allSmall undoRecords undoTexts
+begin-fits : (beginOut logFormat (room 1 0) empty ≡ answered 0 0 0 (record { undo = begin ∷ []; redo = []; level = 1 })) × (beginOut logFormat (room 0 0) empty ≡ refused 10)
+unfolding formatFor beginOut fits allSmall undoRecords undoTexts
 begin-fits = (refl, refl)
 
 -- end: the level is reset, and an empty group is not closed by an End
-end-closes : endOut narrow (room 6 1) (redoable (edit (insert 0 a) ∷ [])) ≡ answered 0 0 0 (record { undo = end ∷ edit (insert 0 a) ∷ []; redo = []; level = 0 })
-unfolding endOut endAll endsAny fits allSmall undoRecords undoTexts
+end-closes : endOut logFormat (room 6 1) (redoable (edit (insert 0 a) ∷ [])) ≡ answered 0 0 0 (record { undo = end ∷ edit (insert 0 a) ∷ []; redo = []; level = 0 })
+unfolding formatFor endOut endAll endsAny fits allSmall undoRecords undoTexts
 end-closes = refl
 
-end-empty : endOut narrow (room 2 0) (redoable (begin ∷ [])) ≡ answered 1 0 0 empty
-unfolding endOut endAll endsAny fits allSmall undoRecords undoTexts
+end-empty : endOut logFormat (room 2 0) (redoable (begin ∷ [])) ≡ answered 1 0 0 empty
+unfolding formatFor endOut endAll endsAny fits allSmall undoRecords undoTexts
 end-empty = refl
 
 -- insert: a letter is merged with the letter before it, a space is not, and not across a Begin
@@ -65,8 +65,8 @@ unfolding recordInsert note encode isAlnum within
 insert-begin = refl
 
 -- insert_str: of an empty text nothing but the redo list dropped, and no merging
-str-empty : recordOut narrow (room 1 0) (recordInsertStr 0 [] []) (redoable []) ≡ answered 0 0 0 (record { undo = []; redo = []; level = 1 })
-unfolding recordOut recordInsertStr fits allSmall undoRecords undoTexts
+str-empty : recordOut logFormat (room 1 0) (recordInsertStr 0 [] []) (redoable []) ≡ answered 0 0 0 (record { undo = []; redo = []; level = 1 })
+unfolding formatFor recordOut recordInsertStr fits allSmall undoRecords undoTexts
 str-empty = refl
 
 str-apart : recordInsertStr 1 b (edit (insert 0 a) ∷ []) ≡ edit (insert 1 b) ∷ edit (insert 0 a) ∷ []

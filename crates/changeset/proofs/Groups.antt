@@ -13,7 +13,8 @@ use Rattle.lists.proofs.Stores.{take-sets}
 use Rattle.unicode.specs.Repertoire.{catalogue}
 use Rattle.checks.specs.Outcome.{answered}
 use Rattle.journal.specs.Change.{insert, delete, replace, Change, begin, end, edit, turn}
-use Rattle.journal.specs.Layout.{Format, encodeRecords, encodeTexts, Layout}
+use Rattle.formats.specs.declared.Format.{Format}
+use Rattle.journal.specs.Layout.{encodeRecords, encodeTexts, Layout}
 use Rattle.journal.specs.Hold.{Holds, Listed}
 use Rattle.journal.specs.Groups as groups
 use Rattle.journal.specs.Groups.{isBegin, isEnd, passed}

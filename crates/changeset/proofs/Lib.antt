@@ -5,3 +5,4 @@ pub mod Recorded
 pub mod Groups
 pub mod Single
 pub mod Examples
+pub mod Formats

@@ -12,8 +12,10 @@ use borrow.Author.Tests.{ltb-false}
 use Rattle.lists.proofs.Bools.{never, or-none}
 use Rattle.unicode.specs.Repertoire.{catalogue}
 use Rattle.journal.specs.Change.{Change}
-use Rattle.journal.specs.Layout.{Format, top, decode, isSome}
-use Rattle.journal.proofs.Numbers.{Bytes}
+use Rattle.formats.specs.Formats.{Fit}
+use Rattle.formats.specs.declared.Format.{Format}
+use Rattle.journal.specs.Layout.{decode, isSome}
+use Rattle.numbers.proofs.Numbers.{Bytes}
 use Rattle.journal.proofs.Sound.{decode-sound}
 use Rattle.journal.proofs.Holds.{holds}
 use Rattle.checks.specs.Checks.{both, refusal, ownTests}
@@ -36,25 +38,25 @@ some-is none e = never _ true refl e
 some-is (some cs) e = refl
 
 -- check 2 in its parts
-pub record Sized (l : Lent) : Type 0 where
-  pub records : length (l .records) ≤ 32768
-  pub texts : length (l .texts) ≤ 65535
+pub record Sized (F : Format) (l : Lent) : Type 0 where
+  pub records : length (l .records) ≤ F .records
+  pub texts : length (l .texts) ≤ F .texts
   pub room : l .log .undo .records + l .log .redo .records ≤ length (l .records)
   pub space : l .log .undo .texts + l .log .redo .texts ≤ length (l .texts)
 
-pub sized : (l : Lent) → overSizes (l .log) (l .records) (l .texts) ≡ false → Sized l
+pub sized : (F : Format) (l : Lent) → overSizes F (l .log) (l .records) (l .texts) ≡ false → Sized F l
 unfolding overSizes
-sized l e =
-    let a = or-none (ltb 32768 (length (l .records))) _ e in
-    let b = or-none (ltb 65535 (length (l .texts))) _ (a .1) in
+sized F l e =
+    let a = or-none (ltb (F .records) (length (l .records))) _ e in
+    let b = or-none (ltb (F .texts) (length (l .texts))) _ (a .1) in
     let c = or-none (ltb (length (l .records)) (l .log .undo .records + l .log .redo .records)) _ (b .1) in
     record { records = ltb-false _ _ (a .0); texts = ltb-false _ _ (b .0); room = ltb-false _ _ (c .0); space = ltb-false _ _ (c .1) }
 
-pub ready : (F : Format) (l : Lent) → Bytes (l .records) → 65535 < top (F .width) → overSizes (l .log) (l .records) (l .texts) ≡ false
+pub ready : (F : Format) (l : Lent) → Bytes (l .records) → Fit F → overSizes F (l .log) (l .records) (l .texts) ≡ false
     → damaged catalogue F (l .log) (l .records) (l .texts) ≡ false → Ready F l
 unfolding damaged undos redos
 ready F l b w e d =
-    let s = sized l e in
+    let s = sized F l e in
     let u = l .log .undo in
     let r = l .log .redo in
     let r1 = take (u .records) (l .records) in
@@ -64,9 +66,9 @@ ready F l b w e d =
     let x = or-none (ltb 255 (l .log .level)) _ d in
     let y = or-none (broken catalogue F r1 t1) (broken catalogue F r2 t2) (x .1) in
     record {
+      fit = w;
       records = s .records;
       texts = s .texts;
-      wide = w;
       level = ltb-false _ _ (x .0);
       hold =
           holds catalogue F (l .records) (l .texts) (u .records) (u .texts) (r .records) (r .texts) (orNil (decode catalogue F r1 t1)) (orNil (decode catalogue F r2 t2)) (s .room) (s .space)
@@ -83,11 +85,11 @@ module _ (F : Format) (l : Lent) (foreign : Bool) where
   abbrev number : ℕ
   number = refusal (both (logTests catalogue F (l .log) (l .records) (l .texts)) (ownTests false foreign false))
 
-  pub says-sizes : overSizes (l .log) (l .records) (l .texts) ≡ true → 2 ≡ number
+  pub says-sizes : overSizes F (l .log) (l .records) (l .texts) ≡ true → 2 ≡ number
   unfolding refusal
   says-sizes e = rw e
 
-  module _ (fine : overSizes (l .log) (l .records) (l .texts) ≡ false) where
+  module _ (fine : overSizes F (l .log) (l .records) (l .texts) ≡ false) where
     pub says-foreign : foreign ≡ true → 4 ≡ number
     unfolding refusal
     says-foreign e = rw (fine, e)

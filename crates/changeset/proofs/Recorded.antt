@@ -8,16 +8,18 @@ use lib.ListN.{length, take}
 use lib.Seq.{length-take-le}
 use Rattle.unicode.specs.Repertoire.{catalogue}
 use Rattle.journal.specs.Change.{Edit, Change, edit, place, old, new}
-use Rattle.journal.specs.Layout.{Format, top, okChange, AllGood, Layout}
+use Rattle.numbers.specs.Numbers.{top}
+use Rattle.formats.specs.declared.Format.{Format}
+use Rattle.journal.specs.Layout.{okChange, AllGood, Layout}
 use Rattle.journal.specs.Recording.{note}
 use Rattle.journal.specs.Hold.{Holds, Listed}
 use Rattle.journal.specs.Undo.{undoRecords, undoTexts, fits}
 use Rattle.journal.proofs.Holds.{front, cleared}
 use Rattle.journal.proofs.Undo.{good-newest, fits-yes}
-use Rattle.recording.specs.Tails.{kindNumber, tailOf, tailFor, TailFor, noted, Narrow, Wrote}
+use Rattle.recording.specs.Tails.{kindNumber, tailOf, tailFor, TailFor, noted, InRange, Wrote}
 use Rattle.recording.specs.declared.Tail.{Tail}
 use Rattle.recording.specs.declared.Noted.{Noted}
-use Rattle.recording.proofs.Joins.{noted-for, narrow-for}
+use Rattle.recording.proofs.Joins.{noted-for, in-range-for}
 use Rattle.recording.proofs.Numbers.{kind-low, tail-records, tail-texts, tail-within, tail-place}
 use Rattle.recording.proofs.Put.{Put, put, put-holds, put-kind, put-size, put-texts, room-yes, no-records, no-texts, no-place}
 use Rattle.records.specs.Written.{editSize}
@@ -81,10 +83,10 @@ module _ (F : Format) (l : Lent) (h : Ready F l) where
       tail-is = is-tail (take (l .log .undo .texts) (l .texts)) (undos catalogue F l) lays (sym (length-take-le (l .log .undo .texts) (l .texts) (omega (arith, h .hold .space))))
 
       -- the dry run's numbers are small
-      pub narrow : l .log .undo .texts + (length o + length n) ≤ length (l .texts) → 0 < top (F .width) → top (F .width) ≤ 4294967296 → Narrow t (length o) (length n)
-      narrow a w v =
+      pub in-range : l .log .undo .texts + (length o + length n) ≤ length (l .texts) → 0 < top (F .width) → top (F .width) ≤ 4294967296 → InRange t (length o) (length n)
+      in-range a w v =
           rw tail-is
-          (narrow-for j (tailOf F u) (length o) (length n)
+          (in-range-for j (tailOf F u) (length o) (length n)
           (record {
             records = omega (arith, tail-records F u, records-used, h .hold .room, h .records);
             texts = omega (arith, tail-texts F u, texts-used, h .hold .space, h .texts);
@@ -127,6 +129,6 @@ module _ (F : Format) (l : Lent) (h : Ready F l) where
             let w' : Wrote F m (l .log .undo .texts) (old x) (new x) (l .records) (l .texts) rb tb =
             subst (λ (s : List ℕ). Wrote F m (l .log .undo .texts) s (new x) (l .records) (l .texts) rb tb) (sym (d .old)) (subst (λ (s : List ℕ). Wrote F m (l .log .undo .texts) o s (l .records) (l .texts) rb tb) (sym (d .new)) w) in
             log-takes catalogue F l (note j x u) (valueOf catalogue F l) rb tb (m .tail .records) (m .tail .texts)
-            (room-yes F x u (note j x u) m is-put (sizesOf l) catalogue good ok c (omega (arith, h .texts, h .wide)) b (omega (arith, z, texts-used, lengths)))
+            (room-yes F x u (note j x u) m is-put (sizesOf l) catalogue good ok c (omega (arith, h .texts, h .fit .lengths)) b (omega (arith, z, texts-used, lengths)))
             (put-holds catalogue F (l .records) (l .texts) rb tb (l .log .undo .records) (l .log .undo .texts) (l .log .redo .records) (l .log .redo .texts) x u (redos catalogue F l) (note j x u) m holding is-put ok w'
-            b e (omega (arith, z, texts-used, lengths)) c (omega (arith, h .texts, h .wide)))
+            b e (omega (arith, z, texts-used, lengths)) c (omega (arith, h .texts, h .fit .lengths)))

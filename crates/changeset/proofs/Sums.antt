@@ -9,7 +9,8 @@ use lib.Dec.{ltb}
 use lib.ListN.{take, drop}
 use Rattle.lists.proofs.Bools.{by-less}
 use Rattle.unicode.specs.Repertoire.{Repertoire}
-use Rattle.journal.specs.Layout.{Format, decode, isSome}
+use Rattle.formats.specs.declared.Format.{Format}
+use Rattle.journal.specs.Layout.{decode, isSome}
 
 -- a sum that need not fit a machine's number
 pub over-sum : (len a b : ℕ) → a ≤ len → ltb (len - a) b ≡ ltb len (a + b)

@@ -1,6 +1,6 @@
 -- The calls of Changeset on lent bytes: the checks in number order, what the call makes of the log that the bytes hold, and the bytes that hold what
 -- it leaves.
-use Prim.Native.Nat.{ℕ, _≤_, _<_}
+use Prim.Native.Nat.{ℕ, _≤_}
 use mathlib.Core.Path.{_≡_}
 use mathlib.Core.Bool.{Bool, cond, false, not, _||_}
 use mathlib.Core.List.{List, [], _++_, map, reverse}
@@ -12,7 +12,9 @@ use Rattle.unicode.specs.Text.{isText, isChar}
 use Rattle.checks.specs.Checks.{both, refusal, ownTests}
 use Rattle.checks.specs.Outcome.{Outcome, refused, answered, called}
 use Rattle.journal.specs.Change.{Edit, insert, delete, replace, Change, turn, place, old, new}
-use Rattle.journal.specs.Layout.{Format, top, encodeRecords, encodeTexts, decode}
+use Rattle.formats.specs.declared.Format.{Format}
+use Rattle.formats.specs.Formats.{Fit}
+use Rattle.journal.specs.Layout.{encodeRecords, encodeTexts, decode}
 use Rattle.journal.specs.Recording.{recordInsert, recordInsertStr, recordDelete, recordReplace}
 use Rattle.journal.specs.Hold.{Holds}
 use Rattle.journal.specs.Groups as groups
@@ -125,9 +127,9 @@ module _ (R : Repertoire) (F : Format) where
 
 -- ---- what holds where the checks pass
 pub record Ready (F : Format) (l : Lent) : Type 0 where
-  pub records : length (l .records) ≤ 32768
-  pub texts : length (l .texts) ≤ 65535
-  pub wide : 65535 < top (F .width)
+  pub fit : Fit F
+  pub records : length (l .records) ≤ F .records
+  pub texts : length (l .texts) ≤ F .texts
   pub level : l .log .level ≤ 255
   pub hold : Holds catalogue F (l .records) (l .texts) (l .log .undo .records) (l .log .undo .texts) (l .log .redo .records) (l .log .redo .texts) (undos catalogue F l) (redos catalogue F l)
 

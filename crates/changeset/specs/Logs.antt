@@ -5,16 +5,17 @@ use mathlib.Core.List.{List}
 use lib.Dec.{ltb}
 use lib.ListN.{length, take, drop}
 use Rattle.unicode.specs.Repertoire.{Repertoire}
+use Rattle.formats.specs.declared.Format.{Format}
 use Rattle.journal.specs.Layout as layout
-use Rattle.checks.specs.Checks.{Tests}
+use Rattle.checks.specs.Checks.{Tests, noTests, withSizes, withDamaged}
 use Rattle.changeset.specs.declared.Log.{Log}
 
--- 2: records buffer over 32,768, log texts buffer over 65,535, the used lengths of the two lists over the buffer that they share
-unfoldable pub overSizes : Log → List ℕ → List ℕ → Bool
-overSizes g rb tb =
-    ltb 32768 (length rb) || (ltb 65535 (length tb) || (ltb (length rb) (g .undo .records + g .redo .records) || ltb (length tb) (g .undo .texts + g .redo .texts)))
+-- 2: a records buffer or a log texts buffer over the most bytes of it, the used lengths of the two lists over the buffer that they share
+unfoldable pub overSizes : Format → Log → List ℕ → List ℕ → Bool
+overSizes F g rb tb =
+    ltb (F .records) (length rb) || (ltb (F .texts) (length tb) || (ltb (length rb) (g .undo .records + g .redo .records) || ltb (length tb) (g .undo .texts + g .redo .texts)))
 
-module _ (R : Repertoire) (F : layout.Format) where
+module _ (R : Repertoire) (F : Format) where
   -- no list of changes has these bytes
   abbrev pub broken : List ℕ → List ℕ → Bool
   broken rs ts = not (layout.isSome (layout.decode R F rs ts))
@@ -26,13 +27,4 @@ module _ (R : Repertoire) (F : layout.Format) where
 
   -- the tests of a lent log
   abbrev pub logTests : Log → List ℕ → List ℕ → Tests
-  logTests g rb tb =
-      record {
-        sizes = overSizes g rb tb;
-        code = false;
-        foreign = false;
-        place = false;
-        split = false;
-        prompt = false;
-        damaged = damaged g rb tb;
-      }
+  logTests g rb tb = withSizes (overSizes F g rb tb) (withDamaged (damaged g rb tb) noTests)

@@ -7,7 +7,7 @@ use mathlib.Core.Option.{Option, some, none}
 use lib.Dec.{ltb}
 use Rattle.checks.specs.Outcome.{Outcome, refused, answered}
 use Rattle.journal.specs.Change.{Change, begin}
-use Rattle.journal.specs.Layout.{Format}
+use Rattle.formats.specs.declared.Format.{Format}
 use Rattle.journal.specs.Groups.{Log, begun, mark, endAll, endsAny, ended, truncated}
 use Rattle.journal.specs.Undo.{Sizes, fits, Places, lastInsertAt}
 

@@ -10,22 +10,23 @@ ghost use Rattle.unicode.specs.Text.{isText};
 ghost use Rattle.cluster.specs.Clusters.{clustersOf};
 ghost use Rattle.checks.specs.Checks.{refusal as Checks·refusal, both, ownTests};
 ghost use Rattle.journal.specs.Change.{edit};
-ghost use Rattle.journal.specs.Layout.{top, okChange};
+ghost use Rattle.numbers.specs.Numbers.{top};
+ghost use Rattle.journal.specs.Layout.{okChange};
 ghost use Rattle.journal.specs.Recording.{note, isSingle};
-ghost use Rattle.records.specs.Formats.{asFormat, Fit};
+ghost use Rattle.formats.specs.Formats.{Fit};
 ghost use Rattle.changeset.specs.Logs.{overSizes, damaged, logTests};
 ghost use Rattle.changeset.specs.Outcomes.{beginOut, endOut, recordOut, truncateOut, lastInsertOut};
 ghost use Rattle.changeset.specs.Calls.{lent, sizesOf, valueOf, says as Calls·says, Logged, Ready, editOf, Numbered, answerOf};
 use buffer::cut_bytes;
 use buffer::fill;
 use cluster::next_cluster;
+use formats::Format;
+use numbers::top_of;
 use recording::tail_for;
 use recording::tail_of;
 use recording::write_noted;
-use records::Format;
 use records::check_list;
 use records::run_start;
-use records::top_of;
 use records::walk;
 
 // The used lengths of a list in the two buffers.
@@ -54,15 +55,15 @@ fn is_over(len: usize, a: usize, b: usize) -> bool
 }
 
 // Check 2 of a lent log.
-pub fn over_sizes(records: &[u8], texts: &[u8], log: Log) -> bool
-    ensures { λ r. ⌜ r ≡ overSizes log (now (records .entry)) (now (texts .entry)) ⌝ }
+pub fn over_sizes(f: Format, records: &[u8], texts: &[u8], log: Log) -> bool
+    ensures { λ r. ⌜ r ≡ overSizes f log (now (records .entry)) (now (texts .entry)) ⌝ }
 {
     let u = log.undo;
     let r = log.redo;
-    if 32768 < records.len() {
+    if f.records < records.len() {
         return true;
     }
-    if 65535 < texts.len() {
+    if f.texts < texts.len() {
         return true;
     }
     if is_over(records.len(), u.records, r.records) {
@@ -75,7 +76,7 @@ pub fn over_sizes(records: &[u8], texts: &[u8], log: Log) -> bool
 pub fn is_damaged(f: Format, records: &[u8], texts: &[u8], log: Log) -> bool
     requires { ⌜ Fit f ⌝ }
     requires { ⌜ (log .undo .records + log .redo .records ≤ length (now records)) × (log .undo .texts + log .redo .texts ≤ length (now texts)) ⌝ }
-    ensures { λ r. ⌜ r ≡ damaged catalogue (asFormat f) log (now (records .entry)) (now (texts .entry)) ⌝ }
+    ensures { λ r. ⌜ r ≡ damaged catalogue f log (now (records .entry)) (now (texts .entry)) ⌝ }
 {
     if 255 < log.level {
         return true;
@@ -116,11 +117,10 @@ pub fn says(number: u32, log: Log) -> LogAnswer
 // is outside the repertoire.
 pub fn refusal(f: Format, records: &[u8], texts: &[u8], log: Log, foreign: bool) -> u32
     requires { ⌜ Fit f ⌝ }
-    requires { ⌜ 65535 < top (f .width) ⌝ }
-    ensures number { λ r. ⌜ r ≡ Checks·refusal (both (logTests catalogue (asFormat f) log (now (records .entry)) (now (texts .entry))) (ownTests false foreign false)) ⌝ }
-    ensures ready { λ r. ⌜ (r ≡ 0 → Ready (asFormat f) (lent (now (records .entry)) (now (texts .entry)) log)) ⌝ }
+    ensures number { λ r. ⌜ r ≡ Checks·refusal (both (logTests catalogue f log (now (records .entry)) (now (texts .entry))) (ownTests false foreign false)) ⌝ }
+    ensures ready { λ r. ⌜ (r ≡ 0 → Ready f (lent (now (records .entry)) (now (texts .entry)) log)) ⌝ }
 {
-    if over_sizes(records, texts, log) {
+    if over_sizes(f, records, texts, log) {
         return 2;
     }
     if foreign {
@@ -187,8 +187,8 @@ impl Log {
 
     // The seam between the two lists moved: the undo list ends there, and the redo list begins there.
     pub fn move_seam(mut self, records: usize, texts: usize) -> Log
-        requires { ⌜ (records ≤ self .undo .records + self .redo .records) × (self .undo .records + self .redo .records ≤ 65535) ⌝ }
-        requires { ⌜ (texts ≤ self .undo .texts + self .redo .texts) × (self .undo .texts + self .redo .texts ≤ 65535) ⌝ }
+        requires { ⌜ (records ≤ self .undo .records + self .redo .records) × (self .undo .records + self .redo .records < 4294967296) ⌝ }
+        requires { ⌜ (texts ≤ self .undo .texts + self .redo .texts) × (self .undo .texts + self .redo .texts < 4294967296) ⌝ }
         ensures { λ r. ⌜ r ≡ record { undo = record { records = records; texts = texts }; redo = record { records = self .undo .records + self .redo .records - records; texts = self .undo .texts + self .redo .texts - texts }; level = self .level } ⌝ }
     {
         let u = self.undo;
@@ -203,18 +203,12 @@ impl Log {
         self
     }
 
-    // cancel: the undo list with these used lengths, no redo list, and the level lowered by the Begins dropped, never below 0.
-    pub fn cancel(mut self, records: usize, texts: usize, begins: usize) -> Log
-        ensures { λ r. ⌜ r ≡ record { undo = record { records = records; texts = texts }; redo = record { records = 0; texts = 0 }; level = self .level - begins } ⌝ }
+    // cancel: no redo list, and the level lowered by the Begins dropped, never below 0.
+    pub fn cancel(mut self, begins: usize) -> Log
+        ensures { λ r. ⌜ r ≡ record { undo = self .undo; redo = record { records = 0; texts = 0 }; level = self .level - begins } ⌝ }
     {
         let level = self.level;
-        let used = Used { records, texts };
-        let none = Used {
-            records: 0,
-            texts: 0,
-        };
-        self.undo = used;
-        self.redo = none;
+        self = self.drop_redo();
         self.level = level - least(begins, level);
         self
     }
@@ -232,13 +226,13 @@ impl Log {
         new: &[u8],
     ) -> LogAnswer
         requires { ⌜ Fit f ⌝ }
-        requires { ⌜ Ready (asFormat f) (lent (now records) (now texts) self) ⌝ }
+        requires { ⌜ Ready f (lent (now records) (now texts) self) ⌝ }
         requires { ⌜ Numbered (editOf kind place (now old) (now new)) kind place (now old) (now new) ⌝ }
         requires { ⌜ okChange catalogue (edit (editOf kind place (now old) (now new))) ≡ true ⌝ }
-        ensures { λ r. ⌜ Logged (asFormat f) (lent (now (records .entry)) (now (texts .entry)) self)
-            (recordOut (asFormat f) (sizesOf (lent (now (records .entry)) (now (texts .entry)) self))
-            (note joins (editOf kind place (now (old .entry)) (now (new .entry))) (valueOf catalogue (asFormat f) (lent (now (records .entry)) (now (texts .entry)) self) .undo))
-            (valueOf catalogue (asFormat f) (lent (now (records .entry)) (now (texts .entry)) self)))
+        ensures { λ r. ⌜ Logged f (lent (now (records .entry)) (now (texts .entry)) self)
+            (recordOut f (sizesOf (lent (now (records .entry)) (now (texts .entry)) self))
+            (note joins (editOf kind place (now (old .entry)) (now (new .entry))) (valueOf catalogue f (lent (now (records .entry)) (now (texts .entry)) self) .undo))
+            (valueOf catalogue f (lent (now (records .entry)) (now (texts .entry)) self)))
             r (now (records .exit)) (now (texts .exit)) ⌝ }
     {
         let u = self.undo;
@@ -267,9 +261,9 @@ impl Log {
     // begin on a log that the checks pass.
     pub fn begin(mut self, f: Format, records: &mut [u8], texts: &[u8]) -> LogAnswer
         requires { ⌜ Fit f ⌝ }
-        requires { ⌜ Ready (asFormat f) (lent (now records) (now texts) self) ⌝ }
-        ensures { λ r. ⌜ Logged (asFormat f) (lent (now (records .entry)) (now (texts .entry)) self)
-            (beginOut (asFormat f) (sizesOf (lent (now (records .entry)) (now (texts .entry)) self)) (valueOf catalogue (asFormat f) (lent (now (records .entry)) (now (texts .entry)) self)))
+        requires { ⌜ Ready f (lent (now records) (now texts) self) ⌝ }
+        ensures { λ r. ⌜ Logged f (lent (now (records .entry)) (now (texts .entry)) self)
+            (beginOut f (sizesOf (lent (now (records .entry)) (now (texts .entry)) self)) (valueOf catalogue f (lent (now (records .entry)) (now (texts .entry)) self)))
             r (now (records .exit)) (now (texts .entry)) ⌝ }
     {
         let u = self.undo;
@@ -296,9 +290,9 @@ impl Log {
     // end on a log that the checks pass: Begins that stand last are dropped, and for each level left an End is put.
     pub fn end(mut self, f: Format, records: &mut [u8], texts: &[u8]) -> LogAnswer
         requires { ⌜ Fit f ⌝ }
-        requires { ⌜ Ready (asFormat f) (lent (now records) (now texts) self) ⌝ }
-        ensures { λ r. ⌜ Logged (asFormat f) (lent (now (records .entry)) (now (texts .entry)) self)
-            (endOut (asFormat f) (sizesOf (lent (now (records .entry)) (now (texts .entry)) self)) (valueOf catalogue (asFormat f) (lent (now (records .entry)) (now (texts .entry)) self)))
+        requires { ⌜ Ready f (lent (now records) (now texts) self) ⌝ }
+        ensures { λ r. ⌜ Logged f (lent (now (records .entry)) (now (texts .entry)) self)
+            (endOut f (sizesOf (lent (now (records .entry)) (now (texts .entry)) self)) (valueOf catalogue f (lent (now (records .entry)) (now (texts .entry)) self)))
             r (now (records .exit)) (now (texts .entry)) ⌝ }
     {
         let u = self.undo;
@@ -330,9 +324,9 @@ impl Log {
         len: usize,
     ) -> LogAnswer
         requires { ⌜ Fit f ⌝ }
-        requires { ⌜ Ready (asFormat f) (lent (now records) (now texts) self) ⌝ }
-        ensures { λ r. ⌜ Logged (asFormat f) (lent (now (records .entry)) (now (texts .entry)) self)
-            (truncateOut len (valueOf catalogue (asFormat f) (lent (now (records .entry)) (now (texts .entry)) self)))
+        requires { ⌜ Ready f (lent (now records) (now texts) self) ⌝ }
+        ensures { λ r. ⌜ Logged f (lent (now (records .entry)) (now (texts .entry)) self)
+            (truncateOut len (valueOf catalogue f (lent (now (records .entry)) (now (texts .entry)) self)))
             r (now (records .exit)) (now (texts .exit)) ⌝ }
     {
         let u = self.undo;
@@ -353,9 +347,9 @@ impl Log {
     // last_insert on a log that the checks pass: the Ends that stand last are passed.
     pub fn last_insert(self, f: Format, records: &[u8], texts: &[u8]) -> LogAnswer
         requires { ⌜ Fit f ⌝ }
-        requires { ⌜ Ready (asFormat f) (lent (now records) (now texts) self) ⌝ }
-        ensures { λ r. ⌜ r ≡ answerOf (asFormat f) (lent (now (records .entry)) (now (texts .entry)) self)
-            (lastInsertOut (valueOf catalogue (asFormat f) (lent (now (records .entry)) (now (texts .entry)) self))) ⌝ }
+        requires { ⌜ Ready f (lent (now records) (now texts) self) ⌝ }
+        ensures { λ r. ⌜ r ≡ answerOf f (lent (now (records .entry)) (now (texts .entry)) self)
+            (lastInsertOut (valueOf catalogue f (lent (now (records .entry)) (now (texts .entry)) self))) ⌝ }
     {
         let u = self.undo;
         let ur = u.records;

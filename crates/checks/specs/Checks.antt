@@ -1,10 +1,11 @@
 -- Document 01, "What a call says": checks run in number order. A call's tests are gathered by the number that they belong to, those of the text
 -- that is lent, of the log that is lent and the call's own, and the lowest number whose test is met is the answer.
-use Prim.Native.Nat.{ℕ}
+use Prim.Native.Nat.{ℕ, zero, suc, _+_}
 use mathlib.Core.Bool.{Bool, false, cond, _||_, not}
 use mathlib.Core.List.{List}
 use lib.Dec.{ltb}
 use lib.ListN.{length, take}
+use Rattle.formats.specs.declared.Format.{Format}
 use Rattle.utf8.specs.Chars.{boundary}
 use Rattle.unicode.specs.Repertoire.{Repertoire}
 use Rattle.unicode.specs.Text.{isText}
@@ -25,9 +26,123 @@ pub record Tests : Type 0 where
   pub prompt : Bool
   -- 8: a log or a ring that breaks its layout
   pub damaged : Bool
+  -- a number that the orders add, tried behind 8: k for the number 12 + k, 0 where its condition is not met
+  pub later : ℕ
 
 abbrev pub noTests : Tests
-noTests = record { sizes = false; code = false; foreign = false; place = false; split = false; prompt = false; damaged = false }
+noTests = record { sizes = false; code = false; foreign = false; place = false; split = false; prompt = false; damaged = false; later = 0 }
+
+-- ---- the tests t with one of them answered by b
+abbrev pub withSizes : Bool → Tests → Tests
+withSizes b t =
+    record {
+      sizes = b;
+      code = t .code;
+      foreign = t .foreign;
+      place = t .place;
+      split = t .split;
+      prompt = t .prompt;
+      damaged = t .damaged;
+      later = t .later;
+    }
+
+abbrev pub withCode : Bool → Tests → Tests
+withCode b t =
+    record {
+      sizes = t .sizes;
+      code = b;
+      foreign = t .foreign;
+      place = t .place;
+      split = t .split;
+      prompt = t .prompt;
+      damaged = t .damaged;
+      later = t .later;
+    }
+
+abbrev pub withForeign : Bool → Tests → Tests
+withForeign b t =
+    record {
+      sizes = t .sizes;
+      code = t .code;
+      foreign = b;
+      place = t .place;
+      split = t .split;
+      prompt = t .prompt;
+      damaged = t .damaged;
+      later = t .later;
+    }
+
+abbrev pub withPlace : Bool → Tests → Tests
+withPlace b t =
+    record {
+      sizes = t .sizes;
+      code = t .code;
+      foreign = t .foreign;
+      place = b;
+      split = t .split;
+      prompt = t .prompt;
+      damaged = t .damaged;
+      later = t .later;
+    }
+
+abbrev pub withSplit : Bool → Tests → Tests
+withSplit b t =
+    record {
+      sizes = t .sizes;
+      code = t .code;
+      foreign = t .foreign;
+      place = t .place;
+      split = b;
+      prompt = t .prompt;
+      damaged = t .damaged;
+      later = t .later;
+    }
+
+abbrev pub withPrompt : Bool → Tests → Tests
+withPrompt b t =
+    record {
+      sizes = t .sizes;
+      code = t .code;
+      foreign = t .foreign;
+      place = t .place;
+      split = t .split;
+      prompt = b;
+      damaged = t .damaged;
+      later = t .later;
+    }
+
+abbrev pub withDamaged : Bool → Tests → Tests
+withDamaged b t =
+    record {
+      sizes = t .sizes;
+      code = t .code;
+      foreign = t .foreign;
+      place = t .place;
+      split = t .split;
+      prompt = t .prompt;
+      damaged = b;
+      later = t .later;
+    }
+
+abbrev pub withLater : ℕ → Tests → Tests
+withLater k t =
+    record {
+      sizes = t .sizes;
+      code = t .code;
+      foreign = t .foreign;
+      place = t .place;
+      split = t .split;
+      prompt = t .prompt;
+      damaged = t .damaged;
+      later = k;
+    }
+
+-- ---- the lowest number
+-- the lower of two numbers, where 0 is none
+abbrev pub lower : ℕ → ℕ → ℕ
+lower zero b = b
+lower (suc a) zero = suc a
+lower (suc a) (suc b) = cond (ltb b a) (suc b) (suc a)
 
 -- the tests of both
 abbrev pub both : Tests → Tests → Tests
@@ -40,7 +155,13 @@ both a b =
       split = a .split || b .split;
       prompt = a .prompt || b .prompt;
       damaged = a .damaged || b .damaged;
+      later = lower (a .later) (b .later);
     }
+
+-- the numbers of the orders begin with 13
+abbrev pub laterNumber : ℕ → ℕ
+laterNumber zero = 0
+laterNumber (suc k) = suc (12 + k)
 
 -- the lowest number whose test is met, 0 where none is
 unfoldable pub refusal : Tests → ℕ
@@ -52,26 +173,22 @@ refusal t =
     (cond (t .split) 6
     (cond (t .prompt) 7
     (cond (t .damaged) 8
-    0))))))
+    (laterNumber (t .later))))))))
 
+-- ---- of a lent text, and of a call's own arguments
 -- the text that is lent: the used part of the buffer
 abbrev pub lentText : List ℕ → Line → List ℕ
 lentText buffer line = take (line .len) buffer
 
--- a lent text and its cursor: C over 4,096, a used length over C; not a text; the cursor beyond it or inside a character
-abbrev pub lineTests : Repertoire → List ℕ → Line → Tests
-lineTests R buffer line =
-    record {
-      sizes = ltb 4096 (length buffer) || ltb (length buffer) (line .len);
-      code = false;
-      foreign = not (isText R (lentText buffer line));
-      place = ltb (line .len) (line .cursor);
-      split = not (boundary (lentText buffer line) (line .cursor));
-      prompt = false;
-      damaged = false;
-    }
+-- a lent text and its cursor: C over the most bytes of a text, a used length over C; not a text; the cursor beyond it or inside a character
+abbrev pub lineTests : Repertoire → Format → List ℕ → Line → Tests
+lineTests R F buffer line =
+    withSizes (ltb (F .text) (length buffer) || ltb (length buffer) (line .len))
+    (withForeign (not (isText R (lentText buffer line)))
+    (withPlace (ltb (line .len) (line .cursor))
+    (withSplit (not (boundary (lentText buffer line) (line .cursor)))
+    noTests)))
 
 -- a call's own tests: of its codes, of a character, of a place
 abbrev pub ownTests : Bool → Bool → Bool → Tests
-ownTests code foreign place =
-    record { sizes = false; code = code; foreign = foreign; place = place; split = false; prompt = false; damaged = false }
+ownTests code foreign place = withCode code (withForeign foreign (withPlace place noTests))

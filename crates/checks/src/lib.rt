@@ -1,8 +1,12 @@
 // Document 01, "What a call says": the checks of a lent text in number order, and the answers of calls that are lent one.
 ghost use mathlib.Core.Path.{_≡_};
+ghost use lib.ListN.{length};
+ghost use Rattle.formats.specs.Formats.{formatFor};
 ghost use Rattle.unicode.specs.Repertoire.{catalogue};
 ghost use Rattle.checks.specs.Checks.{refusal as Checks·refusal, both, lineTests, ownTests};
-ghost use Rattle.checks.specs.Answers.{says as Answers·says, movedTo, answered as Answers·answered};
+ghost use Rattle.checks.specs.Answers.{says as Answers·says, lineAnswer, movedTo, placeOf};
+use formats::Format;
+use formats::format_for;
 use motion::Found;
 use unicode::check_text;
 use utf8::is_boundary;
@@ -24,11 +28,11 @@ pub struct LineAnswer {
 
 // The number of the first check that a lent text, its cursor and the call's own tests meet, 0 where they pass. `code` says
 // that a number names nothing, `foreign` that a character is outside the repertoire, `place` that a place is unfit.
-pub fn refusal(text: &[u8], line: Line, code: bool, foreign: bool, place: bool) -> u32
-    ensures { λ r. ⌜ r ≡ Checks·refusal (both (lineTests catalogue (now (text .entry)) line) (ownTests code foreign place)) ⌝ }
+pub fn refusal_in(f: Format, text: &[u8], line: Line, code: bool, foreign: bool, place: bool) -> u32
+    ensures { λ r. ⌜ r ≡ Checks·refusal (both (lineTests catalogue f (now (text .entry)) line) (ownTests code foreign place)) ⌝ }
 {
     let len = line.len;
-    if 4096 < text.len() {
+    if f.text < text.len() {
         return 2;
     }
     if text.len() < len {
@@ -54,6 +58,13 @@ pub fn refusal(text: &[u8], line: Line, code: bool, foreign: bool, place: bool) 
     if is_boundary(lent, cursor) { 0 } else { 6 }
 }
 
+// The same in the format that the text's buffer brings.
+pub fn refusal(text: &[u8], line: Line, code: bool, foreign: bool, place: bool) -> u32
+    ensures { λ r. ⌜ r ≡ Checks·refusal (both (lineTests catalogue (formatFor (length (now (text .entry)))) (now (text .entry)) line) (ownTests code foreign place)) ⌝ }
+{
+    refusal_in(format_for(text.len()), text, line, code, foreign, place)
+}
+
 // A number alone: the line is as it was.
 pub fn says(number: u32, line: Line) -> LineAnswer
     ensures { λ r. ⌜ r ≡ Answers·says number line ⌝ }
@@ -68,7 +79,7 @@ pub fn says(number: u32, line: Line) -> LineAnswer
 
 // The cursor goes to the place found; 1 where there is none.
 pub fn moved_to(line: Line, f: Found) -> LineAnswer
-    ensures { λ r. ⌜ r ≡ movedTo line f ⌝ }
+    ensures { λ r. ⌜ r ≡ lineAnswer line (movedTo line f) ⌝ }
 {
     match f {
         Found::At(p) => says(
@@ -83,8 +94,8 @@ pub fn moved_to(line: Line, f: Found) -> LineAnswer
 }
 
 // The place found is answered; 1 where there is none.
-pub fn answered(line: Line, f: Found) -> LineAnswer
-    ensures { λ r. ⌜ r ≡ Answers·answered line f ⌝ }
+pub fn place_of(line: Line, f: Found) -> LineAnswer
+    ensures { λ r. ⌜ r ≡ lineAnswer line (placeOf line f) ⌝ }
 {
     match f {
         Found::At(p) => LineAnswer {

@@ -25,10 +25,9 @@ use Rattle.lines.specs.Lines.{startOfLine, endOfLine, nLinesUp, nLinesDown}
 use Rattle.lines.specs.declared.Range.{Range}
 use Rattle.lines.specs.declared.Range.the-variants.{Places, Nowhere}
 use Rattle.checks.specs.Checks.{Tests, ownTests, lentText}
-use Rattle.checks.specs.Answers.{says, places}
 use Rattle.checks.specs.declared.Line.{Line}
-use Rattle.checks.specs.declared.LineAnswer.{LineAnswer}
-use Rattle.movement.specs.Moves.{called}
+use Rattle.checks.specs.Outcome.{Outcome, answered}
+use Rattle.movement.specs.Moves.{moveCall}
 
 -- from the cursor on to a place that is found k bytes further, or back from it
 abbrev pub upTo : ℕ → ℕ → Found → Range
@@ -125,18 +124,18 @@ abbrev pub movementIs : Movement → MovementCode
 movementIs mvt = code.Is mvt
 
 -- ---- the call
-abbrev pub ranged : Line → Range → LineAnswer
-ranged line (Places a b) = places a b line
-ranged line Nowhere = says 1 line
+abbrev pub ranged : Line → Range → Outcome Line
+ranged line (Places a b) = answered 0 a b line
+ranged line Nowhere = answered 1 0 0 line
 
 module _ (R : Repertoire) (buffer : List ℕ) (line : Line) where
   abbrev pub copyTests : Movement → Tests
   copyTests mvt = ownTests false (isForeign R mvt) (startsAfter R (lentText buffer line) (line .cursor) mvt)
 
-  abbrev pub copyBy : MovementCode → LineAnswer
-  copyBy (code.Is mvt) = called R buffer line (copyTests mvt) (ranged line (copied R (lentText buffer line) (line .cursor) mvt))
-  copyBy code.Unknown = called R buffer line (ownTests true false false) (says 0 line)
+  abbrev pub copyBy : MovementCode → Outcome Line
+  copyBy (code.Is mvt) = moveCall R buffer line (copyTests mvt) (ranged line (copied R (lentText buffer line) (line .cursor) mvt))
+  copyBy code.Unknown = moveCall R buffer line (ownTests true false false) (answered 0 0 0 line)
 
   -- the movement of six numbers
-  abbrev pub copyCall : ℕ → ℕ → ℕ → ℕ → ℕ → ℕ → LineAnswer
+  abbrev pub copyCall : ℕ → ℕ → ℕ → ℕ → ℕ → ℕ → Outcome Line
   copyCall mvt n at word search ch = copyBy (movementOf mvt n at word search ch)

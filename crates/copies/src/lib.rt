@@ -5,6 +5,7 @@ ghost use Prim.Native.Nat.{_+_, _≤_, _<_};
 ghost use lib.ListN.{length};
 ghost use Rattle.utf8.specs.Chars.{valid, boundary};
 ghost use Rattle.unicode.specs.Repertoire.{catalogue};
+ghost use Rattle.checks.specs.Answers.{lineAnswer};
 ghost use Rattle.copies.specs.Copy.{upTo, backTo, between as Copy·between, searchRange, rangeOf, copied as Copy·copied, startsAfter, charOf, isForeign, ranged as Copy·ranged, copyBy, copyCall, movementIs};
 use checks::Line;
 use checks::LineAnswer;
@@ -182,7 +183,7 @@ pub fn is_foreign(m: Movement) -> bool
 }
 
 fn ranged(line: Line, f: Range) -> LineAnswer
-    ensures { λ r. ⌜ r ≡ Copy·ranged line f ⌝ }
+    ensures { λ r. ⌜ r ≡ lineAnswer line (Copy·ranged line f) ⌝ }
 {
     match f {
         Range::Places(a, b) => LineAnswer {
@@ -197,7 +198,7 @@ fn ranged(line: Line, f: Range) -> LineAnswer
 
 // ViFirstPrint's 5 comes with the cursor's, before its 6.
 fn copy_movement(text: &[u8], line: Line, m: Movement) -> LineAnswer
-    ensures { λ r. ⌜ r ≡ copyBy catalogue (now (text .entry)) line (movementIs m) ⌝ }
+    ensures { λ r. ⌜ r ≡ lineAnswer line (copyBy catalogue (now (text .entry)) line (movementIs m)) ⌝ }
 {
     let r = refusal(text, line, false, is_foreign(m), false);
     if r != 0 {
@@ -227,7 +228,7 @@ pub fn copy(
     search: u32,
     ch: u32,
 ) -> LineAnswer
-    ensures { λ r. ⌜ r ≡ copyCall catalogue (now (text .entry)) line mvt n at word search ch ⌝ }
+    ensures { λ r. ⌜ r ≡ lineAnswer line (copyCall catalogue (now (text .entry)) line mvt n at word search ch) ⌝ }
 {
     let code = Movement::from_codes(mvt, n, at, word, search, ch);
     let MovementCode::Is(m) = code else {

@@ -19,9 +19,9 @@ use Rattle.lines.specs.declared.Range.the-variants.{Places, Nowhere}
 use Rattle.checks.specs.Checks.{both, ownTests}
 use Rattle.checks.specs.Outcome.{Outcome, refused, answered, numberIn, called}
 use Rattle.checks.proofs.Fit.{Fit, fit}
+use Rattle.formats.specs.declared.Format.{Format}
 use Rattle.changeset.specs.Logs.{logTests}
 use Rattle.copies.specs.Copy.{upTo, copied}
-use Rattle.journal.specs.Layout.{narrow}
 use Rattle.journal.specs.Undo.{fits}
 use Rattle.edit.specs.declared.EditAnswer.{EditAnswer}
 use Rattle.edit.specs.Plan.{cutting, nothing, State, tooLong, textAfter, listAfter, planned, edited}
@@ -40,18 +40,18 @@ forward-start t pos n a b e = go (eqb (length t) 0) (nextPos catalogue t pos n) 
     go false (found.At p) q = let y : pos ≡ a = cc in sym y
     go false found.Nothing q = let y : _≡_ {A = ℕ} 0 1 = cc in absurd (omega arith)
 
-module _ (l : Lent) (n : ℕ) where
+module _ (F : Format) (l : Lent) (n : ℕ) where
   abbrev pos : ℕ
   pos = l .line .cursor
 
   abbrev state : State
-  state = stateOf catalogue narrow l
+  state = stateOf catalogue F l
 
   abbrev cut : Range → Outcome State
-  cut r = edited catalogue narrow (sizesOf l) (length (l .text)) (cutPlan pos r) state
+  cut r = edited catalogue F (sizesOf l) (length (l .text)) (cutPlan pos r) state
 
   abbrev placed : Range → Outcome State
-  placed r = edited catalogue narrow (sizesOf l) (length (l .text)) (placesPlan pos r) state
+  placed r = edited catalogue F (sizesOf l) (length (l .text)) (placesPlan pos r) state
 
   -- kill and delete do the same and do not answer 0, or delete answers the places of the cut
   data Way : Outcome State → Outcome State → Type 0 where
@@ -60,7 +60,7 @@ module _ (l : Lent) (n : ℕ) where
 
   cut-ways : (a b : ℕ) → a ≡ pos → In (textOf l) a b → l .line .len ≤ length (l .text) → Way (cut (Places a b)) (placed (Places a b))
   unfolding edited textAfter
-  cut-ways a b e i h = go (tooLong (length (l .text)) (cutting a b ∷ []) (textOf l)) (fits narrow (sizesOf l) (listAfter catalogue (cutting a b ∷ []) (textOf l) (state .log .undo)))
+  cut-ways a b e i h = go (tooLong (length (l .text)) (cutting a b ∷ []) (textOf l)) (fits F (sizesOf l) (listAfter catalogue (cutting a b ∷ []) (textOf l) (state .log .undo)))
     where
       long : length (textOf l) ≡ l .line .len
       long = length-take-le (l .line .len) (l .text) h
@@ -74,43 +74,43 @@ module _ (l : Lent) (n : ℕ) where
 
   none-ways : Way (cut Nowhere) (placed Nowhere)
   unfolding edited tooLong listAfter
-  none-ways = go (fits narrow (sizesOf l) (state .log .undo))
+  none-ways = go (fits F (sizesOf l) (state .log .undo))
     where
       go : (y : Bool) → Way (cond y (answered 1 0 0 (planned catalogue (nothing pos) state)) (refused 10)) (cond y (answered 1 0 0 (planned catalogue (nothing pos) state)) (refused 10))
       go true = alike (answered 1 0 0 (planned catalogue (nothing pos) state)) (λ z. omega arith)
       go false = alike (refused 10) (λ z. omega arith)
 
-  ways : Way (killOf catalogue narrow l (m.ForwardChar n)) (deleteCall catalogue narrow l n)
-  ways = by-number (checked catalogue narrow l (ownTests false false false)) refl
+  ways : Way (killOf catalogue F l (m.ForwardChar n)) (deleteCall catalogue F l n)
+  ways = by-number (checked catalogue F l (ownTests false false false)) refl
     where
-      by-range : (r : Range) → killRange catalogue (textOf l) pos (m.ForwardChar n) ≡ r → Fit catalogue (l .text) (l .line) → Way (cut r) (placed r)
+      by-range : (r : Range) → killRange catalogue (textOf l) pos (m.ForwardChar n) ≡ r → Fit catalogue F (l .text) (l .line) → Way (cut r) (placed r)
       by-range (Places a b) e f =
           cut-ways a b (forward-start (textOf l) pos n a b e)
           (kill-in catalogue (textOf l) (text-valid catalogue (textOf l) (f .text)) a b pos (f .edge) (let k = length-take-le (l .line .len) (l .text) (f .used) in let j = f .within in omega arith) (m.ForwardChar n) e)
           (f .used)
       by-range Nowhere e f = none-ways
 
-      by-number : (k : ℕ) → checked catalogue narrow l (ownTests false false false) ≡ k
+      by-number : (k : ℕ) → checked catalogue F l (ownTests false false false) ≡ k
           → Way (called k (cut (killRange catalogue (textOf l) pos (m.ForwardChar n)))) (called k (placed (killRange catalogue (textOf l) pos (m.ForwardChar n))))
-      by-number zero e = by-range (killRange catalogue (textOf l) pos (m.ForwardChar n)) refl (fit catalogue (l .text) (l .line) (both (logTests catalogue narrow (l .log) (l .records) (l .texts)) (ownTests false false false)) e .0)
+      by-number zero e = by-range (killRange catalogue (textOf l) pos (m.ForwardChar n)) refl (fit catalogue F (l .text) (l .line) (both (logTests catalogue F (l .log) (l .records) (l .texts)) (ownTests false false false)) e .0)
       by-number (suc k) e = alike (refused (suc k)) (λ z. omega arith)
 
-  module _ (r : EditAnswer) (t rb tb : List ℕ) (q : Edited narrow l (killOf catalogue narrow l (m.ForwardChar n)) r t rb tb) where
-    number-is : (o : Outcome State) → Edited narrow l o r t rb tb → r .number ≡ numberIn o
+  module _ (r : EditAnswer) (t rb tb : List ℕ) (q : Edited F l (killOf catalogue F l (m.ForwardChar n)) r t rb tb) where
+    number-is : (o : Outcome State) → Edited F l o r t rb tb → r .number ≡ numberIn o
     number-is (refused k) e = ap (λ (x : EditAnswer). x .number) (e .answer)
     number-is (answered k a b s) e = ap (λ (x : EditAnswer). x .number) (e .answer)
 
-    pub not-cut : (r .number ≡ 0 → ⊥) → Edited narrow l (deleteCall catalogue narrow l n) r t rb tb
+    pub not-cut : (r .number ≡ 0 → ⊥) → Edited F l (deleteCall catalogue F l n) r t rb tb
     not-cut h = go ways q
       where
-        go : {o o′ : Outcome State} → Way o o′ → Edited narrow l o r t rb tb → Edited narrow l o′ r t rb tb
+        go : {o o′ : Outcome State} → Way o o′ → Edited F l o r t rb tb → Edited F l o′ r t rb tb
         go (alike o k) e = e
         go (between a b s x y z w) e = absurd (h (number-is (answered 0 0 0 s) e))
 
-    pub was-cut : r .number ≡ 0 → (r .line .len ≤ l .line .len) × (pos + (l .line .len - r .line .len) ≤ l .line .len) × Edited narrow l (deleteCall catalogue narrow l n) (record { number = 0; from = pos; to = pos + (l .line .len - r .line .len); line = r .line; log = r .log }) t rb tb
+    pub was-cut : r .number ≡ 0 → (r .line .len ≤ l .line .len) × (pos + (l .line .len - r .line .len) ≤ l .line .len) × Edited F l (deleteCall catalogue F l n) (record { number = 0; from = pos; to = pos + (l .line .len - r .line .len); line = r .line; log = r .log }) t rb tb
     was-cut h = go ways q
       where
-        go : {o o′ : Outcome State} → Way o o′ → Edited narrow l o r t rb tb → (r .line .len ≤ l .line .len) × (pos + (l .line .len - r .line .len) ≤ l .line .len) × Edited narrow l o′ (record { number = 0; from = pos; to = pos + (l .line .len - r .line .len); line = r .line; log = r .log }) t rb tb
+        go : {o o′ : Outcome State} → Way o o′ → Edited F l o r t rb tb → (r .line .len ≤ l .line .len) × (pos + (l .line .len - r .line .len) ≤ l .line .len) × Edited F l o′ (record { number = 0; from = pos; to = pos + (l .line .len - r .line .len); line = r .line; log = r .log }) t rb tb
         go (alike o k) e = absurd (k (sym (number-is o e) ∙ h))
         go (between a b s x y z w) e =
             let g : r .line .len ≡ length (s .text) = ap (λ (i : EditAnswer). i .line .len) (e .answer) in

@@ -1,8 +1,7 @@
 // The calls of LineBuffer that cut by one movement. Any text, cursor, log, code and number may be handed over: what is unfit is turned
 // away by a number of document 01.
 ghost use Rattle.unicode.specs.Repertoire.{catalogue};
-ghost use Rattle.journal.specs.Layout.{narrow};
-ghost use Rattle.edit.specs.Calls.{lent, Edited};
+ghost use Rattle.edit.specs.Calls.{lent, formatOf, Edited};
 ghost use Rattle.kills.specs.Kills.{deleteCall, killLineCall, killBufferCall, discardLineCall, discardBufferCall, backspaceCall, deletePrevWordCall, deleteWordCall, deleteToCall};
 use changeset::Log;
 use checks::Line;
@@ -20,8 +19,8 @@ pub fn kill_line(
     line: Line,
     log: Log,
 ) -> EditAnswer
-    ensures { λ r. ⌜ Edited narrow (lent (now (text .entry)) (now (records .entry)) (now (texts .entry)) line log)
-        (killLineCall catalogue narrow (lent (now (text .entry)) (now (records .entry)) (now (texts .entry)) line log))
+    ensures { λ r. ⌜ Edited (formatOf (lent (now (text .entry)) (now (records .entry)) (now (texts .entry)) line log)) (lent (now (text .entry)) (now (records .entry)) (now (texts .entry)) line log)
+        (killLineCall catalogue (formatOf (lent (now (text .entry)) (now (records .entry)) (now (texts .entry)) line log)) (lent (now (text .entry)) (now (records .entry)) (now (texts .entry)) line log))
         r (now (text .exit)) (now (records .exit)) (now (texts .exit)) ⌝ }
 {
     kill_movement(text, records, texts, line, log, Movement::EndOfLine)
@@ -35,8 +34,8 @@ pub fn kill_buffer(
     line: Line,
     log: Log,
 ) -> EditAnswer
-    ensures { λ r. ⌜ Edited narrow (lent (now (text .entry)) (now (records .entry)) (now (texts .entry)) line log)
-        (killBufferCall catalogue narrow (lent (now (text .entry)) (now (records .entry)) (now (texts .entry)) line log))
+    ensures { λ r. ⌜ Edited (formatOf (lent (now (text .entry)) (now (records .entry)) (now (texts .entry)) line log)) (lent (now (text .entry)) (now (records .entry)) (now (texts .entry)) line log)
+        (killBufferCall catalogue (formatOf (lent (now (text .entry)) (now (records .entry)) (now (texts .entry)) line log)) (lent (now (text .entry)) (now (records .entry)) (now (texts .entry)) line log))
         r (now (text .exit)) (now (records .exit)) (now (texts .exit)) ⌝ }
 {
     kill_movement(text, records, texts, line, log, Movement::EndOfBuffer)
@@ -50,8 +49,8 @@ pub fn discard_line(
     line: Line,
     log: Log,
 ) -> EditAnswer
-    ensures { λ r. ⌜ Edited narrow (lent (now (text .entry)) (now (records .entry)) (now (texts .entry)) line log)
-        (discardLineCall catalogue narrow (lent (now (text .entry)) (now (records .entry)) (now (texts .entry)) line log))
+    ensures { λ r. ⌜ Edited (formatOf (lent (now (text .entry)) (now (records .entry)) (now (texts .entry)) line log)) (lent (now (text .entry)) (now (records .entry)) (now (texts .entry)) line log)
+        (discardLineCall catalogue (formatOf (lent (now (text .entry)) (now (records .entry)) (now (texts .entry)) line log)) (lent (now (text .entry)) (now (records .entry)) (now (texts .entry)) line log))
         r (now (text .exit)) (now (records .exit)) (now (texts .exit)) ⌝ }
 {
     kill_movement(text, records, texts, line, log, Movement::BeginningOfLine)
@@ -65,8 +64,8 @@ pub fn discard_buffer(
     line: Line,
     log: Log,
 ) -> EditAnswer
-    ensures { λ r. ⌜ Edited narrow (lent (now (text .entry)) (now (records .entry)) (now (texts .entry)) line log)
-        (discardBufferCall catalogue narrow (lent (now (text .entry)) (now (records .entry)) (now (texts .entry)) line log))
+    ensures { λ r. ⌜ Edited (formatOf (lent (now (text .entry)) (now (records .entry)) (now (texts .entry)) line log)) (lent (now (text .entry)) (now (records .entry)) (now (texts .entry)) line log)
+        (discardBufferCall catalogue (formatOf (lent (now (text .entry)) (now (records .entry)) (now (texts .entry)) line log)) (lent (now (text .entry)) (now (records .entry)) (now (texts .entry)) line log))
         r (now (text .exit)) (now (records .exit)) (now (texts .exit)) ⌝ }
 {
     kill_movement(text, records, texts, line, log, Movement::BeginningOfBuffer)
@@ -81,8 +80,8 @@ pub fn backspace(
     log: Log,
     n: RepeatCount,
 ) -> EditAnswer
-    ensures { λ r. ⌜ Edited narrow (lent (now (text .entry)) (now (records .entry)) (now (texts .entry)) line log)
-        (backspaceCall catalogue narrow (lent (now (text .entry)) (now (records .entry)) (now (texts .entry)) line log) n)
+    ensures { λ r. ⌜ Edited (formatOf (lent (now (text .entry)) (now (records .entry)) (now (texts .entry)) line log)) (lent (now (text .entry)) (now (records .entry)) (now (texts .entry)) line log)
+        (backspaceCall catalogue (formatOf (lent (now (text .entry)) (now (records .entry)) (now (texts .entry)) line log)) (lent (now (text .entry)) (now (records .entry)) (now (texts .entry)) line log) n)
         r (now (text .exit)) (now (records .exit)) (now (texts .exit)) ⌝ }
 {
     kill_movement(text, records, texts, line, log, Movement::BackwardChar(n))
@@ -98,8 +97,8 @@ pub fn delete_prev_word(
     word: u32,
     n: RepeatCount,
 ) -> EditAnswer
-    ensures { λ r. ⌜ Edited narrow (lent (now (text .entry)) (now (records .entry)) (now (texts .entry)) line log)
-        (deletePrevWordCall catalogue narrow (lent (now (text .entry)) (now (records .entry)) (now (texts .entry)) line log) word n)
+    ensures { λ r. ⌜ Edited (formatOf (lent (now (text .entry)) (now (records .entry)) (now (texts .entry)) line log)) (lent (now (text .entry)) (now (records .entry)) (now (texts .entry)) line log)
+        (deletePrevWordCall catalogue (formatOf (lent (now (text .entry)) (now (records .entry)) (now (texts .entry)) line log)) (lent (now (text .entry)) (now (records .entry)) (now (texts .entry)) line log) word n)
         r (now (text .exit)) (now (records .exit)) (now (texts .exit)) ⌝ }
 {
     kill(text, records, texts, line, log, 3, n, 0, word, 0, 0)
@@ -116,8 +115,8 @@ pub fn delete_word(
     word: u32,
     n: RepeatCount,
 ) -> EditAnswer
-    ensures { λ r. ⌜ Edited narrow (lent (now (text .entry)) (now (records .entry)) (now (texts .entry)) line log)
-        (deleteWordCall catalogue narrow (lent (now (text .entry)) (now (records .entry)) (now (texts .entry)) line log) at word n)
+    ensures { λ r. ⌜ Edited (formatOf (lent (now (text .entry)) (now (records .entry)) (now (texts .entry)) line log)) (lent (now (text .entry)) (now (records .entry)) (now (texts .entry)) line log)
+        (deleteWordCall catalogue (formatOf (lent (now (text .entry)) (now (records .entry)) (now (texts .entry)) line log)) (lent (now (text .entry)) (now (records .entry)) (now (texts .entry)) line log) at word n)
         r (now (text .exit)) (now (records .exit)) (now (texts .exit)) ⌝ }
 {
     kill(text, records, texts, line, log, 4, n, at, word, 0, 0)
@@ -134,8 +133,8 @@ pub fn delete_to(
     ch: u32,
     n: RepeatCount,
 ) -> EditAnswer
-    ensures { λ r. ⌜ Edited narrow (lent (now (text .entry)) (now (records .entry)) (now (texts .entry)) line log)
-        (deleteToCall catalogue narrow (lent (now (text .entry)) (now (records .entry)) (now (texts .entry)) line log) search ch n)
+    ensures { λ r. ⌜ Edited (formatOf (lent (now (text .entry)) (now (records .entry)) (now (texts .entry)) line log)) (lent (now (text .entry)) (now (records .entry)) (now (texts .entry)) line log)
+        (deleteToCall catalogue (formatOf (lent (now (text .entry)) (now (records .entry)) (now (texts .entry)) line log)) (lent (now (text .entry)) (now (records .entry)) (now (texts .entry)) line log) search ch n)
         r (now (text .exit)) (now (records .exit)) (now (texts .exit)) ⌝ }
 {
     kill(text, records, texts, line, log, 5, n, 0, 0, search, ch)
@@ -150,8 +149,8 @@ pub fn delete(
     log: Log,
     n: RepeatCount,
 ) -> EditAnswer
-    ensures { λ r. ⌜ Edited narrow (lent (now (text .entry)) (now (records .entry)) (now (texts .entry)) line log)
-        (deleteCall catalogue narrow (lent (now (text .entry)) (now (records .entry)) (now (texts .entry)) line log) n)
+    ensures { λ r. ⌜ Edited (formatOf (lent (now (text .entry)) (now (records .entry)) (now (texts .entry)) line log)) (lent (now (text .entry)) (now (records .entry)) (now (texts .entry)) line log)
+        (deleteCall catalogue (formatOf (lent (now (text .entry)) (now (records .entry)) (now (texts .entry)) line log)) (lent (now (text .entry)) (now (records .entry)) (now (texts .entry)) line log) n)
         r (now (text .exit)) (now (records .exit)) (now (texts .exit)) ⌝ }
 {
     let a = kill_movement(text, records, texts, line, log, Movement::ForwardChar(n));

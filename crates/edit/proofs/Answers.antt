@@ -11,7 +11,7 @@ use Rattle.unicode.specs.Repertoire.{catalogue}
 use Rattle.checks.specs.Outcome.{Outcome, called}
 use Rattle.checks.proofs.Outcomes.{called-refused, called-passed}
 use Rattle.journal.specs.Change.{Change, turn}
-use Rattle.journal.specs.Layout.{Format}
+use Rattle.formats.specs.declared.Format.{Format}
 use Rattle.journal.specs.Hold.{Holds}
 use Rattle.journal.specs.Groups as groups
 use Rattle.journal.specs.Undo.{fits}

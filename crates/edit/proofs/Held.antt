@@ -11,7 +11,9 @@ use Rattle.utf8.specs.Chars.{boundary, In}
 use Rattle.unicode.specs.Repertoire.{Repertoire, catalogue}
 use Rattle.unicode.specs.Text.{isText}
 use Rattle.journal.specs.Change.{Change, turn}
-use Rattle.journal.specs.Layout.{Format, top, AllGood, Layout, isSome, decode, encodeRecords, encodeTexts}
+use Rattle.formats.specs.Formats.{Fit}
+use Rattle.formats.specs.declared.Format.{Format}
+use Rattle.journal.specs.Layout.{AllGood, Layout, isSome, decode, encodeRecords, encodeTexts}
 use Rattle.journal.specs.Hold.{Holds}
 use Rattle.journal.specs.Groups as groups
 use Rattle.journal.proofs.Decode.{decode-encode}
@@ -84,9 +86,9 @@ module _ (R : Repertoire) (F : Format) (g : groups.Log) (rb tb : List ℕ) (s : 
       (subst (λ (x : List Change). Holds R F rb tb (length (encodeRecords F us)) (length (encodeTexts us)) (length (encodeRecords F rs)) (length (encodeTexts rs)) us x) (sym redos-held) stored-holds)
 
   -- check 2 passes it
-  pub log-sized : length rb ≤ 32768 → length tb ≤ 65535 → overSizes (log.logOf F g) rb tb ≡ false
+  pub log-sized : length rb ≤ F .records → length tb ≤ F .texts → overSizes F (log.logOf F g) rb tb ≡ false
   unfolding overSizes
-  log-sized a b = rw (le-ltb 32768 (length rb) a, le-ltb 65535 (length tb) b, le-ltb (length rb) _ (stored-holds .room), le-ltb (length tb) _ (stored-holds .space))
+  log-sized a b = rw (le-ltb (F .records) (length rb) a, le-ltb (F .texts) (length tb) b, le-ltb (length rb) _ (stored-holds .room), le-ltb (length tb) _ (stored-holds .space))
 
   whole : (a b : List ℕ) (cs : List Change) → Layout R F a b cs → broken R F a b ≡ false
   whole a b cs x = ap₂ (λ (p q : List ℕ). broken R F p q) (x .records) (x .texts) ∙ ap (λ (o : Option (List Change)). not (isSome o)) (decode-encode R F cs (x .good))
@@ -108,14 +110,14 @@ module _ (R : Repertoire) (F : Format) (s : State) (t rb tb : List ℕ) (q : Sto
   state-held = ap₂ (λ (x : List ℕ) (g : groups.Log). record { text = x; cursor = s .cursor; log = g }) (q .text) (log-held R F (s .log) rb tb (q .log) gu gr)
 
   -- the checks 2 to 8 pass it
-  pub state-passes : length t ≤ 4096 → length rb ≤ 32768 → length tb ≤ 65535 → s .log .level ≤ 255 → isText R (s .text) ≡ true → In (s .text) (s .cursor) (s .cursor) → checked R F lentNext (ownTests false false false) ≡ 0
+  pub state-passes : length t ≤ F .text → length rb ≤ F .records → length tb ≤ F .texts → s .log .level ≤ 255 → isText R (s .text) ≡ true → In (s .text) (s .cursor) (s .cursor) → checked R F lentNext (ownTests false false false) ≡ 0
   unfolding refusal
   state-passes a b c v e i =
-      rw (le-ltb 4096 (length t) a, le-ltb (length t) (length (s .text)) (take-within (length (s .text)) t (ap length (q .text))), log-sized R F (s .log) rb tb (q .log) gu gr b c, q .text, e, le-ltb (length (s .text)) (s .cursor) (i .1), i .2, log-whole R F (s .log) rb tb (q .log) gu gr v)
+      rw (le-ltb (F .text) (length t) a, le-ltb (length t) (length (s .text)) (take-within (length (s .text)) t (ap length (q .text))), log-sized R F (s .log) rb tb (q .log) gu gr b c, q .text, e, le-ltb (length (s .text)) (s .cursor) (i .1), i .2, log-whole R F (s .log) rb tb (q .log) gu gr v)
 
 -- over 01's repertoire: what the functions ask for where the checks have passed
 module _ (F : Format) (s : State) (t rb tb : List ℕ) (q : Stored F s t rb tb) (gu : AllGood catalogue (F .width) (s .log .undo)) (gr : AllGood catalogue (F .width) (map turn (s .log .redo))) where
-  pub state-ready : length t ≤ 4096 → length rb ≤ 32768 → length tb ≤ 65535 → 65535 < top (F .width) → s .log .level ≤ 255 → isText catalogue (s .text) ≡ true → In (s .text) (s .cursor) (s .cursor) → Ready F (lentNext catalogue F s t rb tb q gu gr)
+  pub state-ready : length t ≤ F .text → length rb ≤ F .records → length tb ≤ F .texts → Fit F → s .log .level ≤ 255 → isText catalogue (s .text) ≡ true → In (s .text) (s .cursor) (s .cursor) → Ready F (lentNext catalogue F s t rb tb q gu gr)
   state-ready a b c w v e i =
       record {
         small = a;
@@ -123,5 +125,5 @@ module _ (F : Format) (s : State) (t rb tb : List ℕ) (q : Stored F s t rb tb) 
         text = ap (isText catalogue) (q .text) ∙ e;
         within = i .1;
         edge = ap (λ (x : List ℕ). boundary x (s .cursor)) (q .text) ∙ i .2;
-        log = record { records = b; texts = c; wide = w; level = v; hold = log-holds catalogue F (s .log) rb tb (q .log) gu gr };
+        log = record { fit = w; records = b; texts = c; level = v; hold = log-holds catalogue F (s .log) rb tb (q .log) gu gr };
       }

@@ -12,7 +12,9 @@ use Rattle.utf8.specs.Chars.{In}
 use Rattle.unicode.specs.Repertoire.{Repertoire, catalogue}
 use Rattle.checks.specs.Outcome.{Outcome, answered}
 use Rattle.journal.specs.Change.{Change}
-use Rattle.journal.specs.Layout.{Format, top, AllGood}
+use Rattle.numbers.specs.Numbers.{top}
+use Rattle.formats.specs.declared.Format.{Format}
+use Rattle.journal.specs.Layout.{AllGood}
 use Rattle.journal.specs.Undo.{undoRecords, undoTexts, allSmall, Sizes, fits}
 use Rattle.changeset.specs.declared.Log.{Log}
 use Rattle.changeset.proofs.Recorded.{good}
@@ -103,10 +105,10 @@ module _ (F : Format) where
     within = omega (arith, length-kept F l (k .ready), k .ready .used, k .text)
 
     wide : C < top (F .width)
-    wide = omega (arith, k .text, k .ready .small, k .ready .log .wide)
+    wide = omega (arith, k .text, k .ready .small, k .ready .log .fit .places, k .ready .log .fit .lengths)
 
     room : fits F (sizesOf l₀) (recorded catalogue x (textOf l) (s .log .undo)) ≡ true
-    room = room-first catalogue F C wide (sizesOf l₀) (omega (arith, k .texts, k .ready .log .texts, k .ready .log .wide)) x xs (textOf l) (s .log .undo) (suits .0) (k .ready .text) within (good F (logLent l) (k .ready .log)) (k .room)
+    room = room-first catalogue F C wide (sizesOf l₀) (omega (arith, k .texts, k .ready .log .texts, k .ready .log .fit .lengths)) x xs (textOf l) (s .log .undo) (suits .0) (k .ready .text) within (good F (logLent l) (k .ready .log)) (k .room)
 
     goods : AllGood catalogue (F .width) (recorded catalogue x (textOf l) (s .log .undo))
     unfolding fits
@@ -114,7 +116,7 @@ module _ (F : Format) where
         let y = recorded catalogue x (textOf l) (s .log .undo) in
         let e = and-both (leb (length (undoRecords F y)) (length (l₀ .records))) (leb (length (undoTexts y)) (length (l₀ .texts))) (and-both (allSmall (F .width) y) _ room .1) .1 in
         let n = leb-true (length (undoTexts y)) (length (l₀ .texts)) e in
-        good-step catalogue F C wide x (textOf l) (s .log .undo) (suits .0) (k .ready .text) within (good F (logLent l) (k .ready .log)) (omega (arith, k .texts, k .ready .log .texts, k .ready .log .wide))
+        good-step catalogue F C wide x (textOf l) (s .log .undo) (suits .0) (k .ready .text) within (good F (logLent l) (k .ready .log)) (omega (arith, k .texts, k .ready .log .texts, k .ready .log .fit .lengths))
 
     sizes : sizesOf l ≡ sizesOf l₀
     sizes = ap₂ (λ (a b : ℕ). record { records = a; texts = b }) (k .records) (k .texts)
@@ -134,7 +136,7 @@ module _ (F : Format) where
     pub goes-on : Left F l₀ p xs (lent t rb tb (r .line) (r .log))
     goes-on =
         let g = state-held catalogue F next t rb tb (taken .bytes) goods tt in
-        let e = state-ready F next t rb tb (taken .bytes) goods tt (omega (arith, k .ready .small)) (omega (arith, k .ready .log .records)) (omega (arith, k .ready .log .texts)) (k .ready .log .wide) (k .ready .log .level)
+        let e = state-ready F next t rb tb (taken .bytes) goods tt (omega (arith, k .ready .small)) (omega (arith, k .ready .log .records)) (omega (arith, k .ready .log .texts)) (k .ready .log .fit) (k .ready .log .level)
         (made-text catalogue x (textOf l) (suits .0) (k .ready .text)) start in
         subst (λ (a : EditAnswer). Left F l₀ p xs (lent t rb tb (a .line) (a .log))) (sym (taken .answer))
         (record {

@@ -12,3 +12,4 @@ pub mod Rooms
 pub mod Tests
 pub mod Cursor
 pub mod Suits
+pub mod Formats

@@ -15,7 +15,8 @@ use Rattle.unicode.specs.Repertoire.{catalogue}
 use Rattle.checks.specs.Outcome.{Outcome, refused, answered}
 use Rattle.buffer.specs.Edit.{inserted, cut}
 use Rattle.journal.specs.Change.{Edit, insert, delete, replace, Change, edit, place, old, new}
-use Rattle.journal.specs.Layout.{Format, okChange}
+use Rattle.formats.specs.declared.Format.{Format}
+use Rattle.journal.specs.Layout.{okChange}
 use Rattle.journal.specs.Recording.{note}
 use Rattle.journal.specs.Groups as groups
 use Rattle.journal.specs.Undo.{fits}

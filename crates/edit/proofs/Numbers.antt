@@ -6,8 +6,9 @@ use native.Mathlib.Omega.{arith}
 use Rattle.unicode.specs.Repertoire.{catalogue}
 use Rattle.checks.specs.Checks.{Tests, both, refusal, lineTests, ownTests}
 use Rattle.checks.proofs.Fit.{fit}
-use Rattle.journal.specs.Layout.{Format, top}
-use Rattle.journal.proofs.Numbers.{Bytes}
+use Rattle.formats.specs.Formats.{Fit}
+use Rattle.formats.specs.declared.Format.{Format}
+use Rattle.numbers.proofs.Numbers.{Bytes}
 use Rattle.changeset.specs.Logs.{overSizes, damaged}
 use Rattle.changeset.proofs.Passed as passed
 use Rattle.edit.specs.declared.Own.{Own}
@@ -37,10 +38,10 @@ late false false false false false y n e = refl
 
 module _ (F : Format) (l : Lent) (o : Own) where
   abbrev T : Tests
-  T = lineTests catalogue (l .text) (l .line)
+  T = lineTests catalogue F (l .text) (l .line)
 
   abbrev sized : Bool
-  sized = overSizes (l .log) (l .records) (l .texts)
+  sized = overSizes F (l .log) (l .records) (l .texts)
 
   abbrev broken : Bool
   broken = damaged catalogue F (l .log) (l .records) (l .texts)
@@ -94,7 +95,7 @@ module _ (F : Format) (l : Lent) (o : Own) where
         pub by-none : broken ≡ false → 0 ≡ checked catalogue F l (own o)
         by-none d = sym (rest ∙ rw (c, d))
 
-      pub ready : Bytes (l .records) → broken ≡ false → 65535 < top (F .width) → Ready F l
+      pub ready : Bytes (l .records) → broken ≡ false → Fit F → Ready F l
       ready y d j =
-          let f = fit catalogue (l .text) (l .line) (ownTests (o .code) (o .foreign) (o .place)) (sym e ∙ z) .0 in
+          let f = fit catalogue F (l .text) (l .line) (ownTests (o .code) (o .foreign) (o .place)) (sym e ∙ z) .0 in
           record { small = f .small; used = f .used; text = f .text; within = f .within; edge = f .edge; log = passed.ready F (logLent l) y j a d }

@@ -15,7 +15,7 @@ use Rattle.unicode.specs.Repertoire.{Repertoire}
 use Rattle.cluster.specs.Clusters.{clustersOf}
 use Rattle.checks.specs.Outcome.{Outcome, refused, answered}
 use Rattle.journal.specs.Change.{Edit, insert, delete, replace, Change}
-use Rattle.journal.specs.Layout.{Format}
+use Rattle.formats.specs.declared.Format.{Format}
 use Rattle.journal.specs.Recording.{isSingle, note, recordInsert, recordInsertStr, recordDelete, recordReplace}
 use Rattle.journal.specs.Undo.{Sizes, fits}
 use Rattle.edit.specs.Plan.{Piece, State, changeOut, changed, cutting, edited, listAfter, made, notedOr, once, pasted, recorded, splice, swapping, textAfter, tooLong, typed}

@@ -18,7 +18,9 @@ use Rattle.unicode.proofs.Typed.{char-text}
 use Rattle.unicode.proofs.Text.{text-nil}
 use Rattle.cluster.specs.Clusters.{clustersOf}
 use Rattle.journal.specs.Change.{Edit, insert, delete, replace, Change, edit, place, old, new}
-use Rattle.journal.specs.Layout.{Format, top, okChange, AllGood}
+use Rattle.numbers.specs.Numbers.{top}
+use Rattle.formats.specs.declared.Format.{Format}
+use Rattle.journal.specs.Layout.{okChange, AllGood}
 use Rattle.journal.specs.Recording.{isSingle, note, recordInsert, recordReplace}
 use Rattle.journal.specs.Undo.{undoRecords, undoTexts}
 use Rattle.recording.specs.Tails.{kindNumber, tailOf, noted}

@@ -16,11 +16,14 @@ use Rattle.unicode.specs.Repertoire.{Repertoire, catalogue}
 use Rattle.unicode.specs.Text.{isText}
 use Rattle.cluster.specs.Clusters.{clustersOf}
 use Rattle.journal.specs.Change.{Edit, insert, delete, Change, place, old, new}
-use Rattle.journal.specs.Layout.{Format, top, AllGood}
+use Rattle.numbers.specs.Numbers.{top}
+use Rattle.formats.specs.declared.Format.{Format}
+use Rattle.formats.specs.Formats.{textMax, recordsMax}
+use Rattle.journal.specs.Layout.{AllGood}
 use Rattle.journal.specs.Recording.{isSingle}
 use Rattle.journal.specs.Undo.{undoRecords, undoTexts, Sizes, fits}
 use Rattle.journal.proofs.Undo.{fits-yes}
-use Rattle.recording.specs.Tails.{kindNumber, tailOf, TailAt, noted, Narrow}
+use Rattle.recording.specs.Tails.{kindNumber, tailOf, TailAt, noted, InRange}
 use Rattle.recording.specs.declared.Tail.{Tail}
 use Rattle.recording.specs.declared.Noted.{Noted}
 use Rattle.recording.proofs.Numbers.{tail-records, tail-texts, tail-within, tail-place}
@@ -111,12 +114,12 @@ pub record Roomy (R : Repertoire) (F : Format) (z : Sizes) (u : List Change) (r 
 
 module _ (R : Repertoire) (F : Format) (z : Sizes) (w : z .texts < top (F .width)) where
   -- the dry run's numbers are small
-  pub roomy-narrow : (u : List Change) (r : Room) (o n : ℕ) → Roomy R F z u r → 0 < top (F .width) → top (F .width) ≤ 4294967296 → z .records ≤ 32768 → o ≤ 4096 → n ≤ 4096 → r .fits ≡ true → Narrow (r .tail) o n
-  roomy-narrow u r o n q a b c d e f =
+  pub roomy-in-range : (u : List Change) (r : Room) (o n : ℕ) → Roomy R F z u r → 0 < top (F .width) → top (F .width) ≤ 4294967296 → z .records ≤ recordsMax → o ≤ textMax → n ≤ textMax → r .fits ≡ true → InRange (r .tail) o n
+  roomy-in-range u r o n q a b c d e f =
       let g = and-both (leb (length (undoRecords F u)) (z .records)) (leb (length (undoTexts u)) (z .texts)) (sym (fits-lengths R F z w u (q .good)) ∙ sym (q .fit) ∙ f) in
       let h = leb-true (length (undoRecords F u)) (z .records) (g .0) in
       let i = leb-true (length (undoTexts u)) (z .texts) (g .1) in
-      subst (λ (t : Tail). Narrow t o n) (sym (q .tail f))
+      subst (λ (t : Tail). InRange t o n) (sym (q .tail f))
       (record {
         records = omega (arith, tail-records F u);
         texts = omega (arith, tail-texts F u);
@@ -186,17 +189,17 @@ module _ (F : Format) (l : log.Lent) (h : log.Ready F l) where
 -- ---- the same of an edit that is lent l, whose log has buffers of its sizes and whose texts stay within C
 module _ (F : Format) (l : Lent) (h : Ready F l) where
   wide : length (l .texts) < top (F .width)
-  wide = omega (arith, h .log .texts, h .log .wide)
+  wide = omega (arith, h .log .texts, h .log .fit .lengths)
 
   high : length (l .text) < top (F .width)
-  high = omega (arith, h .small, h .log .wide)
+  high = omega (arith, h .small, h .log .fit .places, h .log .fit .lengths)
 
   pub dry-now : Roomy catalogue F (sizesOf l) (stateOf catalogue F l .log .undo) (record { fits = true; tail = tailOf F (stateOf catalogue F l .log .undo) })
   dry-now = roomy-now F (logLent l) (h .log)
 
   module _ (u : List Change) (r : Room) (q : Roomy catalogue F (sizesOf l) u r) where
-    pub dry-narrow : (o n : ℕ) → top (F .width) ≤ 4294967296 → o ≤ 4096 → n ≤ 4096 → r .fits ≡ true → Narrow (r .tail) o n
-    dry-narrow o n w a b e = roomy-narrow catalogue F (sizesOf l) wide u r o n q (omega (arith, wide)) w (h .log .records) a b e
+    pub dry-in-range : (o n : ℕ) → top (F .width) ≤ 4294967296 → o ≤ textMax → n ≤ textMax → r .fits ≡ true → InRange (r .tail) o n
+    dry-in-range o n w a b e = roomy-in-range catalogue F (sizesOf l) wide u r o n q (omega (arith, wide)) w (omega (arith, h .log .records, h .log .fit .records)) a b e
 
     module _ (t : List ℕ) (is : isText catalogue t ≡ true) (m : length t ≤ length (l .text)) where
       pub dry-cut : (a b : ℕ) (j : Bool) → Suits catalogue (cutting a b) t → j ≡ isSingle catalogue (clustersOf catalogue (part t a b)) → Roomy catalogue F (sizesOf l) (recorded catalogue (cutting a b) t u) (roomCut F (sizesOf l) j a b r)

@@ -11,7 +11,9 @@ use Rattle.lists.proofs.Bools.{and-both, or-none, by-test}
 use Rattle.unicode.specs.Repertoire.{Repertoire}
 use Rattle.unicode.specs.Text.{isText}
 use Rattle.journal.specs.Change.{Change, old, new}
-use Rattle.journal.specs.Layout.{Format, top, AllGood}
+use Rattle.numbers.specs.Numbers.{top}
+use Rattle.formats.specs.declared.Format.{Format}
+use Rattle.journal.specs.Layout.{AllGood}
 use Rattle.journal.specs.Undo.{undoRecords, undoTexts, allSmall, Sizes, fits}
 use Rattle.journal.proofs.Undo.{fits-yes, full-records, full-texts}
 use Rattle.edit.specs.Plan.{Piece, Suits, AllSuit, made, recorded, textAfter, listAfter, tooLong}

@@ -7,11 +7,12 @@ use lib.ListN.{length, take}
 use Rattle.unicode.specs.Repertoire.{Repertoire, catalogue}
 use Rattle.unicode.specs.Text.{isText}
 use Rattle.utf8.specs.Chars.{boundary}
-use Rattle.checks.specs.Checks.{Tests, both, refusal, lineTests}
+use Rattle.checks.specs.Checks.{Tests, noTests, withSizes, withCode, withForeign, withPlace, withSplit, both, refusal, lineTests}
 use Rattle.checks.specs.declared.Line.{Line}
 use Rattle.checks.specs.Outcome.{Outcome, refused, answered, called}
 use Rattle.journal.specs.Change.{place}
-use Rattle.journal.specs.Layout.{Format}
+use Rattle.formats.specs.declared.Format.{Format}
+use Rattle.formats.specs.Formats.{formatFor}
 use Rattle.journal.specs.Undo.{Sizes}
 use Rattle.changeset.specs.declared.Log.{Log}
 use Rattle.changeset.specs.Logs.{logTests}
@@ -30,6 +31,10 @@ pub record Lent : Type 0 where
 
 abbrev pub lent : List ℕ → List ℕ → List ℕ → Line → Log → Lent
 lent t rb tb l g = record { text = t; line = l; records = rb; texts = tb; log = g }
+
+-- the format that its text buffer brings
+abbrev pub formatOf : Lent → Format
+formatOf l = formatFor (length (l .text))
 
 -- its log, and its text
 abbrev pub logLent : Lent → log.Lent
@@ -76,11 +81,11 @@ pub record Edited (F : Format) (l : Lent) (o : Outcome State) (r : EditAnswer) (
 
 -- ---- the checks 2 to 8, with the tests of the call's own
 abbrev pub own : Own → Tests
-own o = record { sizes = o .sizes; code = o .code; foreign = o .foreign; place = o .place; split = o .split; prompt = false; damaged = false }
+own o = withSizes (o .sizes) (withCode (o .code) (withForeign (o .foreign) (withPlace (o .place) (withSplit (o .split) noTests))))
 
 module _ (R : Repertoire) (F : Format) (l : Lent) where
   abbrev pub checked : Tests → ℕ
-  checked own = refusal (both (lineTests R (l .text) (l .line)) (both (logTests R F (l .log) (l .records) (l .texts)) own))
+  checked own = refusal (both (lineTests R F (l .text) (l .line)) (both (logTests R F (l .log) (l .records) (l .texts)) own))
 
   -- a call: the checks, then its plan carried out
   abbrev pub editCall : Tests → Plan → Outcome State
@@ -88,7 +93,7 @@ module _ (R : Repertoire) (F : Format) (l : Lent) where
 
 -- ---- what holds where the checks pass
 pub record Ready (F : Format) (l : Lent) : Type 0 where
-  pub small : length (l .text) ≤ 4096
+  pub small : length (l .text) ≤ F .text
   pub used : l .line .len ≤ length (l .text)
   pub text : isText catalogue (textOf l) ≡ true
   pub within : l .line .cursor ≤ l .line .len

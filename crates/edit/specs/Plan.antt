@@ -12,7 +12,7 @@ use Rattle.unicode.specs.Repertoire.{Repertoire}
 use Rattle.unicode.specs.Text.{isText, isChar}
 use Rattle.checks.specs.Outcome.{Outcome, refused, answered}
 use Rattle.journal.specs.Change.{Edit, insert, delete, replace, Change, place, old, new}
-use Rattle.journal.specs.Layout.{Format}
+use Rattle.formats.specs.declared.Format.{Format}
 use Rattle.journal.specs.Recording.{note, recordInsert, recordInsertStr, recordDelete, recordReplace}
 use Rattle.journal.specs.Groups.{Log}
 use Rattle.journal.specs.Undo.{Sizes, fits}

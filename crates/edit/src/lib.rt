@@ -8,10 +8,11 @@ ghost use Rattle.utf8.specs.Chars.{valid, boundary, In};
 ghost use Rattle.unicode.specs.Repertoire.{catalogue};
 ghost use Rattle.unicode.specs.Text.{isText};
 ghost use Rattle.journal.specs.Change.{edit};
-ghost use Rattle.journal.specs.Layout.{top, okChange};
-ghost use Rattle.records.specs.Formats.{asFormat, Fit};
+ghost use Rattle.numbers.specs.Numbers.{top};
+ghost use Rattle.journal.specs.Layout.{okChange};
+ghost use Rattle.formats.specs.Formats.{Fit};
 ghost use Rattle.changeset.specs.Calls.{editOf, Numbered, lent as Log·lent, valueOf, Ready as Log·Ready};
-ghost use Rattle.recording.specs.Tails.{Narrow, tailOf};
+ghost use Rattle.recording.specs.Tails.{InRange, tailOf};
 ghost use Rattle.edit.specs.Plan.{cutting, pasted, once, edited, changeOut};
 ghost use Rattle.edit.specs.Room.{sizesBy, tailCut, tailPut, roomCut, roomPut};
 ghost use Rattle.edit.specs.Calls.{lent, sizesOf, stateOf, says as Calls·says, checked, own, Edited, Ready};
@@ -22,9 +23,10 @@ use changeset::is_damaged;
 use changeset::is_single;
 use changeset::over_sizes;
 use checks::Line;
+use checks::refusal_in;
+use formats::Format;
 use recording::Tail;
 use recording::tail_of;
-use records::Format;
 use utf8::is_boundary;
 
 #[repr(C)]
@@ -90,17 +92,16 @@ pub fn refusal(
     o: Own,
 ) -> u32
     requires { ⌜ Fit f ⌝ }
-    requires { ⌜ 65535 < top (f .width) ⌝ }
-    ensures number { λ r. ⌜ r ≡ checked catalogue (asFormat f) (lent (now (text .entry)) (now (records .entry)) (now (texts .entry)) line log) (own o) ⌝ }
-    ensures ready { λ r. ⌜ (r ≡ 0 → Ready (asFormat f) (lent (now (text .entry)) (now (records .entry)) (now (texts .entry)) line log)) ⌝ }
+    ensures number { λ r. ⌜ r ≡ checked catalogue f (lent (now (text .entry)) (now (records .entry)) (now (texts .entry)) line log) (own o) ⌝ }
+    ensures ready { λ r. ⌜ (r ≡ 0 → Ready f (lent (now (text .entry)) (now (records .entry)) (now (texts .entry)) line log)) ⌝ }
 {
-    if over_sizes(records, texts, log) {
+    if over_sizes(f, records, texts, log) {
         return 2;
     }
     if o.sizes {
         return 2;
     }
-    let k = checks::refusal(text, line, o.code, o.foreign, o.place);
+    let k = refusal_in(f, text, line, o.code, o.foreign, o.place);
     if k != 0 {
         return k;
     }
@@ -140,14 +141,14 @@ pub fn change(
     cursor: usize,
 ) -> EditAnswer
     requires { ⌜ Fit f ⌝ }
-    requires { ⌜ Ready (asFormat f) (lent (now text) (now records) (now texts) line log) ⌝ }
+    requires { ⌜ Ready f (lent (now text) (now records) (now texts) line log) ⌝ }
     requires { ⌜ (from ≤ to) × (to ≤ line .len) ⌝ }
     requires { ⌜ Numbered (editOf kind from (part (take (line .len) (now text)) from to) (now new)) kind from (part (take (line .len) (now text)) from to) (now new) ⌝ }
     requires { ⌜ okChange catalogue (edit (editOf kind from (part (take (line .len) (now text)) from to) (now new))) ≡ true ⌝ }
-    ensures { λ r. ⌜ Edited (asFormat f) (lent (now (text .entry)) (now (records .entry)) (now (texts .entry)) line log)
-        (changeOut (asFormat f) (sizesOf (lent (now (text .entry)) (now (records .entry)) (now (texts .entry)) line log)) (length (now (text .entry))) joins
+    ensures { λ r. ⌜ Edited f (lent (now (text .entry)) (now (records .entry)) (now (texts .entry)) line log)
+        (changeOut f (sizesOf (lent (now (text .entry)) (now (records .entry)) (now (texts .entry)) line log)) (length (now (text .entry))) joins
         (editOf kind from (part (take (line .len) (now (text .entry))) from to) (now (new .entry))) cursor
-        (stateOf catalogue (asFormat f) (lent (now (text .entry)) (now (records .entry)) (now (texts .entry)) line log)))
+        (stateOf catalogue f (lent (now (text .entry)) (now (records .entry)) (now (texts .entry)) line log)))
         r (now (text .exit)) (now (records .exit)) (now (texts .exit)) ⌝ }
 {
     let len = line.len;
@@ -186,11 +187,11 @@ pub fn cut_out(
     to: usize,
 ) -> EditAnswer
     requires { ⌜ Fit f ⌝ }
-    requires { ⌜ Ready (asFormat f) (lent (now text) (now records) (now texts) line log) ⌝ }
+    requires { ⌜ Ready f (lent (now text) (now records) (now texts) line log) ⌝ }
     requires { ⌜ In (take (line .len) (now text)) from to ⌝ }
-    ensures { λ r. ⌜ Edited (asFormat f) (lent (now (text .entry)) (now (records .entry)) (now (texts .entry)) line log)
-        (edited catalogue (asFormat f) (sizesOf (lent (now (text .entry)) (now (records .entry)) (now (texts .entry)) line log)) (length (now (text .entry))) (once (cutting from to) from)
-        (stateOf catalogue (asFormat f) (lent (now (text .entry)) (now (records .entry)) (now (texts .entry)) line log)))
+    ensures { λ r. ⌜ Edited f (lent (now (text .entry)) (now (records .entry)) (now (texts .entry)) line log)
+        (edited catalogue f (sizesOf (lent (now (text .entry)) (now (records .entry)) (now (texts .entry)) line log)) (length (now (text .entry))) (once (cutting from to) from)
+        (stateOf catalogue f (lent (now (text .entry)) (now (records .entry)) (now (texts .entry)) line log)))
         r (now (text .exit)) (now (records .exit)) (now (texts .exit)) ⌝ }
 {
     let joins = is_single(&text[from..to]);
@@ -224,12 +225,12 @@ pub fn put_in(
     cursor: usize,
 ) -> EditAnswer
     requires { ⌜ Fit f ⌝ }
-    requires { ⌜ Ready (asFormat f) (lent (now text) (now records) (now texts) line log) ⌝ }
+    requires { ⌜ Ready f (lent (now text) (now records) (now texts) line log) ⌝ }
     requires { ⌜ In (take (line .len) (now text)) at at ⌝ }
     requires { ⌜ isText catalogue (now new) ≡ true ⌝ }
-    ensures { λ r. ⌜ Edited (asFormat f) (lent (now (text .entry)) (now (records .entry)) (now (texts .entry)) line log)
-        (edited catalogue (asFormat f) (sizesOf (lent (now (text .entry)) (now (records .entry)) (now (texts .entry)) line log)) (length (now (text .entry))) (once (pasted at (now (new .entry))) cursor)
-        (stateOf catalogue (asFormat f) (lent (now (text .entry)) (now (records .entry)) (now (texts .entry)) line log)))
+    ensures { λ r. ⌜ Edited f (lent (now (text .entry)) (now (records .entry)) (now (texts .entry)) line log)
+        (edited catalogue f (sizesOf (lent (now (text .entry)) (now (records .entry)) (now (texts .entry)) line log)) (length (now (text .entry))) (once (pasted at (now (new .entry))) cursor)
+        (stateOf catalogue f (lent (now (text .entry)) (now (records .entry)) (now (texts .entry)) line log)))
         r (now (text .exit)) (now (records .exit)) (now (texts .exit)) ⌝ }
 {
     change(
@@ -251,8 +252,8 @@ pub fn put_in(
 // The dry run begins with the undo list as it is.
 pub fn room_now(f: Format, records: &[u8], texts: &[u8], log: Log) -> Room
     requires { ⌜ Fit f ⌝ }
-    requires { ⌜ Log·Ready (asFormat f) (Log·lent (now records) (now texts) log) ⌝ }
-    ensures { λ r. ⌜ r ≡ record { fits = true; tail = tailOf (asFormat f) (valueOf catalogue (asFormat f) (Log·lent (now (records .entry)) (now (texts .entry)) log) .undo) } ⌝ }
+    requires { ⌜ Log·Ready f (Log·lent (now records) (now texts) log) ⌝ }
+    ensures { λ r. ⌜ r ≡ record { fits = true; tail = tailOf f (valueOf catalogue f (Log·lent (now (records .entry)) (now (texts .entry)) log) .undo) } ⌝ }
 {
     let u = log.undo;
     let ur = u.records;
@@ -266,8 +267,8 @@ pub fn room_now(f: Format, records: &[u8], texts: &[u8], log: Log) -> Room
 fn tail_cut(f: Format, t: Tail, joins: bool, from: usize, to: usize) -> Tail
     requires { ⌜ Fit f ⌝ }
     requires { ⌜ from ≤ to ⌝ }
-    requires { ⌜ Narrow t (to - from) 0 ⌝ }
-    ensures { λ r. ⌜ r ≡ tailCut (asFormat f) joins from to t ⌝ }
+    requires { ⌜ InRange t (to - from) 0 ⌝ }
+    ensures { λ r. ⌜ r ≡ tailCut f joins from to t ⌝ }
 {
     if from == to {
         return t;
@@ -279,8 +280,8 @@ fn tail_cut(f: Format, t: Tail, joins: bool, from: usize, to: usize) -> Tail
 // The tail after a text of so many bytes is put in.
 fn tail_put(f: Format, t: Tail, at: usize, size: usize) -> Tail
     requires { ⌜ Fit f ⌝ }
-    requires { ⌜ Narrow t 0 size ⌝ }
-    ensures { λ r. ⌜ r ≡ tailPut (asFormat f) at size t ⌝ }
+    requires { ⌜ InRange t 0 size ⌝ }
+    ensures { λ r. ⌜ r ≡ tailPut f at size t ⌝ }
 {
     if size == 0 {
         return t;
@@ -301,8 +302,8 @@ pub fn room_cut(
 ) -> Room
     requires { ⌜ Fit f ⌝ }
     requires { ⌜ from ≤ to ⌝ }
-    requires { ⌜ (r .fits ≡ true → Narrow (r .tail) (to - from) 0) ⌝ }
-    ensures { λ q. ⌜ q ≡ roomCut (asFormat f) (sizesBy (now (records .entry)) (now (texts .entry))) joins from to r ⌝ }
+    requires { ⌜ (r .fits ≡ true → InRange (r .tail) (to - from) 0) ⌝ }
+    ensures { λ q. ⌜ q ≡ roomCut f (sizesBy (now (records .entry)) (now (texts .entry))) joins from to r ⌝ }
 {
     if !r.fits {
         return r;
@@ -318,8 +319,8 @@ pub fn room_cut(
 // The dry run of a text put in.
 pub fn room_put(f: Format, records: &[u8], texts: &[u8], r: Room, at: usize, size: usize) -> Room
     requires { ⌜ Fit f ⌝ }
-    requires { ⌜ (r .fits ≡ true → Narrow (r .tail) 0 size) ⌝ }
-    ensures { λ q. ⌜ q ≡ roomPut (asFormat f) (sizesBy (now (records .entry)) (now (texts .entry))) at size r ⌝ }
+    requires { ⌜ (r .fits ≡ true → InRange (r .tail) 0 size) ⌝ }
+    ensures { λ q. ⌜ q ≡ roomPut f (sizesBy (now (records .entry)) (now (texts .entry))) at size r ⌝ }
 {
     if !r.fits {
         return r;

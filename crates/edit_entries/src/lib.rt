@@ -2,7 +2,6 @@
 ghost use mathlib.Core.Bool.{not};
 ghost use lib.Dec.{eqb};
 ghost use Rattle.unicode.specs.Repertoire.{catalogue};
-ghost use Rattle.journal.specs.Layout.{narrow};
 ghost use Rattle.edit.specs.Calls.{lent};
 ghost use Rattle.calls.specs.Contracts.{Meets, buffers};
 ghost use Rattle.calls.specs.Calls.{codes, deleteRange, replace, update, insert, yank, yankPop, transposeChars, editWord, transposeWords, indent, edit};
@@ -20,7 +19,7 @@ pub extern "C" fn tlf_line_delete_range(
     start: usize,
     end: usize,
 ) -> EditAnswer
-    ensures { λ r. ⌜ Meets catalogue narrow (edit (deleteRange start end)) (lent (now (text .entry)) (now (records .entry)) (now (texts .entry)) line log)
+    ensures { λ r. ⌜ Meets catalogue (edit (deleteRange start end)) (lent (now (text .entry)) (now (records .entry)) (now (texts .entry)) line log)
         r (buffers (now (text .exit)) (now (records .exit)) (now (texts .exit))) ⌝ }
 {
     ranges::delete_range(text, records, texts, line, log, start, end)
@@ -37,7 +36,7 @@ pub extern "C" fn tlf_line_replace(
     end: usize,
     buf: &[u8],
 ) -> EditAnswer
-    ensures { λ r. ⌜ Meets catalogue narrow (edit (replace start end (now (buf .entry)))) (lent (now (text .entry)) (now (records .entry)) (now (texts .entry)) line log)
+    ensures { λ r. ⌜ Meets catalogue (edit (replace start end (now (buf .entry)))) (lent (now (text .entry)) (now (records .entry)) (now (texts .entry)) line log)
         r (buffers (now (text .exit)) (now (records .exit)) (now (texts .exit))) ⌝ }
 {
     ranges::replace(text, records, texts, line, log, start, end, buf)
@@ -53,7 +52,7 @@ pub extern "C" fn tlf_line_update(
     buf: &[u8],
     pos: usize,
 ) -> EditAnswer
-    ensures { λ r. ⌜ Meets catalogue narrow (edit (update (now (buf .entry)) pos)) (lent (now (text .entry)) (now (records .entry)) (now (texts .entry)) line log)
+    ensures { λ r. ⌜ Meets catalogue (edit (update (now (buf .entry)) pos)) (lent (now (text .entry)) (now (records .entry)) (now (texts .entry)) line log)
         r (buffers (now (text .exit)) (now (records .exit)) (now (texts .exit))) ⌝ }
 {
     inserts::update(text, records, texts, line, log, buf, pos)
@@ -69,7 +68,7 @@ pub extern "C" fn tlf_line_insert(
     ch: u32,
     n: u16,
 ) -> EditAnswer
-    ensures { λ r. ⌜ Meets catalogue narrow (edit (insert ch n)) (lent (now (text .entry)) (now (records .entry)) (now (texts .entry)) line log)
+    ensures { λ r. ⌜ Meets catalogue (edit (insert ch n)) (lent (now (text .entry)) (now (records .entry)) (now (texts .entry)) line log)
         r (buffers (now (text .exit)) (now (records .exit)) (now (texts .exit))) ⌝ }
 {
     inserts::insert(text, records, texts, line, log, ch, n)
@@ -85,7 +84,7 @@ pub extern "C" fn tlf_line_yank(
     buf: &[u8],
     n: u16,
 ) -> EditAnswer
-    ensures { λ r. ⌜ Meets catalogue narrow (edit (yank (now (buf .entry)) n)) (lent (now (text .entry)) (now (records .entry)) (now (texts .entry)) line log)
+    ensures { λ r. ⌜ Meets catalogue (edit (yank (now (buf .entry)) n)) (lent (now (text .entry)) (now (records .entry)) (now (texts .entry)) line log)
         r (buffers (now (text .exit)) (now (records .exit)) (now (texts .exit))) ⌝ }
 {
     inserts::yank(text, records, texts, line, log, buf, n)
@@ -101,7 +100,7 @@ pub extern "C" fn tlf_line_yank_pop(
     yank_size: usize,
     buf: &[u8],
 ) -> EditAnswer
-    ensures { λ r. ⌜ Meets catalogue narrow (edit (yankPop «yank_size» (now (buf .entry)))) (lent (now (text .entry)) (now (records .entry)) (now (texts .entry)) line log)
+    ensures { λ r. ⌜ Meets catalogue (edit (yankPop «yank_size» (now (buf .entry)))) (lent (now (text .entry)) (now (records .entry)) (now (texts .entry)) line log)
         r (buffers (now (text .exit)) (now (records .exit)) (now (texts .exit))) ⌝ }
 {
     inserts::yank_pop(text, records, texts, line, log, yank_size, buf)
@@ -115,7 +114,7 @@ pub extern "C" fn tlf_line_transpose_chars(
     line: Line,
     log: Log,
 ) -> EditAnswer
-    ensures { λ r. ⌜ Meets catalogue narrow (edit transposeChars) (lent (now (text .entry)) (now (records .entry)) (now (texts .entry)) line log)
+    ensures { λ r. ⌜ Meets catalogue (edit transposeChars) (lent (now (text .entry)) (now (records .entry)) (now (texts .entry)) line log)
         r (buffers (now (text .exit)) (now (records .exit)) (now (texts .exit))) ⌝ }
 {
     transpose_chars::transpose_chars(text, records, texts, line, log)
@@ -130,7 +129,7 @@ pub extern "C" fn tlf_line_edit_word(
     log: Log,
     action: u32,
 ) -> EditAnswer
-    ensures { λ r. ⌜ Meets catalogue narrow (edit (editWord action)) (lent (now (text .entry)) (now (records .entry)) (now (texts .entry)) line log)
+    ensures { λ r. ⌜ Meets catalogue (edit (editWord action)) (lent (now (text .entry)) (now (records .entry)) (now (texts .entry)) line log)
         r (buffers (now (text .exit)) (now (records .exit)) (now (texts .exit))) ⌝ }
 {
     edit_word::edit_word(text, records, texts, line, log, action)
@@ -145,7 +144,7 @@ pub extern "C" fn tlf_line_transpose_words(
     log: Log,
     n: u16,
 ) -> EditAnswer
-    ensures { λ r. ⌜ Meets catalogue narrow (edit (transposeWords n)) (lent (now (text .entry)) (now (records .entry)) (now (texts .entry)) line log)
+    ensures { λ r. ⌜ Meets catalogue (edit (transposeWords n)) (lent (now (text .entry)) (now (records .entry)) (now (texts .entry)) line log)
         r (buffers (now (text .exit)) (now (records .exit)) (now (texts .exit))) ⌝ }
 {
     transpose_words::transpose_words(text, records, texts, line, log, n)
@@ -168,7 +167,7 @@ pub extern "C" fn tlf_line_indent(
     amount: u8,
     dedent: u8,
 ) -> EditAnswer
-    ensures { λ r. ⌜ Meets catalogue narrow (edit (indent (codes mvt n at word search ch) amount (not (eqb dedent 0)))) (lent (now (text .entry)) (now (records .entry)) (now (texts .entry)) line log)
+    ensures { λ r. ⌜ Meets catalogue (edit (indent (codes mvt n at word search ch) amount (not (eqb dedent 0)))) (lent (now (text .entry)) (now (records .entry)) (now (texts .entry)) line log)
         r (buffers (now (text .exit)) (now (records .exit)) (now (texts .exit))) ⌝ }
 {
     indents::indent(

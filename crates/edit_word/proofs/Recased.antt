@@ -8,7 +8,7 @@ use Rattle.utf8.specs.Chars.{In}
 use Rattle.unicode.specs.Repertoire.{catalogue}
 use Rattle.unicode.proofs.Catalogue.{catalogue-lawful}
 use Rattle.unicode.proofs.Text.{text-valid}
-use Rattle.journal.specs.Layout.{narrow}
+use Rattle.formats.specs.declared.Format.{Format}
 use Rattle.edit.specs.declared.EditAnswer.{EditAnswer}
 use Rattle.edit.specs.Plan.{cutting, pasted, Plan, AllSuit, edited}
 use Rattle.edit.specs.Calls.{Lent, textOf, sizesOf, stateOf, Edited, Ready}
@@ -19,7 +19,7 @@ use Rattle.edit_word.specs.EditWord.{inCase, casePlan}
 use Rattle.places.proofs.Stays.{words-on-place}
 use Rattle.edit_word.proofs.Suits.{case-suits}
 
-module _ (l : Lent) (h : Ready narrow l) (a : ℕ) (i : In (textOf l) a a) (b : ℕ) (eb : b ≡ wordsOn catalogue (textOf l) 1 a) where
+module _ (F : Format) (l : Lent) (h : Ready F l) (a : ℕ) (i : In (textOf l) a a) (b : ℕ) (eb : b ≡ wordsOn catalogue (textOf l) 1 a) where
   pub word-in : In (textOf l) a b
   word-in =
       subst (In (textOf l) a) (sym eb)
@@ -35,6 +35,6 @@ module _ (l : Lent) (h : Ready narrow l) (a : ℕ) (i : In (textOf l) a a) (b : 
         ∙ ap (casePlan catalogue (textOf l) w a) eb
 
     pub recased : (n : ℕ) → n ≡ length x → (r : EditAnswer) (t rb tb : List ℕ)
-        → Edited narrow l (edited catalogue narrow (sizesOf l) (length (l .text)) (record { pieces = cutting a b ∷ pasted a x ∷ []; cursor = a + n; number = 0; from = 0; to = 0 }) (stateOf catalogue narrow l)) r t rb tb
-        → Edited narrow l (edited catalogue narrow (sizesOf l) (length (l .text)) (casePlan catalogue (textOf l) w a (wordsOn catalogue (textOf l) 1 a)) (stateOf catalogue narrow l)) r t rb tb
-    recased n e r t rb tb q = outcome-as narrow l _ _ r t rb tb (ap (λ (p : Plan). edited catalogue narrow (sizesOf l) (length (l .text)) p (stateOf catalogue narrow l)) (same n e)) q
+        → Edited F l (edited catalogue F (sizesOf l) (length (l .text)) (record { pieces = cutting a b ∷ pasted a x ∷ []; cursor = a + n; number = 0; from = 0; to = 0 }) (stateOf catalogue F l)) r t rb tb
+        → Edited F l (edited catalogue F (sizesOf l) (length (l .text)) (casePlan catalogue (textOf l) w a (wordsOn catalogue (textOf l) 1 a)) (stateOf catalogue F l)) r t rb tb
+    recased n e r t rb tb q = outcome-as F l _ _ r t rb tb (ap (λ (p : Plan). edited catalogue F (sizesOf l) (length (l .text)) p (stateOf catalogue F l)) (same n e)) q

@@ -16,7 +16,7 @@ use Rattle.motion.specs.declared.Found.the-variants.{At, Nothing}
 use Rattle.places.specs.Places.{wordsOn}
 use Rattle.checks.specs.Checks.{ownTests}
 use Rattle.checks.specs.Outcome.{Outcome}
-use Rattle.journal.specs.Layout.{Format}
+use Rattle.formats.specs.declared.Format.{Format}
 use Rattle.edit.specs.Plan.{State, pasted, cutting, Plan, nothing}
 use Rattle.edit.specs.Calls.{Lent, textOf, editCall}
 use Rattle.edit_word.specs.declared.WordAction.{WordAction}

@@ -7,9 +7,9 @@ ghost use lib.ListN.{length, take};
 ghost use Rattle.utf8.specs.Chars.{In};
 ghost use Rattle.unicode.specs.Repertoire.{catalogue};
 ghost use Rattle.unicode.specs.Case.{cased};
-ghost use Rattle.journal.specs.Layout.{narrow};
+ghost use Rattle.formats.specs.Formats.{textMax};
 ghost use Rattle.edit.specs.Plan.{edited};
-ghost use Rattle.edit.specs.Calls.{lent, sizesOf, stateOf, Edited, Ready};
+ghost use Rattle.edit.specs.Calls.{lent, formatOf, sizesOf, stateOf, Edited, Ready};
 ghost use Rattle.places.specs.Places.{wordsOn};
 ghost use Rattle.edit_word.specs.declared.WordAction.the-variants.{Capitalize};
 ghost use Rattle.edit_word.specs.EditWord.{inCase, Written, WrittenAt, casePlan, actionOf, actionIs, editWordBy, editWordCall};
@@ -20,11 +20,13 @@ use edit::EditAnswer;
 use edit::Own;
 use edit::refusal;
 use edit::says;
+use formats::Format;
+use formats::TEXT_MAX;
+use formats::format_for;
 use motion::Found;
 use motion::skip_whitespace;
 use pair_edits::cut_and_put;
 use places::words_on;
-use records::NARROW;
 use unicode::Case;
 use unicode::change_case;
 
@@ -64,7 +66,7 @@ fn case_at(s: &[u8], case: Case, out: &mut [u8], at: usize) -> usize
 // The first cluster in upper case and the rest in lower case, written to the front of out.
 fn capitalize(s: &[u8], out: &mut [u8]) -> usize
     requires { ⌜ length (now s) ≤ length (now out) ⌝ }
-    requires { ⌜ length (now out) ≤ 4096 ⌝ }
+    requires { ⌜ length (now out) ≤ textMax ⌝ }
     ensures { λ r. ⌜ Written (inCase catalogue Capitalize (now (s .entry))) (now (out .exit)) r ⌝ }
 {
     let k = next_cluster(s);
@@ -77,7 +79,7 @@ fn capitalize(s: &[u8], out: &mut [u8]) -> usize
 // A word in another case, written to the front of out.
 fn write_case(s: &[u8], action: WordAction, out: &mut [u8]) -> usize
     requires { ⌜ length (now s) ≤ length (now out) ⌝ }
-    requires { ⌜ length (now out) ≤ 4096 ⌝ }
+    requires { ⌜ length (now out) ≤ textMax ⌝ }
     ensures { λ r. ⌜ Written (inCase catalogue action (now (s .entry))) (now (out .exit)) r ⌝ }
 {
     match action {
@@ -89,6 +91,7 @@ fn write_case(s: &[u8], action: WordAction, out: &mut [u8]) -> usize
 
 // The word from a place on put in another case.
 fn case_from(
+    f: Format,
     text: &mut [u8],
     records: &mut [u8],
     texts: &mut [u8],
@@ -97,21 +100,21 @@ fn case_from(
     action: WordAction,
     from: usize,
 ) -> EditAnswer
-    requires { ⌜ Ready narrow (lent (now text) (now records) (now texts) line log) ⌝ }
+    requires { ⌜ Ready f (lent (now text) (now records) (now texts) line log) ⌝ }
     requires { ⌜ In (take (line .len) (now text)) from from ⌝ }
-    ensures { λ r. ⌜ Edited narrow (lent (now (text .entry)) (now (records .entry)) (now (texts .entry)) line log)
-        (edited catalogue narrow (sizesOf (lent (now (text .entry)) (now (records .entry)) (now (texts .entry)) line log)) (length (now (text .entry)))
+    ensures { λ r. ⌜ Edited f (lent (now (text .entry)) (now (records .entry)) (now (texts .entry)) line log)
+        (edited catalogue f (sizesOf (lent (now (text .entry)) (now (records .entry)) (now (texts .entry)) line log)) (length (now (text .entry)))
         (casePlan catalogue (take (line .len) (now (text .entry))) action from (wordsOn catalogue (take (line .len) (now (text .entry))) 1 from))
-        (stateOf catalogue narrow (lent (now (text .entry)) (now (records .entry)) (now (texts .entry)) line log)))
+        (stateOf catalogue f (lent (now (text .entry)) (now (records .entry)) (now (texts .entry)) line log)))
         r (now (text .exit)) (now (records .exit)) (now (texts .exit)) ⌝ }
 {
     let len = line.len;
     let to = words_on(&text[..len], from, 1);
-    let mut word = [0u8; 4096];
+    let mut word = [0u8; TEXT_MAX];
     let n = write_case(&text[from..to], action, &mut word);
     let behind = from + n;
     cut_and_put(
-        NARROW,
+        f,
         text,
         records,
         texts,
@@ -135,19 +138,20 @@ fn edit_word_by(
     log: Log,
     action: WordAction,
 ) -> EditAnswer
-    ensures { λ r. ⌜ Edited narrow (lent (now (text .entry)) (now (records .entry)) (now (texts .entry)) line log)
-        (editWordBy catalogue narrow (lent (now (text .entry)) (now (records .entry)) (now (texts .entry)) line log) (actionIs action))
+    ensures { λ r. ⌜ Edited (formatOf (lent (now (text .entry)) (now (records .entry)) (now (texts .entry)) line log)) (lent (now (text .entry)) (now (records .entry)) (now (texts .entry)) line log)
+        (editWordBy catalogue (formatOf (lent (now (text .entry)) (now (records .entry)) (now (texts .entry)) line log)) (lent (now (text .entry)) (now (records .entry)) (now (texts .entry)) line log) (actionIs action))
         r (now (text .exit)) (now (records .exit)) (now (texts .exit)) ⌝ }
 {
-    let k = refusal(NARROW, text, records, texts, line, log, Own::none());
+    let f = format_for(text.len());
+    let k = refusal(f, text, records, texts, line, log, Own::none());
     if k != 0 {
         return says(k, line, log);
     }
     let len = line.len;
     let cursor = line.cursor;
-    let f = skip_whitespace(&text[..len], cursor);
-    match f {
-        Found::At(p) => case_from(text, records, texts, line, log, action, p),
+    let found = skip_whitespace(&text[..len], cursor);
+    match found {
+        Found::At(p) => case_from(f, text, records, texts, line, log, action, p),
         Found::Nothing => says(1, line, log),
     }
 }
@@ -161,8 +165,8 @@ pub fn edit_word(
     log: Log,
     action: u32,
 ) -> EditAnswer
-    ensures { λ r. ⌜ Edited narrow (lent (now (text .entry)) (now (records .entry)) (now (texts .entry)) line log)
-        (editWordCall catalogue narrow (lent (now (text .entry)) (now (records .entry)) (now (texts .entry)) line log) action)
+    ensures { λ r. ⌜ Edited (formatOf (lent (now (text .entry)) (now (records .entry)) (now (texts .entry)) line log)) (lent (now (text .entry)) (now (records .entry)) (now (texts .entry)) line log)
+        (editWordCall catalogue (formatOf (lent (now (text .entry)) (now (records .entry)) (now (texts .entry)) line log)) (lent (now (text .entry)) (now (records .entry)) (now (texts .entry)) line log) action)
         r (now (text .exit)) (now (records .exit)) (now (texts .exit)) ⌝ }
 {
     let code = WordAction::from_code(action);
@@ -174,11 +178,8 @@ pub fn edit_word(
             place: false,
             split: false,
         };
-        return says(
-            refusal(NARROW, text, records, texts, line, log, own),
-            line,
-            log,
-        );
+        let f = format_for(text.len());
+        return says(refusal(f, text, records, texts, line, log, own), line, log);
     };
     edit_word_by(text, records, texts, line, log, a)
 }

@@ -2,11 +2,11 @@
 use mathlib.Core.Path.{_≡_, refl, subst}
 use mathlib.Core.Bool.{Bool, true, false}
 use mathlib.Core.List.{List, [], _∷_, _++_}
-use Prim.Native.Nat.{ℕ, zero, suc, _+_, _-_, _*_, _≤_}
+use Prim.Native.Nat.{ℕ, _+_, _-_, _≤_}
 use native.Mathlib.Omega.{arith}
-use lib.Dec.{eqb, ltb}
+use lib.Dec.{ltb}
 use lib.ListN.{length, length-replicate}
-use borrow.Author.Tests.{eqb-true, eqb-false, lt-ltb, le-ltb}
+use borrow.Author.Tests.{lt-ltb, le-ltb}
 use Rattle.lists.proofs.Bools.{by-less, by-test}
 use Rattle.utf8.specs.Chars.{validFrom, valid, boundary, In}
 use Rattle.unicode.specs.Repertoire.{Repertoire}
@@ -15,8 +15,8 @@ use Rattle.keymap.specs.declared.Movement.{Movement}
 use Rattle.edit.specs.Plan.{Piece, splice, AllSuit, textAfter}
 use Rattle.edit.proofs.Splice.{splice-stays, splice-moves, splice-start}
 use Rattle.touched_lines.specs.Touched.{deleting, splits, touched}
-use Rattle.indent_plans.specs.IndentPlans.{spaces, indentPieces, indentLines, indentCursor, dedentLines, dedented, dedentCursor, linesIn, indentPlan, pieceOf, indented}
-use Rattle.indent_plans.proofs.Suits.{spaces-valid, piece-in, indent-suits}
+use Rattle.indent_plans.specs.IndentPlans.{spaces, indentLine, indentLines, indentCursor, dedentLines, dedented, dedentCursor, linesIn, indentPlan, pieceOf, indented}
+use Rattle.indent_plans.proofs.Suits.{spaces-valid, piece-in, by-pieces, indent-suits}
 
 -- a place of a text
 abbrev pub At : List ℕ → ℕ → Type 0
@@ -49,8 +49,8 @@ put-place t at n pos i j =
     (λ h. rw (lt-ltb pos at h) (splice-stays t at at (spaces n) i pos (omega arith) (j .2)))
     (λ h. rw (le-ltb pos at h) (splice-moves t at at (spaces n) i (spaces-valid n) pos (pos + n) h (j .1) (j .2) (omega (arith, length-replicate {A = ℕ} n 0x20))))
 
-none-indented : (at m pos : ℕ) → m ≡ 0 → pos ≡ indented at m pos
-none-indented at m pos e = by-test _ (ltb pos at) (λ z. rw z) (λ z. rw z (omega arith))
+none-indented : (at pos : ℕ) → pos ≡ indented at 0 pos
+none-indented at pos = by-test _ (ltb pos at) (λ z. rw z) (λ z. rw z (omega arith))
 
 more-indented : (at m pos : ℕ) → (m ≡ 0 → ⊥) → indented at (m - 32) (indented at (pieceOf m) pos) ≡ indented at m pos
 more-indented at m pos h =
@@ -64,26 +64,22 @@ none-after t pos j = j
 
 module _ (R : Repertoire) where
   -- what holds of what comes behind a line's pieces, from where they leave text and cursor
-  pieces-cursor : (k at m : ℕ) (t : List ℕ) (pos : ℕ) (ys : List Piece) → m ≤ 32 * k → AllSuit R (indentPieces k at m ++ ys) t → At t pos
-      → (C : List ℕ → Type 0) → ((u : List ℕ) → AllSuit R ys u → At u (indented at m pos) → C (textAfter ys u)) → C (textAfter (indentPieces k at m ++ ys) t)
-  unfolding AllSuit textAfter indentPieces
-  pieces-cursor zero at m t pos ys h s j C g = g t s (subst (At t) (none-indented at m pos (omega arith)) j)
-  pieces-cursor (suc k) at m t pos ys h s j C g =
-      by-test _ (eqb m 0)
-      (λ z. rw z (g t (rw z at s) (subst (At t) (none-indented at m pos (eqb-true m 0 z)) j)))
-      (λ z.
-      let n = eqb-false m 0 z in
-      let w : (In t at at × (isText R (spaces (pieceOf m)) ≡ true)) × AllSuit R (indentPieces k at (m - 32) ++ ys) (splice t at at (spaces (pieceOf m))) = rw z at s in
-      rw z
-      (pieces-cursor k at (m - 32) (splice t at at (spaces (pieceOf m))) (indented at (pieceOf m) pos) ys (omega arith) (w .1) (put-place t at (pieceOf m) pos (w .0 .0) j) C
-      (λ u x y. g u x (subst (At u) (more-indented at m pos n) y))))
+  pieces-cursor : (at m : ℕ) (t : List ℕ) (pos : ℕ) (ys : List Piece) → AllSuit R (indentLine at m ++ ys) t → At t pos
+      → (C : List ℕ → Type 0) → ((u : List ℕ) → AllSuit R ys u → At u (indented at m pos) → C (textAfter ys u)) → C (textAfter (indentLine at m ++ ys) t)
+  unfolding AllSuit textAfter
+  pieces-cursor at m t pos ys s j C g =
+      by-pieces (λ (n : ℕ) (xs : List Piece). (t : List ℕ) (pos : ℕ) → AllSuit R (xs ++ ys) t → At t pos → ((u : List ℕ) → AllSuit R ys u → At u (indented at n pos) → C (textAfter ys u)) → C (textAfter (xs ++ ys) t)) at
+      (λ t pos s j g. g t s (subst (At t) (none-indented at pos) j))
+      (λ n xs h r t pos s j g.
+      r (splice t at at (spaces (pieceOf n))) (indented at (pieceOf n) pos) (s .1) (put-place t at (pieceOf n) pos (s .0 .0) j)
+      (λ u x y. g u x (subst (At u) (more-indented at n pos h) y))) m t pos s j g
 
   module _ (m : ℕ) where
     pub indent-cursor : (xs : List (List ℕ)) (at : ℕ) (t : List ℕ) (pos : ℕ) → AllSuit R (indentLines m at xs) t → At t pos → At (textAfter (indentLines m at xs) t) (indentCursor m at xs pos)
     unfolding indentLines indentCursor
     indent-cursor [] at t pos s j = none-after t pos j
     indent-cursor (x ∷ xs) at t pos s j =
-        pieces-cursor m at m t pos (indentLines m (at + m + length x + 1) xs) (omega arith) s j (λ u. At u (indentCursor m (at + m + length x + 1) xs (indented at m pos)))
+        pieces-cursor at m t pos (indentLines m (at + m + length x + 1) xs) s j (λ u. At u (indentCursor m (at + m + length x + 1) xs (indented at m pos)))
         (λ u y z. indent-cursor xs (at + m + length x + 1) u (indented at m pos) y z)
 
 -- ---- the call's plan

@@ -3,4 +3,4 @@ pub mod Suits
 pub mod Cursors
 pub mod Counted
 pub mod Rooms
-pub mod FirstLine
+pub mod Lines

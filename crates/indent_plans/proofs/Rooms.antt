@@ -1,5 +1,5 @@
 -- Checks 9 and 10 of indenting and dedenting, by counts. Assumes nothing.
-use mathlib.Core.Path.{_≡_, sym, ap, ap₂, _∙_}
+use mathlib.Core.Path.{_≡_, sym, ap, ap₂, subst, _∙_}
 use mathlib.Core.Bool.{Bool, true, false, _&&_}
 use mathlib.Core.List.{List, [], _∷_}
 use Prim.Native.Nat.{ℕ, _+_, _-_, _*_, _/_, _<_, _≤_}
@@ -10,26 +10,28 @@ use lib.ListN.{length, take, drop, length-append, length-drop, take-append-drop}
 use borrow.Author.Tests.{le-leb, lt-leb, lt-ltb, le-ltb}
 use Rattle.lists.specs.Lists.{part}
 use Rattle.lists.proofs.Bools.{by-less, by-test}
-use Rattle.lists.proofs.Every.{Every}
 use Rattle.utf8.specs.Chars.{valid, In}
 use Rattle.unicode.specs.Repertoire.{catalogue}
 use Rattle.unicode.proofs.Text.{text-valid}
+use Rattle.unicode.proofs.Catalogue.{catalogue-lawful}
+use Rattle.formats.specs.declared.Format.{Format}
+use Rattle.formats.specs.Formats.{textMax, Fit}
 use Rattle.journal.specs.Change.{Change}
-use Rattle.journal.specs.Layout.{narrow}
-use Rattle.journal.specs.Undo.{undoRecords, undoTexts, fits}
+use Rattle.journal.specs.Undo.{undoRecords, undoTexts}
 use Rattle.changeset.proofs.Recorded.{good, records-used, texts-used}
-use Rattle.edit.specs.Plan.{Piece, AllSuit, tooLong, listAfter}
-use Rattle.edit.specs.Calls.{Lent, logLent, textOf, sizesOf, stateOf, Ready}
-use Rattle.edit.proofs.Answers.{length-kept}
-use Rattle.edit.proofs.Parts.{part-between, raw-part}
+use Rattle.edit.specs.declared.EditAnswer.{EditAnswer}
+use Rattle.edit.specs.Plan.{Plan, AllSuit, tooLong, listAfter, edited}
+use Rattle.edit.specs.Calls.{Lent, logLent, textOf, sizesOf, stateOf, says, Edited, Ready}
+use Rattle.edit.proofs.Answers.{length-kept, nine, ten}
+use Rattle.edit.proofs.Parts.{raw-part}
 use Rattle.edit.proofs.Steps.{room-is}
 use Rattle.touched_lines.specs.Touched.{split, deleting, splits}
 use Rattle.touched_lines.specs.Counts.{cutsIn, bytesIn}
-use Rattle.indent_plans.specs.IndentPlans.{indentLines, dedentLines}
-use Rattle.touched_lines.proofs.Newlines.{split-some}
-use Rattle.indent_plans.proofs.Joined.{joined, split-joined, split-count, Valid, split-valid}
-use Rattle.indent_plans.proofs.Suits.{opened, part-valid, front-length, dedent-all, indent-all}
-use Rattle.indent_plans.proofs.Counted.{space-member, long-is, puts-records, lines-pasting, lines-total, lines-count, dedent-short, dedent-records, white-other}
+use Rattle.indent_plans.specs.IndentPlans.{dedentLines, changeSize, changesMax}
+use Rattle.indent_plans.proofs.Joined.{split-count}
+use Rattle.indent_plans.proofs.Suits.{front-length, by-lines, dedent-all, indent-all}
+use Rattle.indent_plans.proofs.Counted.{total, long-is, puts-records, lines-pasting, lines-total, lines-count, dedent-short, dedent-records}
+use Rattle.indent_plans.proofs.Lines.{linesPlan, Begins}
 
 -- ---- room behind a bytes
 fits-behind : (a n z : ℕ) → a ≤ z → leb n (z - a) ≡ leb (a + n) z
@@ -37,6 +39,10 @@ fits-behind a n z h = by-less _ (z - a) n (λ l. lt-leb n (z - a) l ∙ sym (lt-
 
 pub both-fit : (a b n k : ℕ) (y z : ℕ) → a ≤ y → b ≤ z → (leb n (y - a) && leb k (z - b)) ≡ (leb (a + n) y && leb (b + k) z)
 both-fit a b n k y z h i = ap₂ (λ (p q : Bool). p && q) (fits-behind a n y h) (fits-behind b k z i)
+
+-- the bytes of n records are a number
+pub size-fits : {F : Format} {n : ℕ} → Fit F → n ≤ changesMax → changeSize F * n ≤ 9 * changesMax
+size-fits {F} f h = let w : changeSize F ≤ 9 = omega (arith, f .width) in mul-le-mul w h
 
 -- ---- counts
 cuts-le : (m : ℕ) (xs : List (List ℕ)) → cutsIn catalogue m xs ≤ length xs
@@ -49,98 +55,126 @@ cuts-le m (x ∷ xs) =
 part-short : (t : List ℕ) (a b : ℕ) → length (part t a b) ≤ length t
 part-short t a b = omega (arith, length-append (part t a b) (drop (b - a) (drop a t)), ap length (take-append-drop (b - a) (drop a t)), length-drop a t)
 
--- ---- the log of a call that the checks pass
-module _ (l : Lent) (h : Ready narrow l) where
-  pub log-within : (l .log .undo .records ≤ length (l .records)) × (l .log .undo .texts ≤ length (l .texts))
-  log-within = let a = h .log .hold .room in let b = h .log .hold .space in omega arith
+-- ---- the lines of a call that the checks pass, and by how much they are indented or dedented
+pub record Part : Type 0 where
+  pub F : Format
+  pub l : Lent
+  pub ready : Ready F l
+  pub m : ℕ
+  pub from : ℕ
+  pub to : ℕ
+  pub inside : In (textOf l) from to
+
+abbrev pub asks : {F : Format} (l : Lent) → Ready F l → (m from to : ℕ) → In (textOf l) from to → Part
+asks {F} l h m from to i = record { F = F; l = l; ready = h; m = m; from = from; to = to; inside = i }
+
+-- 9 passes, and r says whether 10 does
+pub record Tried (x : Part) (dedent r : Bool) : Type 0 where
+  pub begins : Begins (x .F) (x .l) (x .m) dedent (x .from) (x .to) r
+
+module _ (x : Part) where
+  abbrev F : Format
+  F = x .F
+
+  abbrev l : Lent
+  l = x .l
+
+  abbrev m : ℕ
+  m = x .m
+
+  abbrev t : List ℕ
+  t = textOf l
+
+  abbrev lines : List (List ℕ)
+  lines = split (part t (x .from) (x .to))
+
+  abbrev raw : List (List ℕ)
+  raw = split (take (x .to - x .from) (drop (x .from) (l .text)))
 
   abbrev u : List Change
-  u = stateOf catalogue narrow l .log .undo
+  u = stateOf catalogue F l .log .undo
+
+  -- is there room in the log for n records with b bytes?
+  abbrev roomFor : ℕ → ℕ → Bool
+  roomFor n b = leb (l .log .undo .records + changeSize F * n) (length (l .records)) && leb (l .log .undo .texts + b) (length (l .texts))
+
+  abbrev plan : Bool → Plan
+  plan dedent = linesPlan l m dedent (x .from) (x .to)
+
+  v : valid t ≡ true
+  v = text-valid catalogue t (x .ready .text)
+
+  pub log-within : (l .log .undo .records ≤ length (l .records)) × (l .log .undo .texts ≤ length (l .texts))
+  log-within = let a = x .ready .log .hold .room in let b = x .ready .log .hold .space in omega arith
+
+  pub to-within : (x .to ≤ l .line .len) × (x .to ≤ length (l .text))
+  to-within = let k = x .inside .1 in omega (arith, length-kept F l (x .ready), x .ready .used)
+
+  raw-lines : raw ≡ lines
+  raw-lines = ap split (sym (raw-part (l .text) (l .line .len) (x .from) (x .to) (to-within .0)))
+
+  few : length lines ≤ textMax + 1
+  few = omega (arith, split-count (part t (x .from) (x .to)), part-short t (x .from) (x .to), length-kept F l (x .ready), x .ready .used, x .ready .small, x .ready .log .fit .text)
 
   -- 10 by what is recorded
-  room-by : (xs : List Piece) (n b : ℕ) → AllSuit catalogue xs (textOf l) → tooLong (length (l .text)) xs (textOf l) ≡ false
-      → length (undoRecords narrow (listAfter catalogue xs (textOf l) u)) ≡ length (undoRecords narrow u) + 5 * n → length (undoTexts (listAfter catalogue xs (textOf l) u)) ≡ length (undoTexts u) + b
-      → fits narrow (sizesOf l) (listAfter catalogue xs (textOf l) u) ≡ (leb (l .log .undo .records + 5 * n) (length (l .records)) && leb (l .log .undo .texts + b) (length (l .texts)))
-  room-by xs n b s k e f =
-      room-is catalogue narrow (length (l .text)) (omega (arith, h .small)) (sizesOf l) (omega (arith, h .log .texts)) xs (textOf l) u s (h .text) (omega (arith, length-kept narrow l h, h .used)) k (good narrow (logLent l) (h .log))
-      ∙ ap₂ (λ (x y : ℕ). leb x (length (l .records)) && leb y (length (l .texts))) (e ∙ ap (λ (x : ℕ). x + 5 * n) (sym (records-used narrow (logLent l) (h .log)))) (f ∙ ap (λ (x : ℕ). x + b) (sym (texts-used narrow (logLent l) (h .log))))
+  tried-by : (dedent : Bool) (n b : ℕ) → AllSuit catalogue (plan dedent .pieces) t → tooLong (length (l .text)) (plan dedent .pieces) t ≡ false
+      → length (undoRecords F (listAfter catalogue (plan dedent .pieces) t u)) ≡ length (undoRecords F u) + changeSize F * n → length (undoTexts (listAfter catalogue (plan dedent .pieces) t u)) ≡ length (undoTexts u) + b
+      → {r : Bool} → r ≡ roomFor n b → Tried x dedent r
+  tried-by dedent n b s k e f q =
+      let w =
+      room-is catalogue F (length (l .text)) (omega (arith, x .ready .small, x .ready .log .fit .places, x .ready .log .fit .lengths)) (sizesOf l) (omega (arith, x .ready .log .texts, x .ready .log .fit .lengths)) (plan dedent .pieces) t u s (x .ready .text) (omega (arith, length-kept F l (x .ready), x .ready .used)) k (good F (logLent l) (x .ready .log))
+      ∙ ap₂ (λ (y z : ℕ). leb y (length (l .records)) && leb z (length (l .texts))) (e ∙ ap (λ (y : ℕ). y + changeSize F * n) (sym (records-used F (logLent l) (x .ready .log)))) (f ∙ ap (λ (y : ℕ). y + b) (sym (texts-used F (logLent l) (x .ready .log)))) ∙ sym q
+      in
+      record { begins = (x .ready, ((x .inside .0, to-within .0), (s, (k, w)))) }
 
-  module _ (m from to : ℕ) (i : In (textOf l) from to) where
-    abbrev lines : List (List ℕ)
-    lines = split (part (textOf l) from to)
+  -- ---- dedenting: n cuts of b bytes
+  pub cuts-few : {n : ℕ} → n ≡ cutsIn catalogue m raw → n ≤ changesMax
+  cuts-few e = omega (arith, ap (cutsIn catalogue m) raw-lines, cuts-le m lines, few)
 
-    v : valid (textOf l) ≡ true
-    v = text-valid catalogue (textOf l) (h .text)
+  pub dedent-tried : splits catalogue m lines ≡ false → {n b : ℕ} → n ≡ cutsIn catalogue m raw → b ≡ bytesIn catalogue m raw → {r : Bool} → r ≡ roomFor n b → Tried x true r
+  dedent-tried s {n} {b} e f =
+      let c = by-lines t (x .from) (x .to) v (x .inside)
+      (λ (ls : List (List ℕ)). splits catalogue m ls ≡ false → (length (undoRecords F (listAfter catalogue (dedentLines catalogue m (x .from) ls) t u)) ≡ length (undoRecords F u) + changeSize F * cutsIn catalogue m ls) × (length (undoTexts (listAfter catalogue (dedentLines catalogue m (x .from) ls) t u)) ≡ length (undoTexts u) + bytesIn catalogue m ls))
+      (λ y ys w ws g q. dedent-records F catalogue m (catalogue-lawful .whites) (drop (x .to) t) ys y (take (x .from) t) t (x .from) u (x .inside .2) w ws q g (front-length t (x .from) (x .to) v (x .inside))) s in
+      let n′ = ap (cutsIn catalogue m) (sym raw-lines) ∙ sym e in
+      let b′ = ap (bytesIn catalogue m) (sym raw-lines) ∙ sym f in
+      tried-by true n b (dedent-all t (x .from) (x .to) v (x .inside) catalogue m s) (dedent-short catalogue m (length (l .text)) lines (x .from) t (omega (arith, length-kept F l (x .ready), x .ready .used)))
+      (c .0 ∙ ap (λ (z : ℕ). length (undoRecords F u) + changeSize F * z) n′) (c .1 ∙ ap (λ (z : ℕ). length (undoTexts u) + z) b′)
 
-    pub to-within : to ≤ l .line .len
-    to-within = let k = i .1 in omega (arith, length-kept narrow l h)
+  -- ---- indenting: k lines
+  module _ (small : m ≤ 256) {k : ℕ} (e : k ≡ length raw) where
+    e′ : length lines ≡ k
+    e′ = ap length (sym raw-lines) ∙ sym e
 
-    pub raw-lines : split (take (to - from) (drop from (l .text))) ≡ lines
-    raw-lines = ap split (sym (raw-part (l .text) (l .line .len) from to to-within))
+    pub lines-few : (k ≤ textMax + 1) × (k * m ≤ (textMax + 1) * 256) × (k * ((m + 31) / 32) ≤ changesMax)
+    lines-few =
+        let a : k ≤ textMax + 1 = omega (arith, e′, few) in
+        let b : (m + 31) / 32 ≤ 8 = omega arith in
+        (a, mul-le-mul a small, mul-le-mul a b)
 
-    few : length lines ≤ 4097
-    few =
-        let a = i .0 in
-        let b = i .1 in
-        let c = split-count (part (textOf l) from to) in
-        omega (arith, part-short (textOf l) from to, length-kept narrow l h, h .used, h .small)
+    sum : total (plan false .pieces) ≡ k * m
+    sum = lines-total m lines (x .from) ∙ ap (λ (y : ℕ). y * m) e′
 
-    -- ---- dedenting
-    module _ (s : splits catalogue m lines ≡ false) where
-      pub dedent-suit : AllSuit catalogue (dedentLines catalogue m from lines) (textOf l)
-      dedent-suit = dedent-all (textOf l) from to v i catalogue m s
+    long-sum : tooLong (length (l .text)) (plan false .pieces) t ≡ ltb (length (l .text)) (l .line .len + k * m)
+    long-sum =
+        long-is (length (l .text)) (plan false .pieces) t (lines-pasting m lines (x .from)) (omega (arith, length-kept F l (x .ready), x .ready .used))
+        ∙ ap₂ (λ (y z : ℕ). ltb (length (l .text)) (y + z)) (length-kept F l (x .ready)) sum
 
-      pub dedent-fits-text : tooLong (length (l .text)) (dedentLines catalogue m from lines) (textOf l) ≡ false
-      dedent-fits-text = dedent-short catalogue m (length (l .text)) lines from (textOf l) (omega (arith, length-kept narrow l h, h .used))
+    pub indent-long : length (l .text) - l .line .len < k * m → {a : EditAnswer} → a ≡ says 9 (l .line) (l .log)
+        → Edited F l (edited catalogue F (sizesOf l) (length (l .text)) (plan false) (stateOf catalogue F l)) a (l .text) (l .records) (l .texts)
+    indent-long c {a} q = nine F l (plan false) a (long-sum ∙ lt-ltb (length (l .text)) (l .line .len + k * m) (omega (arith, x .ready .used))) q
 
-      recorded-of : (ls : List (List ℕ)) → 0 < length ls → joined ls ≡ part (textOf l) from to → Every Valid ls → splits catalogue m ls ≡ false
-          → (length (undoRecords narrow (listAfter catalogue (dedentLines catalogue m from ls) (textOf l) u)) ≡ length (undoRecords narrow u) + 5 * cutsIn catalogue m ls) × (length (undoTexts (listAfter catalogue (dedentLines catalogue m from ls) (textOf l) u)) ≡ length (undoTexts u) + bytesIn catalogue m ls)
-      recorded-of [] k j ws q = absurd (omega arith)
-      recorded-of (x ∷ xs) k j ws q =
-          dedent-records catalogue m white-other (drop to (textOf l)) xs x (take from (textOf l)) (textOf l) from u (i .2) (ws .0) (ws .1) q
-          (opened x xs (take from (textOf l)) (part (textOf l) from to) (drop to (textOf l)) (textOf l) (part-between (textOf l) from to (i .0)) j) (front-length (textOf l) from to v i)
+    pub indent-tried : k * m ≤ length (l .text) - l .line .len → {r : Bool} → r ≡ roomFor (k * ((m + 31) / 32)) (k * m) → Tried x false r
+    indent-tried c =
+        let r = puts-records F catalogue (plan false .pieces) t u (lines-pasting m lines (x .from)) in
+        tried-by false (k * ((m + 31) / 32)) (k * m) (indent-all t (x .from) (x .to) v (x .inside) catalogue m (catalogue-lawful .space)) (long-sum ∙ le-ltb (length (l .text)) (l .line .len + k * m) (omega (arith, x .ready .used)))
+        (r .0 ∙ ap (λ (z : ℕ). length (undoRecords F u) + changeSize F * z) (lines-count m lines (x .from) ∙ ap (λ (y : ℕ). y * ((m + 31) / 32)) e′)) (r .1 ∙ ap (λ (z : ℕ). length (undoTexts u) + z) sum)
 
-      pub dedent-room : (n b : ℕ) → n ≡ cutsIn catalogue m (split (take (to - from) (drop from (l .text)))) → b ≡ bytesIn catalogue m (split (take (to - from) (drop from (l .text))))
-          → fits narrow (sizesOf l) (listAfter catalogue (dedentLines catalogue m from lines) (textOf l) u) ≡ (leb (l .log .undo .records + 5 * n) (length (l .records)) && leb (l .log .undo .texts + b) (length (l .texts)))
-      dedent-room n b e f =
-          let r = recorded-of lines (split-some (part (textOf l) from to)) (split-joined (part (textOf l) from to)) (split-valid (part (textOf l) from to) (part-valid (textOf l) from to v i)) s in
-          let x : n ≡ cutsIn catalogue m lines = e ∙ ap (cutsIn catalogue m) raw-lines in
-          let y : b ≡ bytesIn catalogue m lines = f ∙ ap (bytesIn catalogue m) raw-lines in
-          room-by (dedentLines catalogue m from lines) n b dedent-suit dedent-fits-text (r .0 ∙ ap (λ (z : ℕ). length (undoRecords narrow u) + 5 * z) (sym x)) (r .1 ∙ ap (λ (z : ℕ). length (undoTexts u) + z) (sym y))
+  -- ---- 10 fails, or the changes begin
+  module _ {dedent r : Bool} (k : Tried x dedent r) where
+    pub full : r ≡ false → {a : EditAnswer} → a ≡ says 10 (l .line) (l .log)
+        → Edited F l (edited catalogue F (sizesOf l) (length (l .text)) (plan dedent) (stateOf catalogue F l)) a (l .text) (l .records) (l .texts)
+    full e {a} q = let b = k .begins .1 .1 .1 in ten F l (plan dedent) a (b .0) (b .1 ∙ e) q
 
-    pub cuts-few : (n : ℕ) → n ≡ cutsIn catalogue m (split (take (to - from) (drop from (l .text)))) → n ≤ 65536
-    cuts-few n e = omega (arith, ap (cutsIn catalogue m) raw-lines, cuts-le m lines, few)
-
-    -- ---- indenting
-    module _ (small : m ≤ 256) where
-      pub indent-suit : AllSuit catalogue (indentLines m from lines) (textOf l)
-      indent-suit = indent-all (textOf l) from to v i catalogue m space-member
-
-      module _ (k : ℕ) (e : k ≡ length (split (take (to - from) (drop from (l .text))))) where
-        e′ : k ≡ length lines
-        e′ = e ∙ ap length raw-lines
-
-        pub lines-few : (k ≤ 4097) × (k * m ≤ 1048832) × (k * ((m + 31) / 32) ≤ 32776)
-        lines-few =
-            let a : k ≤ 4097 = omega (arith, e′, few) in
-            let b : (m + 31) / 32 ≤ 8 = omega arith in
-            (a, mul-le-mul a small, mul-le-mul a b)
-
-        long-sum : tooLong (length (l .text)) (indentLines m from lines) (textOf l) ≡ ltb (length (l .text)) (l .line .len + k * m)
-        long-sum =
-            long-is (length (l .text)) (indentLines m from lines) (textOf l) (lines-pasting m lines from) (omega (arith, length-kept narrow l h, h .used))
-            ∙ ap₂ (λ (x y : ℕ). ltb (length (l .text)) (x + y)) (length-kept narrow l h) (lines-total m lines from ∙ ap (λ (x : ℕ). x * m) (sym e′))
-
-        pub indent-long : length (l .text) - l .line .len < k * m → tooLong (length (l .text)) (indentLines m from lines) (textOf l) ≡ true
-        indent-long c = long-sum ∙ lt-ltb (length (l .text)) (l .line .len + k * m) (omega (arith, h .used))
-
-        module _ (c : k * m ≤ length (l .text) - l .line .len) where
-          pub indent-fits-text : tooLong (length (l .text)) (indentLines m from lines) (textOf l) ≡ false
-          indent-fits-text = long-sum ∙ le-ltb (length (l .text)) (l .line .len + k * m) (omega (arith, h .used))
-
-          pub indent-room : fits narrow (sizesOf l) (listAfter catalogue (indentLines m from lines) (textOf l) u) ≡ (leb (l .log .undo .records + 5 * (k * ((m + 31) / 32))) (length (l .records)) && leb (l .log .undo .texts + k * m) (length (l .texts)))
-          indent-room =
-              let r = puts-records catalogue (indentLines m from lines) (textOf l) u (lines-pasting m lines from) in
-              room-by (indentLines m from lines) (k * ((m + 31) / 32)) (k * m) indent-suit indent-fits-text
-              (r .0 ∙ ap (λ (z : ℕ). length (undoRecords narrow u) + 5 * z) (lines-count m lines from ∙ ap (λ (x : ℕ). x * ((m + 31) / 32)) (sym e′)))
-              (r .1 ∙ ap (λ (z : ℕ). length (undoTexts u) + z) (lines-total m lines from ∙ ap (λ (x : ℕ). x * m) (sym e′)))
+    pub begin : r ≡ true → Begins F l m dedent (x .from) (x .to) true
+    begin e = subst (Begins F l m dedent (x .from) (x .to)) e (k .begins)

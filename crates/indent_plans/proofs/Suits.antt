@@ -19,10 +19,10 @@ use Rattle.unicode.specs.Repertoire.{Repertoire}
 use Rattle.unicode.specs.Text.{isText}
 use Rattle.unicode.proofs.Text.{text-nil, text-append, text-valid}
 use Rattle.keymap.specs.declared.Movement.{Movement}
-use Rattle.edit.specs.Plan.{Piece, cutting, made, splice, AllSuit}
+use Rattle.edit.specs.Plan.{Piece, pasted, cutting, made, splice, AllSuit}
 use Rattle.edit.proofs.Parts.{part-between}
 use Rattle.touched_lines.specs.Touched.{split, deleting, splits, touched}
-use Rattle.indent_plans.specs.IndentPlans.{spaces, indentPieces, indentLines, dedentLines, linesIn, indentPlan, pieceOf}
+use Rattle.indent_plans.specs.IndentPlans.{spaces, indentPieces, indentLine, indentLines, dedentLines, linesIn, indentPlan, pieceOf}
 use Rattle.touched_lines.proofs.Newlines.{split-some}
 use Rattle.touched_lines.proofs.Spans.{touched-in}
 use Rattle.touched_lines.proofs.White.{deleting-in}
@@ -99,13 +99,21 @@ piece-in m h =
     some zero k = absurd (k refl)
     some (suc n) k = omega arith
 
+-- what holds of a line's pieces: of none for no spaces, and of one more where it does for 32 spaces fewer
+pub by-pieces : (P : ℕ → List Piece → Type 0) (at : ℕ) → P 0 [] → ((n : ℕ) (xs : List Piece) → (n ≡ 0 → ⊥) → P (n - 32) xs → P n (pasted at (spaces (pieceOf n)) ∷ xs)) → (m : ℕ) → P m (indentLine at m)
+unfolding indentPieces
+by-pieces P at z s m = go m m (omega arith)
+  where
+    go : (k n : ℕ) → n ≤ 32 * k → P n (indentPieces k at n)
+    go zero n h = let e : 0 ≡ n = omega arith in subst (λ (i : ℕ). P i []) e z
+    go (suc k) n h =
+        by-test _ (eqb n 0) (λ t. rw t (subst (λ (i : ℕ). P i []) (sym (eqb-true n 0 t)) z))
+        (λ t. rw t (s n _ (eqb-false n 0 t) (go k (n - 32) (omega arith))))
+
 pub spaces-more : (m : ℕ) (c : List ℕ) → (m ≡ 0 → ⊥) → spaces (m - 32) ++ (spaces (pieceOf m) ++ c) ≡ spaces m ++ c
 spaces-more m c h =
     sym (append-assoc (spaces (m - 32)) (spaces (pieceOf m)) c)
     ∙ ap (λ (l : List ℕ). l ++ c) (replicate-append-replicate (m - 32) (pieceOf m) 0x20 ∙ ap spaces (piece-in m h .2))
-
-pub no-spaces : (m : ℕ) (c : List ℕ) → m ≡ 0 → c ≡ spaces m ++ c
-no-spaces m c e = ap (λ (n : ℕ). spaces n ++ c) (sym e)
 
 -- the text once a line is indented, by the next line
 pub indent-next : (m : ℕ) (a x y b : List ℕ) (ys : List (List ℕ)) → a ++ (spaces m ++ (x ++ (behind (y ∷ ys) ++ b))) ≡ (a ++ ((spaces m ++ x) ++ (0x0A ∷ []))) ++ (y ++ (behind ys ++ b))
@@ -118,33 +126,29 @@ pub indent-before : (m : ℕ) (a x : List ℕ) → valid a ≡ true → valid x 
 indent-before m a x v w = before-next a (spaces m ++ x) v (valid-append (spaces m) x (spaces-valid m) ∙ w)
 
 module _ (R : Repertoire) (mem : R .member 0x20 ≡ true) where
-  pieces-suit : (k m : ℕ) (a c t : List ℕ) (at : ℕ) (ys : List Piece) → valid a ≡ true → t ≡ a ++ c → at ≡ length a → m ≤ 32 * k → AllSuit R ys (a ++ (spaces m ++ c)) → AllSuit R (indentPieces k at m ++ ys) t
-  unfolding indentPieces AllSuit
-  pieces-suit zero m a c t at ys v e f h g = subst (AllSuit R ys) (ap (λ (l : List ℕ). a ++ l) (sym (no-spaces m c (omega arith))) ∙ sym e) g
-  pieces-suit (suc k) m a c t at ys v e f h g =
-      by-test _ (eqb m 0)
-      (λ z. rw z (subst (AllSuit R ys) (ap (λ (l : List ℕ). a ++ l) (sym (no-spaces m c (eqb-true m 0 z))) ∙ sym e) g))
-      (λ z.
-      let n = eqb-false m 0 z in
+  pieces-suit : (m : ℕ) (a c t : List ℕ) (at : ℕ) (ys : List Piece) → valid a ≡ true → t ≡ a ++ c → at ≡ length a → AllSuit R ys (a ++ (spaces m ++ c)) → AllSuit R (indentLine at m ++ ys) t
+  unfolding AllSuit
+  pieces-suit m a c t at ys v e f g =
+      by-pieces (λ (n : ℕ) (xs : List Piece). (c t : List ℕ) → t ≡ a ++ c → AllSuit R ys (a ++ (spaces n ++ c)) → AllSuit R (xs ++ ys) t) at
+      (λ c t e g. subst (AllSuit R ys) (sym e) g)
+      (λ n xs h r c t e g.
       let q = at-boundary a [] c t e at f v in
-      let i : In t at at = (omega arith, omega (arith, ap length e, length-append a c), q, q) in
-      rw z (
-        (i, spaces-text R mem (pieceOf m)),
-        pieces-suit k (m - 32) a (spaces (pieceOf m) ++ c) (splice t at at (spaces (pieceOf m))) at ys v (put-is a [] c t e at f (spaces (pieceOf m))) f (omega arith)
-            (subst (λ (l : List ℕ). AllSuit R ys (a ++ l)) (sym (spaces-more m c n)) g),
-      ))
+      let i : In t at at = (omega arith, omega (arith, ap length e, length-append a c), q, q) in (
+        (i, spaces-text R mem (pieceOf n)),
+        r (spaces (pieceOf n) ++ c) (splice t at at (spaces (pieceOf n))) (put-is a [] c t e at f (spaces (pieceOf n))) (subst (λ (l : List ℕ). AllSuit R ys (a ++ l)) (sym (spaces-more n c h)) g),
+      )) m c t e g
 
   module _ (m : ℕ) (b : List ℕ) where
     indents : (xs : List (List ℕ)) (x a t : List ℕ) (at : ℕ) → valid a ≡ true → valid x ≡ true → Every Valid xs → t ≡ a ++ (x ++ (behind xs ++ b)) → at ≡ length a → AllSuit R (indentLines m at (x ∷ xs)) t
     unfolding indentLines AllSuit
-    indents [] x a t at v w ws e f = pieces-suit m m a (x ++ (behind [] ++ b)) t at [] v e f (omega arith) tt
+    indents [] x a t at v w ws e f = pieces-suit m a (x ++ (behind [] ++ b)) t at [] v e f tt
     indents (y ∷ ys) x a t at v w ws e f =
-        pieces-suit m m a (x ++ (behind (y ∷ ys) ++ b)) t at (indentLines m (at + m + length x + 1) (y ∷ ys)) v e f (omega arith)
+        pieces-suit m a (x ++ (behind (y ∷ ys) ++ b)) t at (indentLines m (at + m + length x + 1) (y ∷ ys)) v e f
         (indents ys y (a ++ ((spaces m ++ x) ++ (0x0A ∷ []))) (a ++ (spaces m ++ (x ++ (behind (y ∷ ys) ++ b)))) (at + m + length x + 1) (indent-before m a x v w) (ws .0) (ws .1) (indent-next m a x y b ys) (indent-place m a x at f))
 
 -- ---- the lines of the part of a text between two places
 -- the first of them, and the others
-pub opened : (x : List ℕ) (xs : List (List ℕ)) (a p b t : List ℕ) → t ≡ a ++ (p ++ b) → x ++ behind xs ≡ p → t ≡ a ++ (x ++ (behind xs ++ b))
+opened : (x : List ℕ) (xs : List (List ℕ)) (a p b t : List ℕ) → t ≡ a ++ (p ++ b) → x ++ behind xs ≡ p → t ≡ a ++ (x ++ (behind xs ++ b))
 opened x xs a p b t e j = e ∙ ap (λ (l : List ℕ). a ++ (l ++ b)) (sym j) ∙ ap (λ (l : List ℕ). a ++ l) (append-assoc x (behind xs) b)
 
 module _ (t : List ℕ) (from to : ℕ) (v : valid t ≡ true) (i : In t from to) where
@@ -157,21 +161,20 @@ module _ (t : List ℕ) (from to : ℕ) (v : valid t ≡ true) (i : In t from to
   pub front-length : from ≡ length (take from t)
   front-length = let h = i .0 in let k = i .1 in sym (length-take-le from t (omega arith))
 
+  -- what holds of lines of characters that the part is put together from holds of its own
+  pub by-lines : (P : List (List ℕ) → Type 0) → ((x : List ℕ) (xs : List (List ℕ)) → valid x ≡ true → Every Valid xs → t ≡ take from t ++ (x ++ (behind xs ++ drop to t)) → P (x ∷ xs)) → P (split (part t from to))
+  by-lines P f = go (split (part t from to)) (split-some (part t from to)) (split-joined (part t from to)) (split-valid (part t from to) part-valid)
+    where
+      go : (ls : List (List ℕ)) → 0 < length ls → joined ls ≡ part t from to → Every Valid ls → P ls
+      go [] h j ws = absurd (omega arith)
+      go (x ∷ xs) h j ws = f x xs (ws .0) (ws .1) (opened x xs (take from t) (part t from to) (drop to t) t (part-between t from to (i .0)) j)
+
   module _ (R : Repertoire) (m : ℕ) where
-    dedents-of : (ls : List (List ℕ)) → 0 < length ls → joined ls ≡ part t from to → Every Valid ls → splits R m ls ≡ false → AllSuit R (dedentLines R m from ls) t
-    dedents-of [] h j ws s = absurd (omega arith)
-    dedents-of (x ∷ xs) h j ws s = dedents R m (drop to t) xs x (take from t) t from (i .2) (ws .0) (ws .1) s (opened x xs (take from t) (part t from to) (drop to t) t (part-between t from to (i .0)) j) front-length
-
     pub dedent-all : splits R m (split (part t from to)) ≡ false → AllSuit R (dedentLines R m from (split (part t from to))) t
-    dedent-all s = dedents-of (split (part t from to)) (split-some (part t from to)) (split-joined (part t from to)) (split-valid (part t from to) part-valid) s
+    dedent-all = by-lines (λ (ls : List (List ℕ)). splits R m ls ≡ false → AllSuit R (dedentLines R m from ls) t) (λ x xs w ws e s. dedents R m (drop to t) xs x (take from t) t from (i .2) w ws s e front-length)
 
-    module _ (mem : R .member 0x20 ≡ true) where
-      indents-of : (ls : List (List ℕ)) → 0 < length ls → joined ls ≡ part t from to → Every Valid ls → AllSuit R (indentLines m from ls) t
-      indents-of [] h j ws = absurd (omega arith)
-      indents-of (x ∷ xs) h j ws = indents R mem m (drop to t) xs x (take from t) t from (i .2) (ws .0) (ws .1) (opened x xs (take from t) (part t from to) (drop to t) t (part-between t from to (i .0)) j) front-length
-
-      pub indent-all : AllSuit R (indentLines m from (split (part t from to))) t
-      indent-all = indents-of (split (part t from to)) (split-some (part t from to)) (split-joined (part t from to)) (split-valid (part t from to) part-valid)
+    pub indent-all : R .member 0x20 ≡ true → AllSuit R (indentLines m from (split (part t from to))) t
+    indent-all mem = by-lines (λ (ls : List (List ℕ)). AllSuit R (indentLines m from ls) t) (λ x xs w ws e. indents R mem m (drop to t) xs x (take from t) t from (i .2) w ws e front-length)
 
 -- ---- the call's plan
 module _ (R : Repertoire) (mem : R .member 0x20 ≡ true) (m : ℕ) (t : List ℕ) (pos : ℕ) (v : isText R t ≡ true) (k : boundary t pos ≡ true) (h : pos ≤ length t) (mvt : Movement) where

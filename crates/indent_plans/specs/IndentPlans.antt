@@ -1,11 +1,13 @@
 -- The changes that indent and dedent some lines: line_buffer.rs, indent. Each line is changed at its own place, from the first to the last.
-use Prim.Native.Nat.{ℕ, zero, suc, _+_, _-_}
+use Prim.Native.Nat.{ℕ, zero, suc, _+_, _-_, _*_}
 use mathlib.Core.Bool.{Bool, true, false, cond}
 use mathlib.Core.List.{List, [], _∷_, _++_}
 use lib.Dec.{eqb, ltb}
 use lib.ListN.{length, replicate}
 use Rattle.lists.specs.Lists.{part}
 use Rattle.unicode.specs.Repertoire.{Repertoire}
+use Rattle.formats.specs.declared.Format.{Format}
+use Rattle.formats.specs.Formats.{textMax}
 use Rattle.edit.specs.Plan.{Piece, pasted, cutting, Plan}
 use Rattle.lines.specs.declared.Span.{Span}
 use Rattle.touched_lines.specs.Touched.{split, deleting}
@@ -62,3 +64,12 @@ indentPlan R m false pos at xs = record { pieces = indentLines m at xs; cursor =
 -- the lines of a text between two places, by what stands in them
 abbrev pub linesIn : List ℕ → Span → List (List ℕ)
 linesIn s r = split (part s (r .start) (r .end))
+
+-- ---- what the changes take in the log
+-- the record of an insertion or a cut: its kind, a place and a length
+abbrev pub changeSize : Format → ℕ
+changeSize F = 1 + F .width + F .width
+
+-- no call makes more of them: 8 of 32 spaces in each line of the longest text
+abbrev pub changesMax : ℕ
+changesMax = (textMax + 1) * 8

@@ -5,13 +5,17 @@ ghost use mathlib.Core.Bool.{_&&_};
 ghost use Prim.Native.Nat.{_+_, _*_, _≤_};
 ghost use lib.Dec.{leb};
 ghost use lib.ListN.{length};
+ghost use Rattle.formats.specs.Formats.{Fit};
+ghost use Rattle.indent_plans.specs.IndentPlans.{changeSize, changesMax};
 use changeset::Log;
+use formats::Format;
 
-// Is there room in the log for n more records of 5 bytes, with so many bytes of text?
-pub fn has_room(records: &[u8], texts: &[u8], log: Log, n: usize, bytes: usize) -> bool
-    requires { ⌜ (log .undo .records ≤ length (now records)) × (log .undo .texts ≤ length (now texts)) × (n ≤ 65536) ⌝ }
-    ensures { λ r. ⌜ r ≡ (leb (log .undo .records + 5 * n) (length (now (records .entry))) && leb (log .undo .texts + bytes) (length (now (texts .entry)))) ⌝ }
+// Is there room in the log for the records of n more insertions or cuts, with so many bytes of text?
+pub fn has_room(f: Format, records: &[u8], texts: &[u8], log: Log, n: usize, bytes: usize) -> bool
+    requires { ⌜ Fit f ⌝ }
+    requires { ⌜ (log .undo .records ≤ length (now records)) × (log .undo .texts ≤ length (now texts)) × (n ≤ changesMax) ⌝ }
+    ensures { λ r. ⌜ r ≡ (leb (log .undo .records + changeSize f * n) (length (now (records .entry))) && leb (log .undo .texts + bytes) (length (now (texts .entry)))) ⌝ }
 {
     let u = log.undo;
-    (5 * n <= records.len() - u.records) & (bytes <= texts.len() - u.texts)
+    ((1 + f.width + f.width) * n <= records.len() - u.records) & (bytes <= texts.len() - u.texts)
 }

@@ -7,10 +7,10 @@ use Rattle.keymap.specs.Codes.{movementOf}
 use Rattle.keymap.specs.declared.Movement.{Movement}
 use Rattle.keymap.specs.declared.MovementCode.{MovementCode}
 use Rattle.keymap.specs.declared.MovementCode.the-variants as code
-use Rattle.checks.specs.Checks.{Tests, ownTests}
+use Rattle.checks.specs.Checks.{Tests, noTests, withForeign, withSplit, ownTests}
 use Rattle.checks.specs.Outcome.{Outcome}
 use Rattle.copies.specs.Copy.{isForeign}
-use Rattle.journal.specs.Layout.{Format}
+use Rattle.formats.specs.declared.Format.{Format}
 use Rattle.edit.specs.Plan.{State, nothing}
 use Rattle.edit.specs.Calls.{Lent, textOf, editCall}
 use Rattle.touched_lines.specs.Touched.{splits, touched}
@@ -19,15 +19,7 @@ use Rattle.indent_plans.specs.IndentPlans.{linesIn, indentPlan}
 -- 4 tries the character of a search; 6 a dedent's cuts
 abbrev pub indentTests : Repertoire → List ℕ → ℕ → Movement → ℕ → Bool → Tests
 indentTests R s pos mvt amount dedent =
-    record {
-      sizes = false;
-      code = false;
-      foreign = isForeign R mvt;
-      place = false;
-      split = cond dedent (splits R amount (linesIn s (touched R s pos mvt))) false;
-      prompt = false;
-      damaged = false;
-    }
+    withForeign (isForeign R mvt) (withSplit (cond dedent (splits R amount (linesIn s (touched R s pos mvt))) false) noTests)
 
 module _ (R : Repertoire) (F : Format) (l : Lent) (amount : ℕ) (dedent : Bool) where
   abbrev pub indentOf : Movement → Outcome State

@@ -10,8 +10,8 @@ use borrow.Author.Tests.{eq-eqb, ne-eqb, ltb-false, not-false}
 use Rattle.utf8.specs.Encode.{encode}
 use Rattle.unicode.specs.Repertoire.{catalogue}
 use Rattle.unicode.specs.Text.{isText, isChar}
-use Rattle.checks.specs.Checks.{Tests, ownTests}
-use Rattle.journal.specs.Layout.{narrow}
+use Rattle.checks.specs.Checks.{Tests, noTests, withSizes, withForeign, withPlace, withSplit, ownTests}
+use Rattle.formats.specs.declared.Format.{Format}
 use Rattle.edit.specs.declared.EditAnswer.{EditAnswer}
 use Rattle.edit.specs.Plan.{Plan, typed, pasted, once}
 use Rattle.edit.specs.Calls.{Lent, says, checked, Edited, Ready, editCall}
@@ -21,49 +21,49 @@ use Rattle.inserts.specs.Inserts.{insertPlan, yankPlan, textTests, inser
 use Rattle.buffer.specs.Edit.{copies}
 use Rattle.puts.proofs.Puts.{carried}
 
-module _ (l : Lent) (t : Tests) (p : Plan) (k : ℕ) (r : EditAnswer) where
-  pub by-check : checked catalogue narrow l t ≡ k → (k ≡ 0 → ⊥) → r ≡ says k (l .line) (l .log) → Edited narrow l (editCall catalogue narrow l t p) r (l .text) (l .records) (l .texts)
-  by-check e h q = refused-by narrow l k (checked catalogue narrow l t) (carried l p) r e h q
+module _ (F : Format) (l : Lent) (t : Tests) (p : Plan) (k : ℕ) (r : EditAnswer) where
+  pub by-check : checked catalogue F l t ≡ k → (k ≡ 0 → ⊥) → r ≡ says k (l .line) (l .log) → Edited F l (editCall catalogue F l t p) r (l .text) (l .records) (l .texts)
+  by-check e h q = refused-by F l k (checked catalogue F l t) (carried F l p) r e h q
 
-  pub by-plan : checked catalogue narrow l t ≡ k → k ≡ 0 → (p′ : Plan) → p′ ≡ p → (x rb tb : List ℕ) → Edited narrow l (carried l p′) r x rb tb → Edited narrow l (editCall catalogue narrow l t p) r x rb tb
-  by-plan e h p′ f x rb tb q = passed-by narrow l k (checked catalogue narrow l t) (carried l p) r x rb tb e h (subst (λ (y : Plan). Edited narrow l (carried l y) r x rb tb) f q)
+  pub by-plan : checked catalogue F l t ≡ k → k ≡ 0 → (p′ : Plan) → p′ ≡ p → (x rb tb : List ℕ) → Edited F l (carried F l p′) r x rb tb → Edited F l (editCall catalogue F l t p) r x rb tb
+  by-plan e h p′ f x rb tb q = passed-by F l k (checked catalogue F l t) (carried F l p) r x rb tb e h (subst (λ (y : Plan). Edited F l (carried F l y) r x rb tb) f q)
 
 -- ---- insert
-module _ (l : Lent) (ch n k : ℕ) (b : Bool) (q : k ≡ checked catalogue narrow l (ownTests false (not b) false)) (e : b ≡ isChar catalogue ch) where
+module _ (F : Format) (l : Lent) (ch n k : ℕ) (b : Bool) (q : k ≡ checked catalogue F l (ownTests false (not b) false)) (e : b ≡ isChar catalogue ch) where
   abbrev pos : ℕ
   pos = l .line .cursor
 
   abbrev tests : Tests
   tests = ownTests false (not (isChar catalogue ch)) false
 
-  as-char : checked catalogue narrow l tests ≡ k
-  as-char = sym (q ∙ ap (λ (x : Bool). checked catalogue narrow l (ownTests false (not x) false)) e)
+  as-char : checked catalogue F l tests ≡ k
+  as-char = sym (q ∙ ap (λ (x : Bool). checked catalogue F l (ownTests false (not x) false)) e)
 
   pub insert-char : k ≡ 0 → isChar catalogue ch ≡ true
-  insert-char z = not-false (isChar catalogue ch) (own-passed catalogue narrow l tests (as-char ∙ z) .foreign)
+  insert-char z = not-false (isChar catalogue ch) (own-passed catalogue F l tests (as-char ∙ z) .foreign)
 
-  pub insert-refused : (k ≡ 0 → ⊥) → (r : EditAnswer) → r ≡ says k (l .line) (l .log) → Edited narrow l (insertCall catalogue narrow l ch n) r (l .text) (l .records) (l .texts)
-  insert-refused h r f = by-check l tests (insertPlan pos ch n) k r as-char h f
+  pub insert-refused : (k ≡ 0 → ⊥) → (r : EditAnswer) → r ≡ says k (l .line) (l .log) → Edited F l (insertCall catalogue F l ch n) r (l .text) (l .records) (l .texts)
+  insert-refused h r f = by-check F l tests (insertPlan pos ch n) k r as-char h f
 
   module _ (z : k ≡ 0) (r : EditAnswer) (t rb tb : List ℕ) where
-    pub insert-one : n ≡ 1 → Edited narrow l (carried l (once (typed pos ch) (pos + length (encode ch)))) r t rb tb → Edited narrow l (insertCall catalogue narrow l ch n) r t rb tb
-    insert-one h f = by-plan l tests (insertPlan pos ch n) k r as-char z (once (typed pos ch) (pos + length (encode ch))) (rw (eq-eqb n 1 h)) t rb tb f
+    pub insert-one : n ≡ 1 → Edited F l (carried F l (once (typed pos ch) (pos + length (encode ch)))) r t rb tb → Edited F l (insertCall catalogue F l ch n) r t rb tb
+    insert-one h f = by-plan F l tests (insertPlan pos ch n) k r as-char z (once (typed pos ch) (pos + length (encode ch))) (rw (eq-eqb n 1 h)) t rb tb f
 
-    pub insert-many : (n ≡ 1 → ⊥) → (s : List ℕ) → s ≡ encode ch → Edited narrow l (carried l (once (pasted pos (copies n s)) (pos + length (copies n s)))) r t rb tb → Edited narrow l (insertCall catalogue narrow l ch n) r t rb tb
+    pub insert-many : (n ≡ 1 → ⊥) → (s : List ℕ) → s ≡ encode ch → Edited F l (carried F l (once (pasted pos (copies n s)) (pos + length (copies n s)))) r t rb tb → Edited F l (insertCall catalogue F l ch n) r t rb tb
     insert-many h s g f =
-        by-plan l tests (insertPlan pos ch n) k r as-char z (once (pasted pos (copies n s)) (pos + length (copies n s))) (rw (ne-eqb n 1 h, g)) t rb tb f
+        by-plan F l tests (insertPlan pos ch n) k r as-char z (once (pasted pos (copies n s)) (pos + length (copies n s))) (rw (ne-eqb n 1 h, g)) t rb tb f
 
 -- ---- the tests of a text that is put in, as the code makes them: b says whether s is a text
 abbrev pub madeTests : Lent → List ℕ → Bool → Bool → Bool → Tests
-madeTests l s b place split = record { sizes = ltb (length (l .text)) (length s); code = false; foreign = not b; place = place; split = split; prompt = false; damaged = false }
+madeTests l s b place split = withSizes (ltb (length (l .text)) (length s)) (withForeign (not b) (withPlace place (withSplit split noTests)))
 
-module _ (l : Lent) (s : List ℕ) (place split : Bool) (k : ℕ) (b : Bool) (q : k ≡ checked catalogue narrow l (madeTests l s b place split)) (e : b ≡ isText catalogue s) where
-  pub as-text : checked catalogue narrow l (textTests catalogue narrow l s place split) ≡ k
-  as-text = sym (q ∙ ap (λ (x : Bool). checked catalogue narrow l (madeTests l s x place split)) e)
+module _ (F : Format) (l : Lent) (s : List ℕ) (place split : Bool) (k : ℕ) (b : Bool) (q : k ≡ checked catalogue F l (madeTests l s b place split)) (e : b ≡ isText catalogue s) where
+  pub as-text : checked catalogue F l (textTests catalogue F l s place split) ≡ k
+  as-text = sym (q ∙ ap (λ (x : Bool). checked catalogue F l (madeTests l s x place split)) e)
 
   pub text-passed : k ≡ 0 → (isText catalogue s ≡ true) × (length s ≤ length (l .text))
   text-passed z =
-      let p = own-passed catalogue narrow l (textTests catalogue narrow l s place split) (as-text ∙ z) in
+      let p = own-passed catalogue F l (textTests catalogue F l s place split) (as-text ∙ z) in
       (not-false (isText catalogue s) (p .foreign), ltb-false (length (l .text)) (length s) (p .sizes))
 
 -- ---- yank
@@ -75,14 +75,14 @@ plan-some : (pos : ℕ) (s : List ℕ) (n : ℕ) → (length s ≡ 0 → ⊥) �
 plan-some pos [] n h = absurd (h refl)
 plan-some pos (b ∷ s) n h = refl
 
-module _ (l : Lent) (s : List ℕ) (n k : ℕ) (e : checked catalogue narrow l (textTests catalogue narrow l s false false) ≡ k) (r : EditAnswer) where
-  pub yank-refused : (k ≡ 0 → ⊥) → r ≡ says k (l .line) (l .log) → Edited narrow l (yankCall catalogue narrow l s n) r (l .text) (l .records) (l .texts)
-  yank-refused h f = by-check l (textTests catalogue narrow l s false false) (yankPlan (l .line .cursor) s n) k r e h f
+module _ (F : Format) (l : Lent) (s : List ℕ) (n k : ℕ) (e : checked catalogue F l (textTests catalogue F l s false false) ≡ k) (r : EditAnswer) where
+  pub yank-refused : (k ≡ 0 → ⊥) → r ≡ says k (l .line) (l .log) → Edited F l (yankCall catalogue F l s n) r (l .text) (l .records) (l .texts)
+  yank-refused h f = by-check F l (textTests catalogue F l s false false) (yankPlan (l .line .cursor) s n) k r e h f
 
-  pub yank-none : k ≡ 0 → Ready narrow l → length s ≡ 0 → r ≡ says 1 (l .line) (l .log) → Edited narrow l (yankCall catalogue narrow l s n) r (l .text) (l .records) (l .texts)
+  pub yank-none : k ≡ 0 → Ready F l → length s ≡ 0 → r ≡ says 1 (l .line) (l .log) → Edited F l (yankCall catalogue F l s n) r (l .text) (l .records) (l .texts)
   yank-none z h i f =
-      by-plan l (textTests catalogue narrow l s false false) (yankPlan (l .line .cursor) s n) k r e z (yankPlan (l .line .cursor) [] n) (plan-empty (l .line .cursor) s n i) (l .text) (l .records) (l .texts) (stays narrow l h r f)
+      by-plan F l (textTests catalogue F l s false false) (yankPlan (l .line .cursor) s n) k r e z (yankPlan (l .line .cursor) [] n) (plan-empty (l .line .cursor) s n i) (l .text) (l .records) (l .texts) (stays F l h r f)
 
-  pub yank-some : k ≡ 0 → (length s ≡ 0 → ⊥) → (t rb tb : List ℕ) → Edited narrow l (carried l (once (pasted (l .line .cursor) (copies n s)) (l .line .cursor + length (copies n s)))) r t rb tb → Edited narrow l (yankCall catalogue narrow l s n) r t rb tb
+  pub yank-some : k ≡ 0 → (length s ≡ 0 → ⊥) → (t rb tb : List ℕ) → Edited F l (carried F l (once (pasted (l .line .cursor) (copies n s)) (l .line .cursor + length (copies n s)))) r t rb tb → Edited F l (yankCall catalogue F l s n) r t rb tb
   yank-some z h t rb tb f =
-      by-plan l (textTests catalogue narrow l s false false) (yankPlan (l .line .cursor) s n) k r e z (once (pasted (l .line .cursor) (copies n s)) (l .line .cursor + length (copies n s))) (plan-some (l .line .cursor) s n h) t rb tb f
+      by-plan F l (textTests catalogue F l s false false) (yankPlan (l .line .cursor) s n) k r e z (once (pasted (l .line .cursor) (copies n s)) (l .line .cursor + length (copies n s))) (plan-some (l .line .cursor) s n h) t rb tb f

@@ -9,9 +9,9 @@ use Rattle.utf8.specs.Encode.{encode}
 use Rattle.unicode.specs.Repertoire.{Repertoire}
 use Rattle.unicode.specs.Text.{isText, isChar}
 use Rattle.buffer.specs.Edit.{copies}
-use Rattle.checks.specs.Checks.{Tests, ownTests}
+use Rattle.checks.specs.Checks.{Tests, noTests, withSizes, withForeign, withPlace, withSplit, ownTests}
 use Rattle.checks.specs.Outcome.{Outcome}
-use Rattle.journal.specs.Layout.{Format}
+use Rattle.formats.specs.declared.Format.{Format}
 use Rattle.edit.specs.Plan.{State, typed, pasted, cutting, Plan, once, nothing}
 use Rattle.edit.specs.Calls.{Lent, textOf, editCall}
 
@@ -42,7 +42,7 @@ module _ (R : Repertoire) (F : Format) (l : Lent) where
   -- 2 and 4 of a text to put in, and what 5 and 6 say of a place
   abbrev pub textTests : List ℕ → Bool → Bool → Tests
   textTests s place split =
-      record { sizes = ltb (length (l .text)) (length s); code = false; foreign = not (isText R s); place = place; split = split; prompt = false; damaged = false }
+      withSizes (ltb (length (l .text)) (length s)) (withForeign (not (isText R s)) (withPlace place (withSplit split noTests)))
 
   abbrev pub insertCall : ℕ → ℕ → Outcome State
   insertCall c n = editCall R F l (ownTests false (not (isChar R c)) false) (insertPlan (l .line .cursor) c n)

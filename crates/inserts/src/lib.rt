@@ -3,8 +3,7 @@
 ghost use mathlib.Core.Path.{_≡_};
 ghost use Prim.Native.Nat.{_+_, _-_};
 ghost use Rattle.unicode.specs.Repertoire.{catalogue};
-ghost use Rattle.journal.specs.Layout.{narrow};
-ghost use Rattle.edit.specs.Calls.{lent, Edited};
+ghost use Rattle.edit.specs.Calls.{lent, formatOf, Edited};
 ghost use Rattle.inserts.specs.Inserts.{emptyIs, insertCall, yankCall, yankPopCall, updateCall};
 use changeset::Log;
 use checks::Line;
@@ -13,11 +12,11 @@ use edit::Own;
 use edit::is_split;
 use edit::refusal;
 use edit::says;
+use formats::format_for;
 use keymap::RepeatCount;
 use pair_edits::cut_and_put;
 use puts::put_copies;
 use puts::type_char;
-use records::NARROW;
 use unicode::check_char;
 use unicode::check_text;
 use utf8::encode_at;
@@ -33,8 +32,8 @@ pub fn insert(
     ch: u32,
     n: RepeatCount,
 ) -> EditAnswer
-    ensures { λ r. ⌜ Edited narrow (lent (now (text .entry)) (now (records .entry)) (now (texts .entry)) line log)
-        (insertCall catalogue narrow (lent (now (text .entry)) (now (records .entry)) (now (texts .entry)) line log) ch n)
+    ensures { λ r. ⌜ Edited (formatOf (lent (now (text .entry)) (now (records .entry)) (now (texts .entry)) line log)) (lent (now (text .entry)) (now (records .entry)) (now (texts .entry)) line log)
+        (insertCall catalogue (formatOf (lent (now (text .entry)) (now (records .entry)) (now (texts .entry)) line log)) (lent (now (text .entry)) (now (records .entry)) (now (texts .entry)) line log) ch n)
         r (now (text .exit)) (now (records .exit)) (now (texts .exit)) ⌝ }
 {
     let own = Own {
@@ -44,7 +43,8 @@ pub fn insert(
         place: false,
         split: false,
     };
-    let k = refusal(NARROW, text, records, texts, line, log, own);
+    let f = format_for(text.len());
+    let k = refusal(f, text, records, texts, line, log, own);
     if k != 0 {
         return says(k, line, log);
     }
@@ -52,9 +52,9 @@ pub fn insert(
     let size = encode_at(&mut buf, 0, ch);
     let s = &buf[..size];
     if n == 1 {
-        return type_char(text, records, texts, line, log, ch, s);
+        return type_char(f, text, records, texts, line, log, ch, s);
     }
-    put_copies(text, records, texts, line, log, s, n as usize)
+    put_copies(f, text, records, texts, line, log, s, n as usize)
 }
 
 // Wrong answers ruled out: an empty text answered 0; 10 where n copies pass the text's room (9).
@@ -67,8 +67,8 @@ pub fn yank(
     buf: &[u8],
     n: RepeatCount,
 ) -> EditAnswer
-    ensures { λ r. ⌜ Edited narrow (lent (now (text .entry)) (now (records .entry)) (now (texts .entry)) line log)
-        (yankCall catalogue narrow (lent (now (text .entry)) (now (records .entry)) (now (texts .entry)) line log) (now (buf .entry)) n)
+    ensures { λ r. ⌜ Edited (formatOf (lent (now (text .entry)) (now (records .entry)) (now (texts .entry)) line log)) (lent (now (text .entry)) (now (records .entry)) (now (texts .entry)) line log)
+        (yankCall catalogue (formatOf (lent (now (text .entry)) (now (records .entry)) (now (texts .entry)) line log)) (lent (now (text .entry)) (now (records .entry)) (now (texts .entry)) line log) (now (buf .entry)) n)
         r (now (text .exit)) (now (records .exit)) (now (texts .exit)) ⌝ }
 {
     let own = Own {
@@ -78,14 +78,15 @@ pub fn yank(
         place: false,
         split: false,
     };
-    let k = refusal(NARROW, text, records, texts, line, log, own);
+    let f = format_for(text.len());
+    let k = refusal(f, text, records, texts, line, log, own);
     if k != 0 {
         return says(k, line, log);
     }
     if buf.len() == 0 {
         return says(1, line, log);
     }
-    put_copies(text, records, texts, line, log, buf, n as usize)
+    put_copies(f, text, records, texts, line, log, buf, n as usize)
 }
 
 // The place so many bytes before another, 0 where there are not so many.
@@ -118,8 +119,8 @@ pub fn yank_pop(
     size: usize,
     buf: &[u8],
 ) -> EditAnswer
-    ensures { λ r. ⌜ Edited narrow (lent (now (text .entry)) (now (records .entry)) (now (texts .entry)) line log)
-        (yankPopCall catalogue narrow (lent (now (text .entry)) (now (records .entry)) (now (texts .entry)) line log) size (now (buf .entry)))
+    ensures { λ r. ⌜ Edited (formatOf (lent (now (text .entry)) (now (records .entry)) (now (texts .entry)) line log)) (lent (now (text .entry)) (now (records .entry)) (now (texts .entry)) line log)
+        (yankPopCall catalogue (formatOf (lent (now (text .entry)) (now (records .entry)) (now (texts .entry)) line log)) (lent (now (text .entry)) (now (records .entry)) (now (texts .entry)) line log) size (now (buf .entry)))
         r (now (text .exit)) (now (records .exit)) (now (texts .exit)) ⌝ }
 {
     let len = line.len;
@@ -133,13 +134,14 @@ pub fn yank_pop(
         place: pos < size,
         split,
     };
-    let k = refusal(NARROW, text, records, texts, line, log, own);
+    let f = format_for(text.len());
+    let k = refusal(f, text, records, texts, line, log, own);
     if k != 0 {
         return says(k, line, log);
     }
     let number = empty_is(buf);
     cut_and_put(
-        NARROW,
+        f,
         text,
         records,
         texts,
@@ -164,8 +166,8 @@ pub fn update(
     buf: &[u8],
     pos: usize,
 ) -> EditAnswer
-    ensures { λ r. ⌜ Edited narrow (lent (now (text .entry)) (now (records .entry)) (now (texts .entry)) line log)
-        (updateCall catalogue narrow (lent (now (text .entry)) (now (records .entry)) (now (texts .entry)) line log) (now (buf .entry)) pos)
+    ensures { λ r. ⌜ Edited (formatOf (lent (now (text .entry)) (now (records .entry)) (now (texts .entry)) line log)) (lent (now (text .entry)) (now (records .entry)) (now (texts .entry)) line log)
+        (updateCall catalogue (formatOf (lent (now (text .entry)) (now (records .entry)) (now (texts .entry)) line log)) (lent (now (text .entry)) (now (records .entry)) (now (texts .entry)) line log) (now (buf .entry)) pos)
         r (now (text .exit)) (now (records .exit)) (now (texts .exit)) ⌝ }
 {
     let own = Own {
@@ -175,23 +177,11 @@ pub fn update(
         place: buf.len() < pos,
         split: !is_boundary(buf, pos),
     };
-    let k = refusal(NARROW, text, records, texts, line, log, own);
+    let f = format_for(text.len());
+    let k = refusal(f, text, records, texts, line, log, own);
     if k != 0 {
         return says(k, line, log);
     }
     let len = line.len;
-    cut_and_put(
-        NARROW,
-        text,
-        records,
-        texts,
-        line,
-        log,
-        0,
-        len,
-        0,
-        buf,
-        pos,
-        0,
-    )
+    cut_and_put(f, text, records, texts, line, log, 0, len, 0, buf, pos, 0)
 }

@@ -13,8 +13,10 @@ use Rattle.lists.proofs.Bools.{and-both, by-test}
 use Rattle.unicode.specs.Repertoire.{Repertoire}
 use Rattle.unicode.specs.Text.{isText}
 use Rattle.journal.specs.Change.{Edit, Change, begin, end, edit, insert, delete, replace}
-use Rattle.journal.specs.Layout.{Format, top, le, numAt, kindOf, recordOf, textsOf, encodeRecords, encodeTexts, Small, AllGood, okChange, sizeOf, firstLen, secondLen, textsAt, changeAt, wholeAt, push, isSome, decodeFrom, decodeAt, decode}
-use Rattle.journal.proofs.Numbers.{length-le, num-le}
+use Rattle.numbers.specs.Numbers.{top, le, numAt}
+use Rattle.formats.specs.declared.Format.{Format}
+use Rattle.journal.specs.Layout.{kindOf, recordOf, textsOf, encodeRecords, encodeTexts, Small, AllGood, okChange, sizeOf, firstLen, secondLen, textsAt, changeAt, wholeAt, push, isSome, decodeFrom, decodeAt, decode}
+use Rattle.numbers.proofs.Numbers.{length-le, num-le}
 
 -- ---- a choice by the kind k, where the kinds of edits are raised by o
 module _ {A : Type 0} (o k : ℕ) (a b c d e : A) where

@@ -13,7 +13,8 @@ use lib.Dec.{ltb}
 use borrow.Author.Tests.{lt-ltb, le-ltb}
 use Rattle.unicode.specs.Repertoire.{Repertoire}
 use Rattle.journal.specs.Change.{insert, delete, replace, Change, begin, end, edit}
-use Rattle.journal.specs.Layout.{Format, AllGood}
+use Rattle.formats.specs.declared.Format.{Format}
+use Rattle.journal.specs.Layout.{AllGood}
 use Rattle.journal.specs.Groups.{endAll, endsAny, isBegin, isEnd, passed, lastInsert}
 use Rattle.journal.specs.Undo.{undoRecords, undoTexts, Places, lastInsertAt}
 use Rattle.journal.proofs.Newest.{reverse-snoc}

@@ -9,7 +9,8 @@ use Rattle.lists.proofs.Parts.{drop-take}
 use Rattle.lists.proofs.Stores.{take-sets}
 use Rattle.unicode.specs.Repertoire.{Repertoire}
 use Rattle.journal.specs.Change.{Change}
-use Rattle.journal.specs.Layout.{Format, recordOf, textsOf, encodeRecords, encodeTexts, Good, AllGood, Layout}
+use Rattle.formats.specs.declared.Format.{Format}
+use Rattle.journal.specs.Layout.{recordOf, textsOf, encodeRecords, encodeTexts, Good, AllGood, Layout}
 use Rattle.journal.specs.Hold.{Holds}
 
 -- ---- lists of changes one behind the other

@@ -1,4 +1,3 @@
-pub mod Numbers
 pub mod Decode
 pub mod Sound
 pub mod Texts

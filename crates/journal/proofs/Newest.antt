@@ -3,7 +3,8 @@ use mathlib.Core.Path.{_≡_, refl, ap, ap₂}
 use mathlib.Core.Bool.{Bool, true, false}
 use mathlib.Core.List.{List, [], _∷_, _++_, map, reverse, reverse-append, reverse-reverse}
 use Rattle.journal.specs.Change.{insert, delete, replace, Change, begin, end, edit, turn}
-use Rattle.journal.specs.Layout.{Format, encodeRecords}
+use Rattle.formats.specs.declared.Format.{Format}
+use Rattle.journal.specs.Layout.{encodeRecords}
 use Rattle.journal.specs.Groups.{passed}
 use Rattle.journal.specs.Undo.{undoRecords}
 

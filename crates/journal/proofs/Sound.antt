@@ -11,8 +11,9 @@ use lib.Dec.{eqb}
 use borrow.Author.Tests.{eqb-true, eqb-false}
 use Rattle.unicode.specs.Repertoire.{Repertoire}
 use Rattle.journal.specs.Change.{Change}
-use Rattle.journal.specs.Layout.{Format, recordOf, textsOf, Small, okChange, Layout, sizeOf, firstLen, secondLen, textsAt, changeAt, wholeAt, push, decodeAt, decode}
-use Rattle.journal.proofs.Numbers.{Bytes, num-small, le-num}
+use Rattle.formats.specs.declared.Format.{Format}
+use Rattle.journal.specs.Layout.{recordOf, textsOf, Small, okChange, Layout, sizeOf, firstLen, secondLen, textsAt, changeAt, wholeAt, push, decodeAt, decode}
+use Rattle.numbers.proofs.Numbers.{Bytes, num-small, le-num}
 use Rattle.journal.proofs.Decode.{size-begin, size-end, size-insert, size-delete, size-replace, texts-begin, texts-end, texts-insert, texts-delete, texts-replace, change-begin, change-end, change-insert, change-delete, change-replace, KindIs, is-begin, is-end, is-insert, is-delete, is-replace, kind-is, Whole, whole, at-end, at-bad, at-step}
 
 -- ---- a part cut in two, and a record's parts

@@ -14,7 +14,8 @@ use Rattle.unicode.specs.Repertoire.{Repertoire}
 use Rattle.unicode.specs.Text.{isText}
 use Rattle.unicode.proofs.Text.{text-nil, text-append, scan-end}
 use Rattle.journal.specs.Change.{Change, begin, end, edit, insert, delete, replace}
-use Rattle.journal.specs.Layout.{Format, textsOf, okChange, sizeOf, textsAt, changeAt, wholeAt, push, isSome, decodeFrom, decodeAt, decode}
+use Rattle.formats.specs.declared.Format.{Format}
+use Rattle.journal.specs.Layout.{textsOf, okChange, sizeOf, textsAt, changeAt, wholeAt, push, isSome, decodeFrom, decodeAt, decode}
 use Rattle.journal.proofs.Decode.{kind-is, Whole, whole, isSome-push}
 use Rattle.journal.proofs.Sound.{written-texts}
 

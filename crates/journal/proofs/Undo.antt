@@ -8,7 +8,9 @@ use lib.Dec.{leb}
 use borrow.Author.Tests.{lt-ltb, le-ltb, le-leb, lt-leb}
 use Rattle.unicode.specs.Repertoire.{Repertoire}
 use Rattle.journal.specs.Change.{Edit, insert, delete, replace, Change, begin, end, edit, place}
-use Rattle.journal.specs.Layout.{Format, top, recordOf, textsOf, encodeRecords, encodeTexts, Small, AllGood}
+use Rattle.numbers.specs.Numbers.{top}
+use Rattle.formats.specs.declared.Format.{Format}
+use Rattle.journal.specs.Layout.{recordOf, textsOf, encodeRecords, encodeTexts, Small, AllGood}
 use Rattle.journal.specs.Undo.{undoRecords, undoTexts, Sizes, small, allSmall, fits}
 use Rattle.journal.proofs.Holds.{records-snoc, texts-snoc, good-append, good-left, good-right}
 

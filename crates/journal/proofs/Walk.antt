@@ -10,7 +10,8 @@ use Rattle.lists.proofs.Bools.{by-less}
 use Rattle.unicode.specs.Repertoire.{Repertoire}
 use Rattle.journal.specs.Change.{Change, begin}
 use Rattle.journal.specs.Hold.{Listed}
-use Rattle.journal.specs.Layout.{Format, kindOf, recordOf, textsOf, encodeRecords, encodeTexts, okChange, Layout, sizeOf, textsAt}
+use Rattle.formats.specs.declared.Format.{Format}
+use Rattle.journal.specs.Layout.{kindOf, recordOf, textsOf, encodeRecords, encodeTexts, okChange, Layout, sizeOf, textsAt}
 use Rattle.journal.proofs.Decode.{Whole, Reads, reads, record-pos}
 use Rattle.journal.proofs.Holds.{records-append, texts-append, records-snoc, texts-snoc, good-right}
 

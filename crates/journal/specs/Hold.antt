@@ -5,7 +5,8 @@ use mathlib.Core.List.{List, _++_}
 use lib.ListN.{length, take}
 use Rattle.unicode.specs.Repertoire.{Repertoire}
 use Rattle.journal.specs.Change.{Change}
-use Rattle.journal.specs.Layout.{Format, encodeRecords, encodeTexts, Layout}
+use Rattle.formats.specs.declared.Format.{Format}
+use Rattle.journal.specs.Layout.{encodeRecords, encodeTexts, Layout}
 
 -- us and rs are held by the records buffer rb and the texts buffer tb, with the used lengths of each list in them
 pub record Holds (R : Repertoire) (F : Format) (rb tb : List ℕ) (ur ut rr rt : ℕ) (us rs : List Change) : Type 0 where

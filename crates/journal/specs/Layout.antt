@@ -1,40 +1,17 @@
 -- Document 01, "Log and ring": the layout of a list of changes in bytes. A record is one byte of kind, then a body whose length the kind fixes;
 -- numbers are little-endian; texts follow record order, old before new. The width of a number and the offset of the kinds of edits are those of a format.
-use Prim.Native.Nat.{ℕ, zero, suc, _+_, _-_, _*_, _/_, _%_, _<_}
+use Prim.Native.Nat.{ℕ, zero, suc, _+_, _-_, _<_}
 use mathlib.Core.Path.{_≡_}
 use mathlib.Core.List.{List, [], _∷_, _++_}
 use mathlib.Core.Bool.{Bool, true, false, _&&_, cond}
 use mathlib.Core.Option.{Option, some, none}
 use lib.ListN.{length, getD, take, drop}
 use lib.Dec.{leb, ltb, eqb}
+use Rattle.numbers.specs.Numbers.{top, le, numAt}
+use Rattle.formats.specs.declared.Format.{Format}
 use Rattle.unicode.specs.Repertoire.{Repertoire}
 use Rattle.unicode.specs.Text.{isText}
 use Rattle.journal.specs.Change.{insert, delete, replace, Change, begin, end, edit}
-
-pub record Format : Type 0 where
-  -- the bytes of a number
-  pub width : ℕ
-  -- by how much the kinds of edits are raised
-  pub offset : ℕ
-
--- numbers of 2 bytes, kinds 1 to 5
-abbrev pub narrow : Format
-narrow = record { width = 2; offset = 0 }
-
--- numbers of w bytes are below top w
-abbrev pub top : ℕ → ℕ
-top zero = 1
-top (suc w) = 256 * top w
-
--- w bytes, little-endian
-abbrev pub le : ℕ → ℕ → List ℕ
-le zero v = []
-le (suc w) v = v % 256 ∷ le w (v / 256)
-
--- the number that w bytes at a place spell
-abbrev pub numAt : ℕ → List ℕ → ℕ → ℕ
-numAt zero s at = 0
-numAt (suc w) s at = getD s at 0 + 256 * numAt w s (at + 1)
 
 module _ (F : Format) where
   -- the byte of kind

@@ -6,7 +6,9 @@ use mathlib.Core.Option.{Option, some, none}
 use lib.Dec.{leb, ltb}
 use lib.ListN.{length}
 use Rattle.journal.specs.Change.{insert, delete, replace, Change, begin, end, edit}
-use Rattle.journal.specs.Layout.{Format, top, encodeRecords, encodeTexts}
+use Rattle.numbers.specs.Numbers.{top}
+use Rattle.formats.specs.declared.Format.{Format}
+use Rattle.journal.specs.Layout.{encodeRecords, encodeTexts}
 
 unfoldable pub undoRecords : Format → List Change → List ℕ
 undoRecords F u = encodeRecords F (reverse u)

@@ -1,7 +1,6 @@
 // The entries for C and Rust callers that cut text out by a movement: each is the call of the same name in `kills` or
 // `deletions`.
 ghost use Rattle.unicode.specs.Repertoire.{catalogue};
-ghost use Rattle.journal.specs.Layout.{narrow};
 ghost use Rattle.edit.specs.Calls.{lent};
 ghost use Rattle.calls.specs.Contracts.{Meets, buffers};
 ghost use Rattle.calls.specs.Calls.{codes, kill, killLine, killBuffer, discardLine, discardBuffer, backspace, deletePrevWord, deleteWord, deleteTo, delete, edit};
@@ -23,7 +22,7 @@ pub extern "C" fn tlf_line_kill(
     search: u32,
     ch: u32,
 ) -> EditAnswer
-    ensures { λ r. ⌜ Meets catalogue narrow (edit (kill (codes mvt n at word search ch))) (lent (now (text .entry)) (now (records .entry)) (now (texts .entry)) line log)
+    ensures { λ r. ⌜ Meets catalogue (edit (kill (codes mvt n at word search ch))) (lent (now (text .entry)) (now (records .entry)) (now (texts .entry)) line log)
         r (buffers (now (text .exit)) (now (records .exit)) (now (texts .exit))) ⌝ }
 {
     kills::kill(
@@ -49,7 +48,7 @@ pub extern "C" fn tlf_line_kill_line(
     line: Line,
     log: Log,
 ) -> EditAnswer
-    ensures { λ r. ⌜ Meets catalogue narrow (edit killLine) (lent (now (text .entry)) (now (records .entry)) (now (texts .entry)) line log)
+    ensures { λ r. ⌜ Meets catalogue (edit killLine) (lent (now (text .entry)) (now (records .entry)) (now (texts .entry)) line log)
         r (buffers (now (text .exit)) (now (records .exit)) (now (texts .exit))) ⌝ }
 {
     deletions::kill_line(text, records, texts, line, log)
@@ -63,7 +62,7 @@ pub extern "C" fn tlf_line_kill_buffer(
     line: Line,
     log: Log,
 ) -> EditAnswer
-    ensures { λ r. ⌜ Meets catalogue narrow (edit killBuffer) (lent (now (text .entry)) (now (records .entry)) (now (texts .entry)) line log)
+    ensures { λ r. ⌜ Meets catalogue (edit killBuffer) (lent (now (text .entry)) (now (records .entry)) (now (texts .entry)) line log)
         r (buffers (now (text .exit)) (now (records .exit)) (now (texts .exit))) ⌝ }
 {
     deletions::kill_buffer(text, records, texts, line, log)
@@ -77,7 +76,7 @@ pub extern "C" fn tlf_line_discard_line(
     line: Line,
     log: Log,
 ) -> EditAnswer
-    ensures { λ r. ⌜ Meets catalogue narrow (edit discardLine) (lent (now (text .entry)) (now (records .entry)) (now (texts .entry)) line log)
+    ensures { λ r. ⌜ Meets catalogue (edit discardLine) (lent (now (text .entry)) (now (records .entry)) (now (texts .entry)) line log)
         r (buffers (now (text .exit)) (now (records .exit)) (now (texts .exit))) ⌝ }
 {
     deletions::discard_line(text, records, texts, line, log)
@@ -91,7 +90,7 @@ pub extern "C" fn tlf_line_discard_buffer(
     line: Line,
     log: Log,
 ) -> EditAnswer
-    ensures { λ r. ⌜ Meets catalogue narrow (edit discardBuffer) (lent (now (text .entry)) (now (records .entry)) (now (texts .entry)) line log)
+    ensures { λ r. ⌜ Meets catalogue (edit discardBuffer) (lent (now (text .entry)) (now (records .entry)) (now (texts .entry)) line log)
         r (buffers (now (text .exit)) (now (records .exit)) (now (texts .exit))) ⌝ }
 {
     deletions::discard_buffer(text, records, texts, line, log)
@@ -106,7 +105,7 @@ pub extern "C" fn tlf_line_backspace(
     log: Log,
     n: u16,
 ) -> EditAnswer
-    ensures { λ r. ⌜ Meets catalogue narrow (edit (backspace n)) (lent (now (text .entry)) (now (records .entry)) (now (texts .entry)) line log)
+    ensures { λ r. ⌜ Meets catalogue (edit (backspace n)) (lent (now (text .entry)) (now (records .entry)) (now (texts .entry)) line log)
         r (buffers (now (text .exit)) (now (records .exit)) (now (texts .exit))) ⌝ }
 {
     deletions::backspace(text, records, texts, line, log, n)
@@ -122,7 +121,7 @@ pub extern "C" fn tlf_line_delete_prev_word(
     word: u32,
     n: u16,
 ) -> EditAnswer
-    ensures { λ r. ⌜ Meets catalogue narrow (edit (deletePrevWord word n)) (lent (now (text .entry)) (now (records .entry)) (now (texts .entry)) line log)
+    ensures { λ r. ⌜ Meets catalogue (edit (deletePrevWord word n)) (lent (now (text .entry)) (now (records .entry)) (now (texts .entry)) line log)
         r (buffers (now (text .exit)) (now (records .exit)) (now (texts .exit))) ⌝ }
 {
     deletions::delete_prev_word(text, records, texts, line, log, word, n)
@@ -139,7 +138,7 @@ pub extern "C" fn tlf_line_delete_word(
     word: u32,
     n: u16,
 ) -> EditAnswer
-    ensures { λ r. ⌜ Meets catalogue narrow (edit (deleteWord at word n)) (lent (now (text .entry)) (now (records .entry)) (now (texts .entry)) line log)
+    ensures { λ r. ⌜ Meets catalogue (edit (deleteWord at word n)) (lent (now (text .entry)) (now (records .entry)) (now (texts .entry)) line log)
         r (buffers (now (text .exit)) (now (records .exit)) (now (texts .exit))) ⌝ }
 {
     deletions::delete_word(text, records, texts, line, log, at, word, n)
@@ -156,7 +155,7 @@ pub extern "C" fn tlf_line_delete_to(
     ch: u32,
     n: u16,
 ) -> EditAnswer
-    ensures { λ r. ⌜ Meets catalogue narrow (edit (deleteTo search ch n)) (lent (now (text .entry)) (now (records .entry)) (now (texts .entry)) line log)
+    ensures { λ r. ⌜ Meets catalogue (edit (deleteTo search ch n)) (lent (now (text .entry)) (now (records .entry)) (now (texts .entry)) line log)
         r (buffers (now (text .exit)) (now (records .exit)) (now (texts .exit))) ⌝ }
 {
     deletions::delete_to(text, records, texts, line, log, search, ch, n)
@@ -171,7 +170,7 @@ pub extern "C" fn tlf_line_delete(
     log: Log,
     n: u16,
 ) -> EditAnswer
-    ensures { λ r. ⌜ Meets catalogue narrow (edit (delete n)) (lent (now (text .entry)) (now (records .entry)) (now (texts .entry)) line log)
+    ensures { λ r. ⌜ Meets catalogue (edit (delete n)) (lent (now (text .entry)) (now (records .entry)) (now (texts .entry)) line log)
         r (buffers (now (text .exit)) (now (records .exit)) (now (texts .exit))) ⌝ }
 {
     deletions::delete(text, records, texts, line, log, n)

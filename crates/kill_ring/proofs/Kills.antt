@@ -12,7 +12,7 @@ use Rattle.unicode.specs.Repertoire.{Repertoire}
 use Rattle.unicode.specs.Text.{isText}
 use Rattle.checks.specs.Outcome.{Outcome, refused, answered, called}
 use Rattle.checks.proofs.Outcomes.{called-refused, called-passed}
-use Rattle.journal.specs.Layout.{le}
+use Rattle.numbers.specs.Numbers.{le}
 use Rattle.buffer.specs.Edit.{inserted}
 use Rattle.buffer.proofs.Inserted.{inserted-end}
 use Rattle.kill_ring.specs.declared.Ring.{Ring}

@@ -8,8 +8,8 @@ use lib.ListN.{length, getD, take, drop, length-drop}
 use lib.Seq.{sets, sets-eq, length-take-le, take-at, take-take, take-append-le, drop-at, drop-drop, getD-drop}
 use borrow.Rule.Slice.PartMut.{putMid, postOf, midOf, mid-len, take-put, drop-put}
 use Rattle.lists.proofs.Bools.{by-less}
-use Rattle.journal.specs.Layout.{numAt, le}
-use Rattle.journal.proofs.Numbers.{num-le, num-take}
+use Rattle.numbers.specs.Numbers.{numAt, le}
+use Rattle.numbers.proofs.Numbers.{num-le, num-take}
 use Rattle.buffer.specs.Edit.{inserted}
 use Rattle.lists.proofs.Parts.{take-drop}
 use Rattle.buffer.proofs.Inserted.{inserted-length}

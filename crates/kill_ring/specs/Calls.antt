@@ -8,9 +8,9 @@ use lib.Dec.{eqb, leb, ltb}
 use lib.ListN.{length, getD, take, drop}
 use Rattle.unicode.specs.Repertoire.{Repertoire}
 use Rattle.unicode.specs.Text.{isText}
-use Rattle.checks.specs.Checks.{Tests, both, refusal, ownTests}
+use Rattle.checks.specs.Checks.{Tests, noTests, withSizes, withDamaged, both, refusal, ownTests}
 use Rattle.checks.specs.Outcome.{Outcome, refused, answered, called}
-use Rattle.journal.specs.Layout.{numAt}
+use Rattle.numbers.specs.Numbers.{numAt}
 use Rattle.kill_ring.specs.declared.Ring.{Ring}
 use Rattle.kill_ring.specs.declared.RingAnswer.{RingAnswer}
 use Rattle.kill_ring.specs.declared.Left.{Left}
@@ -85,8 +85,7 @@ unfoldable pub damaged : Repertoire → Lent → Bool
 damaged R l = ltb (l .ring .size) (l .ring .count) || (indexBreaks (l .ring) || (actionBreaks (l .ring) || anyForeign R (valueOf l .slots)))
 
 abbrev pub ringTests : Repertoire → Lent → Tests
-ringTests R l =
-    record { sizes = overSizes l; code = false; foreign = false; place = false; split = false; prompt = false; damaged = damaged R l }
+ringTests R l = withSizes (overSizes l) (withDamaged (damaged R l) noTests)
 
 abbrev pub checked : Repertoire → Lent → Bool → Bool → ℕ
 checked R l code foreign = refusal (both (ringTests R l) (ownTests code foreign false))

@@ -9,8 +9,8 @@ ghost use Rattle.buffer.specs.Edit.{inserted};
 ghost use Rattle.kill_ring.specs.Calls.{lent, lenAt, slotsFrom, actionOf, anyOver, inUse, overSizes, indexBreaks, actionBreaks, anyForeign, damaged, checked, modeOf, says as Calls·says, leftOf, newCall, resetCall, yankCall, yankPopCall, killBy, killCall, Ringed};
 ghost use Rattle.kill_ring.specs.Killed.{placeOf, slotOf, usedOf, killedInto, Put};
 use buffer::insert_bytes;
-use records::read_num;
-use records::write_num;
+use numbers::read_num;
+use numbers::write_num;
 use unicode::check_text;
 
 // What a ring's record says: the most slots that there may be, those in use, where we are among them, the last action (0 kill,

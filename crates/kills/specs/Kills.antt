@@ -16,7 +16,7 @@ use Rattle.lines.specs.declared.Range.the-variants.{Places, Nowhere}
 use Rattle.checks.specs.Checks.{ownTests}
 use Rattle.checks.specs.Outcome.{Outcome}
 use Rattle.copies.specs.Copy.{upTo, backTo, between, copied, isForeign}
-use Rattle.journal.specs.Layout.{Format}
+use Rattle.formats.specs.declared.Format.{Format}
 use Rattle.edit.specs.Plan.{State, cutting, Plan, once, nothing}
 use Rattle.edit.specs.Calls.{Lent, textOf, editCall}
 

@@ -6,8 +6,7 @@ ghost use Prim.Native.Nat.{_≤_};
 ghost use lib.ListN.{length};
 ghost use Rattle.utf8.specs.Chars.{valid, boundary};
 ghost use Rattle.unicode.specs.Repertoire.{catalogue};
-ghost use Rattle.journal.specs.Layout.{narrow};
-ghost use Rattle.edit.specs.Calls.{lent, Edited};
+ghost use Rattle.edit.specs.Calls.{lent, formatOf, Edited};
 ghost use Rattle.kills.specs.Kills.{killLine, discardLine, killRange, killOf, killCall};
 use changeset::Log;
 use checks::Line;
@@ -18,6 +17,7 @@ use edit::Own;
 use edit::cut_out;
 use edit::refusal;
 use edit::says;
+use formats::format_for;
 use keymap::Movement;
 use keymap::MovementCode;
 use keymap::RepeatCount;
@@ -27,7 +27,6 @@ use lines::start_of_line;
 use motion::Found;
 use motion::next_pos;
 use motion::prev_pos;
-use records::NARROW;
 
 // kill_line from a place.
 fn kill_line_range(s: &[u8], pos: usize) -> Range
@@ -93,8 +92,8 @@ pub fn kill_movement(
     log: Log,
     m: Movement,
 ) -> EditAnswer
-    ensures { λ r. ⌜ Edited narrow (lent (now (text .entry)) (now (records .entry)) (now (texts .entry)) line log)
-        (killOf catalogue narrow (lent (now (text .entry)) (now (records .entry)) (now (texts .entry)) line log) m)
+    ensures { λ r. ⌜ Edited (formatOf (lent (now (text .entry)) (now (records .entry)) (now (texts .entry)) line log)) (lent (now (text .entry)) (now (records .entry)) (now (texts .entry)) line log)
+        (killOf catalogue (formatOf (lent (now (text .entry)) (now (records .entry)) (now (texts .entry)) line log)) (lent (now (text .entry)) (now (records .entry)) (now (texts .entry)) line log) m)
         r (now (text .exit)) (now (records .exit)) (now (texts .exit)) ⌝ }
 {
     let own = Own {
@@ -104,7 +103,8 @@ pub fn kill_movement(
         place: false,
         split: false,
     };
-    let k = refusal(NARROW, text, records, texts, line, log, own);
+    let f = format_for(text.len());
+    let k = refusal(f, text, records, texts, line, log, own);
     if k != 0 {
         return says(k, line, log);
     }
@@ -112,7 +112,7 @@ pub fn kill_movement(
     let cursor = line.cursor;
     let r = kill_range(&text[..len], cursor, m);
     match r {
-        Range::Places(a, b) => cut_out(NARROW, text, records, texts, line, log, a, b),
+        Range::Places(a, b) => cut_out(f, text, records, texts, line, log, a, b),
         Range::Nowhere => says(1, line, log),
     }
 }
@@ -131,8 +131,8 @@ pub fn kill(
     search: u32,
     ch: u32,
 ) -> EditAnswer
-    ensures { λ r. ⌜ Edited narrow (lent (now (text .entry)) (now (records .entry)) (now (texts .entry)) line log)
-        (killCall catalogue narrow (lent (now (text .entry)) (now (records .entry)) (now (texts .entry)) line log) mvt n at word search ch)
+    ensures { λ r. ⌜ Edited (formatOf (lent (now (text .entry)) (now (records .entry)) (now (texts .entry)) line log)) (lent (now (text .entry)) (now (records .entry)) (now (texts .entry)) line log)
+        (killCall catalogue (formatOf (lent (now (text .entry)) (now (records .entry)) (now (texts .entry)) line log)) (lent (now (text .entry)) (now (records .entry)) (now (texts .entry)) line log) mvt n at word search ch)
         r (now (text .exit)) (now (records .exit)) (now (texts .exit)) ⌝ }
 {
     let code = Movement::from_codes(mvt, n, at, word, search, ch);
@@ -144,11 +144,8 @@ pub fn kill(
             place: false,
             split: false,
         };
-        return says(
-            refusal(NARROW, text, records, texts, line, log, own),
-            line,
-            log,
-        );
+        let f = format_for(text.len());
+        return says(refusal(f, text, records, texts, line, log, own), line, log);
     };
     kill_movement(text, records, texts, line, log, m)
 }

@@ -5,8 +5,12 @@ use Rattle.unicode.specs.Repertoire.{Repertoire}
 use Rattle.cluster.specs.Clusters.{clustersOf}
 
 -- the column behind a character that stands at a column
-abbrev pub advance : Repertoire → ℕ → ℕ → ℕ
+unfoldable pub advance : Repertoire → ℕ → ℕ → ℕ
 advance R col c = col + R .width c
+
+-- the most columns from a character's column to the one behind it
+abbrev pub mostColumns : ℕ
+mostColumns = 1
 
 -- behind the characters of a cluster
 unfoldable pub columnAfter : Repertoire → ℕ → List ℕ → ℕ

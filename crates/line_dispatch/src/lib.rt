@@ -7,8 +7,8 @@ use fields::code_of;
 use fields::count_of;
 use fields::value_at;
 
-// The number answered where no call has this name and so many arguments. No call answers it.
-pub const NO_CALL: u32 = 13;
+// The number answered where no call has this name and so many arguments: above all that calls answer.
+pub const NO_CALL: u32 = 4294967295;
 
 fn no_call(line: Line) -> LineAnswer {
     LineAnswer {

@@ -2,7 +2,6 @@
 ghost use Prim.Native.Nat.{ℕ};
 ghost use mathlib.Core.List.{List};
 ghost use Rattle.unicode.specs.Repertoire.{catalogue};
-ghost use Rattle.journal.specs.Layout.{narrow};
 ghost use Rattle.changeset.specs.declared.Log.{Log};
 ghost use Rattle.edit.specs.Calls.{lent};
 ghost use Rattle.calls.specs.Contracts.{Meets, buffers};
@@ -12,7 +11,7 @@ use checks::LineAnswer;
 
 #[no_mangle]
 pub extern "C" fn tlf_line_next_pos(text: &[u8], line: Line, n: u16) -> LineAnswer
-    ensures { λ r. ⌜ ((records texts : List ℕ) (log : Log) → Meets catalogue narrow (move (nextPos n)) (lent (now (text .entry)) records texts line log)
+    ensures { λ r. ⌜ ((records texts : List ℕ) (log : Log) → Meets catalogue (move (nextPos n)) (lent (now (text .entry)) records texts line log)
         r (buffers (now (text .entry)) records texts)) ⌝ }
 {
     movement::next_pos(text, line, n)
@@ -20,7 +19,7 @@ pub extern "C" fn tlf_line_next_pos(text: &[u8], line: Line, n: u16) -> LineAnsw
 
 #[no_mangle]
 pub extern "C" fn tlf_line_is_cursor_at_end(text: &[u8], line: Line) -> LineAnswer
-    ensures { λ r. ⌜ ((records texts : List ℕ) (log : Log) → Meets catalogue narrow (move isCursorAtEnd) (lent (now (text .entry)) records texts line log)
+    ensures { λ r. ⌜ ((records texts : List ℕ) (log : Log) → Meets catalogue (move isCursorAtEnd) (lent (now (text .entry)) records texts line log)
         r (buffers (now (text .entry)) records texts)) ⌝ }
 {
     movement::is_cursor_at_end(text, line)
@@ -28,7 +27,7 @@ pub extern "C" fn tlf_line_is_cursor_at_end(text: &[u8], line: Line) -> LineAnsw
 
 #[no_mangle]
 pub extern "C" fn tlf_line_is_end_of_input(text: &[u8], line: Line) -> LineAnswer
-    ensures { λ r. ⌜ ((records texts : List ℕ) (log : Log) → Meets catalogue narrow (move isEndOfInput) (lent (now (text .entry)) records texts line log)
+    ensures { λ r. ⌜ ((records texts : List ℕ) (log : Log) → Meets catalogue (move isEndOfInput) (lent (now (text .entry)) records texts line log)
         r (buffers (now (text .entry)) records texts)) ⌝ }
 {
     movement::is_end_of_input(text, line)
@@ -36,7 +35,7 @@ pub extern "C" fn tlf_line_is_end_of_input(text: &[u8], line: Line) -> LineAnswe
 
 #[no_mangle]
 pub extern "C" fn tlf_line_set_pos(text: &[u8], line: Line, pos: usize) -> LineAnswer
-    ensures { λ r. ⌜ ((records texts : List ℕ) (log : Log) → Meets catalogue narrow (move (setPos pos)) (lent (now (text .entry)) records texts line log)
+    ensures { λ r. ⌜ ((records texts : List ℕ) (log : Log) → Meets catalogue (move (setPos pos)) (lent (now (text .entry)) records texts line log)
         r (buffers (now (text .entry)) records texts)) ⌝ }
 {
     movement::set_pos(text, line, pos)
@@ -44,7 +43,7 @@ pub extern "C" fn tlf_line_set_pos(text: &[u8], line: Line, pos: usize) -> LineA
 
 #[no_mangle]
 pub extern "C" fn tlf_line_move_forward(text: &[u8], line: Line, n: u16) -> LineAnswer
-    ensures { λ r. ⌜ ((records texts : List ℕ) (log : Log) → Meets catalogue narrow (move (moveForward n)) (lent (now (text .entry)) records texts line log)
+    ensures { λ r. ⌜ ((records texts : List ℕ) (log : Log) → Meets catalogue (move (moveForward n)) (lent (now (text .entry)) records texts line log)
         r (buffers (now (text .entry)) records texts)) ⌝ }
 {
     movement::move_forward(text, line, n)
@@ -52,7 +51,7 @@ pub extern "C" fn tlf_line_move_forward(text: &[u8], line: Line, n: u16) -> Line
 
 #[no_mangle]
 pub extern "C" fn tlf_line_move_backward(text: &[u8], line: Line, n: u16) -> LineAnswer
-    ensures { λ r. ⌜ ((records texts : List ℕ) (log : Log) → Meets catalogue narrow (move (moveBackward n)) (lent (now (text .entry)) records texts line log)
+    ensures { λ r. ⌜ ((records texts : List ℕ) (log : Log) → Meets catalogue (move (moveBackward n)) (lent (now (text .entry)) records texts line log)
         r (buffers (now (text .entry)) records texts)) ⌝ }
 {
     movement::move_backward(text, line, n)
@@ -60,7 +59,7 @@ pub extern "C" fn tlf_line_move_backward(text: &[u8], line: Line, n: u16) -> Lin
 
 #[no_mangle]
 pub extern "C" fn tlf_line_move_buffer_start(text: &[u8], line: Line) -> LineAnswer
-    ensures { λ r. ⌜ ((records texts : List ℕ) (log : Log) → Meets catalogue narrow (move moveBufferStart) (lent (now (text .entry)) records texts line log)
+    ensures { λ r. ⌜ ((records texts : List ℕ) (log : Log) → Meets catalogue (move moveBufferStart) (lent (now (text .entry)) records texts line log)
         r (buffers (now (text .entry)) records texts)) ⌝ }
 {
     movement::move_buffer_start(text, line)
@@ -68,7 +67,7 @@ pub extern "C" fn tlf_line_move_buffer_start(text: &[u8], line: Line) -> LineAns
 
 #[no_mangle]
 pub extern "C" fn tlf_line_move_buffer_end(text: &[u8], line: Line) -> LineAnswer
-    ensures { λ r. ⌜ ((records texts : List ℕ) (log : Log) → Meets catalogue narrow (move moveBufferEnd) (lent (now (text .entry)) records texts line log)
+    ensures { λ r. ⌜ ((records texts : List ℕ) (log : Log) → Meets catalogue (move moveBufferEnd) (lent (now (text .entry)) records texts line log)
         r (buffers (now (text .entry)) records texts)) ⌝ }
 {
     movement::move_buffer_end(text, line)
@@ -76,7 +75,7 @@ pub extern "C" fn tlf_line_move_buffer_end(text: &[u8], line: Line) -> LineAnswe
 
 #[no_mangle]
 pub extern "C" fn tlf_line_move_home(text: &[u8], line: Line) -> LineAnswer
-    ensures { λ r. ⌜ ((records texts : List ℕ) (log : Log) → Meets catalogue narrow (move moveHome) (lent (now (text .entry)) records texts line log)
+    ensures { λ r. ⌜ ((records texts : List ℕ) (log : Log) → Meets catalogue (move moveHome) (lent (now (text .entry)) records texts line log)
         r (buffers (now (text .entry)) records texts)) ⌝ }
 {
     movement::move_home(text, line)
@@ -84,7 +83,7 @@ pub extern "C" fn tlf_line_move_home(text: &[u8], line: Line) -> LineAnswer
 
 #[no_mangle]
 pub extern "C" fn tlf_line_move_end(text: &[u8], line: Line) -> LineAnswer
-    ensures { λ r. ⌜ ((records texts : List ℕ) (log : Log) → Meets catalogue narrow (move moveEnd) (lent (now (text .entry)) records texts line log)
+    ensures { λ r. ⌜ ((records texts : List ℕ) (log : Log) → Meets catalogue (move moveEnd) (lent (now (text .entry)) records texts line log)
         r (buffers (now (text .entry)) records texts)) ⌝ }
 {
     movement::move_end(text, line)
@@ -97,7 +96,7 @@ pub extern "C" fn tlf_line_move_to_prev_word(
     word: u32,
     n: u16,
 ) -> LineAnswer
-    ensures { λ r. ⌜ ((records texts : List ℕ) (log : Log) → Meets catalogue narrow (move (moveToPrevWord word n)) (lent (now (text .entry)) records texts line log)
+    ensures { λ r. ⌜ ((records texts : List ℕ) (log : Log) → Meets catalogue (move (moveToPrevWord word n)) (lent (now (text .entry)) records texts line log)
         r (buffers (now (text .entry)) records texts)) ⌝ }
 {
     movement::move_to_prev_word(text, line, word, n)
@@ -111,7 +110,7 @@ pub extern "C" fn tlf_line_move_to_next_word(
     word: u32,
     n: u16,
 ) -> LineAnswer
-    ensures { λ r. ⌜ ((records texts : List ℕ) (log : Log) → Meets catalogue narrow (move (moveToNextWord at word n)) (lent (now (text .entry)) records texts line log)
+    ensures { λ r. ⌜ ((records texts : List ℕ) (log : Log) → Meets catalogue (move (moveToNextWord at word n)) (lent (now (text .entry)) records texts line log)
         r (buffers (now (text .entry)) records texts)) ⌝ }
 {
     movement::move_to_next_word(text, line, at, word, n)
@@ -124,7 +123,7 @@ pub extern "C" fn tlf_line_move_to_line_up(
     n: u16,
     prompt: usize,
 ) -> LineAnswer
-    ensures { λ r. ⌜ ((records texts : List ℕ) (log : Log) → Meets catalogue narrow (move (moveToLineUp n prompt)) (lent (now (text .entry)) records texts line log)
+    ensures { λ r. ⌜ ((records texts : List ℕ) (log : Log) → Meets catalogue (move (moveToLineUp n prompt)) (lent (now (text .entry)) records texts line log)
         r (buffers (now (text .entry)) records texts)) ⌝ }
 {
     movement::move_to_line_up(text, line, n, prompt)
@@ -137,7 +136,7 @@ pub extern "C" fn tlf_line_move_to_line_down(
     n: u16,
     prompt: usize,
 ) -> LineAnswer
-    ensures { λ r. ⌜ ((records texts : List ℕ) (log : Log) → Meets catalogue narrow (move (moveToLineDown n prompt)) (lent (now (text .entry)) records texts line log)
+    ensures { λ r. ⌜ ((records texts : List ℕ) (log : Log) → Meets catalogue (move (moveToLineDown n prompt)) (lent (now (text .entry)) records texts line log)
         r (buffers (now (text .entry)) records texts)) ⌝ }
 {
     movement::move_to_line_down(text, line, n, prompt)
@@ -151,7 +150,7 @@ pub extern "C" fn tlf_line_move_to(
     ch: u32,
     n: u16,
 ) -> LineAnswer
-    ensures { λ r. ⌜ ((records texts : List ℕ) (log : Log) → Meets catalogue narrow (move (moveTo search ch n)) (lent (now (text .entry)) records texts line log)
+    ensures { λ r. ⌜ ((records texts : List ℕ) (log : Log) → Meets catalogue (move (moveTo search ch n)) (lent (now (text .entry)) records texts line log)
         r (buffers (now (text .entry)) records texts)) ⌝ }
 {
     movement::move_to(text, line, search, ch, n)
@@ -168,7 +167,7 @@ pub extern "C" fn tlf_line_copy(
     search: u32,
     ch: u32,
 ) -> LineAnswer
-    ensures { λ r. ⌜ ((records texts : List ℕ) (log : Log) → Meets catalogue narrow (move (copy (codes mvt n at word search ch))) (lent (now (text .entry)) records texts line log)
+    ensures { λ r. ⌜ ((records texts : List ℕ) (log : Log) → Meets catalogue (move (copy (codes mvt n at word search ch))) (lent (now (text .entry)) records texts line log)
         r (buffers (now (text .entry)) records texts)) ⌝ }
 {
     copies::copy(text, line, mvt, n, at, word, search, ch)

@@ -2,14 +2,14 @@
 // of document 01. Checks 2, 4 and 8 come first, then 10.
 ghost use mathlib.Core.Path.{_≡_};
 ghost use Rattle.unicode.specs.Repertoire.{catalogue};
-ghost use Rattle.journal.specs.Layout.{narrow as Layout·narrow};
+ghost use Rattle.formats.specs.Formats.{logFormat};
 ghost use Rattle.changeset.specs.Calls.{lent, Logged, answerOf, beginCall, endCall, insertCall, insertStrCall, deleteCall, replaceCall, truncateCall, lastInsertCall};
 use changeset::Log;
 use changeset::LogAnswer;
 use changeset::is_single;
 use changeset::refusal;
 use changeset::says;
-use records::NARROW;
+use formats::format_for;
 use unicode::check_char;
 use unicode::check_text;
 use unicode::is_alnum;
@@ -17,41 +17,44 @@ use utf8::encode_at;
 
 // Wrong answers ruled out: 10 while there is space; a mark one too high.
 pub fn begin(records: &mut [u8], texts: &mut [u8], log: Log) -> LogAnswer
-    ensures { λ r. ⌜ Logged Layout·narrow (lent (now (records .entry)) (now (texts .entry)) log)
-        (beginCall catalogue Layout·narrow (lent (now (records .entry)) (now (texts .entry)) log)) r (now (records .exit)) (now (texts .exit)) ⌝ }
+    ensures { λ r. ⌜ Logged logFormat (lent (now (records .entry)) (now (texts .entry)) log)
+        (beginCall catalogue logFormat (lent (now (records .entry)) (now (texts .entry)) log)) r (now (records .exit)) (now (texts .exit)) ⌝ }
 {
-    let k = refusal(NARROW, records, texts, log, false);
+    let f = format_for(0);
+    let k = refusal(f, records, texts, log, false);
     if k != 0 {
         return says(k, log);
     }
-    log.begin(NARROW, records, texts)
+    log.begin(f, records, texts)
 }
 
 // Wrong answers ruled out: the level kept; an empty group closed by an End.
 pub fn end(records: &mut [u8], texts: &mut [u8], log: Log) -> LogAnswer
-    ensures { λ r. ⌜ Logged Layout·narrow (lent (now (records .entry)) (now (texts .entry)) log)
-        (endCall catalogue Layout·narrow (lent (now (records .entry)) (now (texts .entry)) log)) r (now (records .exit)) (now (texts .exit)) ⌝ }
+    ensures { λ r. ⌜ Logged logFormat (lent (now (records .entry)) (now (texts .entry)) log)
+        (endCall catalogue logFormat (lent (now (records .entry)) (now (texts .entry)) log)) r (now (records .exit)) (now (texts .exit)) ⌝ }
 {
-    let k = refusal(NARROW, records, texts, log, false);
+    let f = format_for(0);
+    let k = refusal(f, records, texts, log, false);
     if k != 0 {
         return says(k, log);
     }
-    log.end(NARROW, records, texts)
+    log.end(f, records, texts)
 }
 
 // Wrong answers ruled out: a space merged with the letters before it; a letter merged across a Begin.
 pub fn insert(records: &mut [u8], texts: &mut [u8], log: Log, idx: usize, ch: u32) -> LogAnswer
-    ensures { λ r. ⌜ Logged Layout·narrow (lent (now (records .entry)) (now (texts .entry)) log)
-        (insertCall catalogue Layout·narrow (lent (now (records .entry)) (now (texts .entry)) log) idx ch) r (now (records .exit)) (now (texts .exit)) ⌝ }
+    ensures { λ r. ⌜ Logged logFormat (lent (now (records .entry)) (now (texts .entry)) log)
+        (insertCall catalogue logFormat (lent (now (records .entry)) (now (texts .entry)) log) idx ch) r (now (records .exit)) (now (texts .exit)) ⌝ }
 {
-    let k = refusal(NARROW, records, texts, log, !check_char(ch));
+    let f = format_for(0);
+    let k = refusal(f, records, texts, log, !check_char(ch));
     if k != 0 {
         return says(k, log);
     }
     let mut buf = [0u8; 4];
     let n = encode_at(&mut buf, 0, ch);
     let s = &buf[..n];
-    log.record(NARROW, records, texts, is_alnum(ch), 3, idx, &s[..0], s)
+    log.record(f, records, texts, is_alnum(ch), 3, idx, &s[..0], s)
 }
 
 // Wrong answers ruled out: the redo list kept where the text is empty; a text merged with the one before it.
@@ -62,41 +65,34 @@ pub fn insert_str(
     idx: usize,
     buf: &[u8],
 ) -> LogAnswer
-    ensures { λ r. ⌜ Logged Layout·narrow (lent (now (records .entry)) (now (texts .entry)) log)
-        (insertStrCall catalogue Layout·narrow (lent (now (records .entry)) (now (texts .entry)) log) idx (now (buf .entry))) r (now (records .exit)) (now (texts .exit)) ⌝ }
+    ensures { λ r. ⌜ Logged logFormat (lent (now (records .entry)) (now (texts .entry)) log)
+        (insertStrCall catalogue logFormat (lent (now (records .entry)) (now (texts .entry)) log) idx (now (buf .entry))) r (now (records .exit)) (now (texts .exit)) ⌝ }
 {
-    let k = refusal(NARROW, records, texts, log, !check_text(buf));
+    let f = format_for(0);
+    let k = refusal(f, records, texts, log, !check_text(buf));
     if k != 0 {
         return says(k, log);
     }
     if buf.len() == 0 {
         return says(0, log.drop_redo());
     }
-    log.record(NARROW, records, texts, false, 3, idx, &buf[..0], buf)
+    log.record(f, records, texts, false, 3, idx, &buf[..0], buf)
 }
 
 // Wrong answers ruled out: a backspaced letter put behind the one cut before; a cut of two letters merged.
 pub fn delete(records: &mut [u8], texts: &mut [u8], log: Log, idx: usize, buf: &[u8]) -> LogAnswer
-    ensures { λ r. ⌜ Logged Layout·narrow (lent (now (records .entry)) (now (texts .entry)) log)
-        (deleteCall catalogue Layout·narrow (lent (now (records .entry)) (now (texts .entry)) log) idx (now (buf .entry))) r (now (records .exit)) (now (texts .exit)) ⌝ }
+    ensures { λ r. ⌜ Logged logFormat (lent (now (records .entry)) (now (texts .entry)) log)
+        (deleteCall catalogue logFormat (lent (now (records .entry)) (now (texts .entry)) log) idx (now (buf .entry))) r (now (records .exit)) (now (texts .exit)) ⌝ }
 {
-    let k = refusal(NARROW, records, texts, log, !check_text(buf));
+    let f = format_for(0);
+    let k = refusal(f, records, texts, log, !check_text(buf));
     if k != 0 {
         return says(k, log);
     }
     if buf.len() == 0 {
         return says(0, log.drop_redo());
     }
-    log.record(
-        NARROW,
-        records,
-        texts,
-        is_single(buf),
-        4,
-        idx,
-        buf,
-        &buf[..0],
-    )
+    log.record(f, records, texts, is_single(buf), 4, idx, buf, &buf[..0])
 }
 
 // Wrong answers ruled out: nothing recorded where both texts are empty; the new text merged in front of the one before.
@@ -108,42 +104,39 @@ pub fn replace(
     old: &[u8],
     new: &[u8],
 ) -> LogAnswer
-    ensures { λ r. ⌜ Logged Layout·narrow (lent (now (records .entry)) (now (texts .entry)) log)
-        (replaceCall catalogue Layout·narrow (lent (now (records .entry)) (now (texts .entry)) log) idx (now (old .entry)) (now (new .entry))) r (now (records .exit)) (now (texts .exit)) ⌝ }
+    ensures { λ r. ⌜ Logged logFormat (lent (now (records .entry)) (now (texts .entry)) log)
+        (replaceCall catalogue logFormat (lent (now (records .entry)) (now (texts .entry)) log) idx (now (old .entry)) (now (new .entry))) r (now (records .exit)) (now (texts .exit)) ⌝ }
 {
-    let k = refusal(
-        NARROW,
-        records,
-        texts,
-        log,
-        !check_text(old) | !check_text(new),
-    );
+    let f = format_for(0);
+    let k = refusal(f, records, texts, log, !check_text(old) | !check_text(new));
     if k != 0 {
         return says(k, log);
     }
-    log.record(NARROW, records, texts, true, 5, idx, old, new)
+    log.record(f, records, texts, true, 5, idx, old, new)
 }
 
 // Wrong answers ruled out: the redo list dropped; the level lowered by the Begins cut off.
 pub fn truncate(records: &mut [u8], texts: &mut [u8], log: Log, len: usize) -> LogAnswer
-    ensures { λ r. ⌜ Logged Layout·narrow (lent (now (records .entry)) (now (texts .entry)) log)
-        (truncateCall catalogue Layout·narrow (lent (now (records .entry)) (now (texts .entry)) log) len) r (now (records .exit)) (now (texts .exit)) ⌝ }
+    ensures { λ r. ⌜ Logged logFormat (lent (now (records .entry)) (now (texts .entry)) log)
+        (truncateCall catalogue logFormat (lent (now (records .entry)) (now (texts .entry)) log) len) r (now (records .exit)) (now (texts .exit)) ⌝ }
 {
-    let k = refusal(NARROW, records, texts, log, false);
+    let f = format_for(0);
+    let k = refusal(f, records, texts, log, false);
     if k != 0 {
         return says(k, log);
     }
-    log.truncate(NARROW, records, texts, len)
+    log.truncate(f, records, texts, len)
 }
 
 // Wrong answers ruled out: the old text of a replacement; a text behind a Begin.
 pub fn last_insert(records: &[u8], texts: &[u8], log: Log) -> LogAnswer
-    ensures { λ r. ⌜ r ≡ answerOf Layout·narrow (lent (now (records .entry)) (now (texts .entry)) log)
-        (lastInsertCall catalogue Layout·narrow (lent (now (records .entry)) (now (texts .entry)) log)) ⌝ }
+    ensures { λ r. ⌜ r ≡ answerOf logFormat (lent (now (records .entry)) (now (texts .entry)) log)
+        (lastInsertCall catalogue logFormat (lent (now (records .entry)) (now (texts .entry)) log)) ⌝ }
 {
-    let k = refusal(NARROW, records, texts, log, false);
+    let f = format_for(0);
+    let k = refusal(f, records, texts, log, false);
     if k != 0 {
         return says(k, log);
     }
-    log.last_insert(NARROW, records, texts)
+    log.last_insert(f, records, texts)
 }

@@ -3,7 +3,7 @@ ghost use Prim.Native.Nat.{ℕ};
 ghost use mathlib.Core.Path.{_≡_};
 ghost use mathlib.Core.List.{List};
 ghost use Rattle.unicode.specs.Repertoire.{catalogue};
-ghost use Rattle.journal.specs.Layout.{narrow};
+ghost use Rattle.formats.specs.Formats.{logFormat};
 ghost use Rattle.changeset.specs.Calls.{lent, Logged, insertCall, insertStrCall, deleteCall, replaceCall, truncateCall};
 ghost use Rattle.edit.specs.Calls as edits;
 ghost use Rattle.checks.specs.declared.Line as declared;
@@ -24,7 +24,7 @@ pub extern "C" fn tlf_log_new() -> Log
 
 #[no_mangle]
 pub extern "C" fn tlf_log_begin(records: &mut [u8], texts: &mut [u8], log: Log) -> LogAnswer
-    ensures { λ r. ⌜ ((text : List ℕ) (line : declared.Line) → Meets catalogue narrow (asked.log begin) (edits.lent text (now (records .entry)) (now (texts .entry)) line log)
+    ensures { λ r. ⌜ ((text : List ℕ) (line : declared.Line) → Meets catalogue (asked.log begin) (edits.lent text (now (records .entry)) (now (texts .entry)) line log)
         r (buffers text (now (records .exit)) (now (texts .exit)))) ⌝ }
 {
     log_calls::begin(records, texts, log)
@@ -32,7 +32,7 @@ pub extern "C" fn tlf_log_begin(records: &mut [u8], texts: &mut [u8], log: Log) 
 
 #[no_mangle]
 pub extern "C" fn tlf_log_end(records: &mut [u8], texts: &mut [u8], log: Log) -> LogAnswer
-    ensures { λ r. ⌜ ((text : List ℕ) (line : declared.Line) → Meets catalogue narrow (asked.log end) (edits.lent text (now (records .entry)) (now (texts .entry)) line log)
+    ensures { λ r. ⌜ ((text : List ℕ) (line : declared.Line) → Meets catalogue (asked.log end) (edits.lent text (now (records .entry)) (now (texts .entry)) line log)
         r (buffers text (now (records .exit)) (now (texts .exit)))) ⌝ }
 {
     log_calls::end(records, texts, log)
@@ -46,8 +46,8 @@ pub extern "C" fn tlf_log_insert(
     idx: usize,
     ch: u32,
 ) -> LogAnswer
-    ensures { λ r. ⌜ Logged narrow (lent (now (records .entry)) (now (texts .entry)) log)
-        (insertCall catalogue narrow (lent (now (records .entry)) (now (texts .entry)) log) idx ch) r (now (records .exit)) (now (texts .exit)) ⌝ }
+    ensures { λ r. ⌜ Logged logFormat (lent (now (records .entry)) (now (texts .entry)) log)
+        (insertCall catalogue logFormat (lent (now (records .entry)) (now (texts .entry)) log) idx ch) r (now (records .exit)) (now (texts .exit)) ⌝ }
 {
     log_calls::insert(records, texts, log, idx, ch)
 }
@@ -60,8 +60,8 @@ pub extern "C" fn tlf_log_insert_str(
     idx: usize,
     buf: &[u8],
 ) -> LogAnswer
-    ensures { λ r. ⌜ Logged narrow (lent (now (records .entry)) (now (texts .entry)) log)
-        (insertStrCall catalogue narrow (lent (now (records .entry)) (now (texts .entry)) log) idx (now (buf .entry))) r (now (records .exit)) (now (texts .exit)) ⌝ }
+    ensures { λ r. ⌜ Logged logFormat (lent (now (records .entry)) (now (texts .entry)) log)
+        (insertStrCall catalogue logFormat (lent (now (records .entry)) (now (texts .entry)) log) idx (now (buf .entry))) r (now (records .exit)) (now (texts .exit)) ⌝ }
 {
     log_calls::insert_str(records, texts, log, idx, buf)
 }
@@ -74,8 +74,8 @@ pub extern "C" fn tlf_log_delete(
     idx: usize,
     buf: &[u8],
 ) -> LogAnswer
-    ensures { λ r. ⌜ Logged narrow (lent (now (records .entry)) (now (texts .entry)) log)
-        (deleteCall catalogue narrow (lent (now (records .entry)) (now (texts .entry)) log) idx (now (buf .entry))) r (now (records .exit)) (now (texts .exit)) ⌝ }
+    ensures { λ r. ⌜ Logged logFormat (lent (now (records .entry)) (now (texts .entry)) log)
+        (deleteCall catalogue logFormat (lent (now (records .entry)) (now (texts .entry)) log) idx (now (buf .entry))) r (now (records .exit)) (now (texts .exit)) ⌝ }
 {
     log_calls::delete(records, texts, log, idx, buf)
 }
@@ -89,8 +89,8 @@ pub extern "C" fn tlf_log_replace(
     old: &[u8],
     new: &[u8],
 ) -> LogAnswer
-    ensures { λ r. ⌜ Logged narrow (lent (now (records .entry)) (now (texts .entry)) log)
-        (replaceCall catalogue narrow (lent (now (records .entry)) (now (texts .entry)) log) idx (now (old .entry)) (now (new .entry))) r (now (records .exit)) (now (texts .exit)) ⌝ }
+    ensures { λ r. ⌜ Logged logFormat (lent (now (records .entry)) (now (texts .entry)) log)
+        (replaceCall catalogue logFormat (lent (now (records .entry)) (now (texts .entry)) log) idx (now (old .entry)) (now (new .entry))) r (now (records .exit)) (now (texts .exit)) ⌝ }
 {
     log_calls::replace(records, texts, log, idx, old, new)
 }
@@ -102,15 +102,15 @@ pub extern "C" fn tlf_log_truncate(
     log: Log,
     len: usize,
 ) -> LogAnswer
-    ensures { λ r. ⌜ Logged narrow (lent (now (records .entry)) (now (texts .entry)) log)
-        (truncateCall catalogue narrow (lent (now (records .entry)) (now (texts .entry)) log) len) r (now (records .exit)) (now (texts .exit)) ⌝ }
+    ensures { λ r. ⌜ Logged logFormat (lent (now (records .entry)) (now (texts .entry)) log)
+        (truncateCall catalogue logFormat (lent (now (records .entry)) (now (texts .entry)) log) len) r (now (records .exit)) (now (texts .exit)) ⌝ }
 {
     log_calls::truncate(records, texts, log, len)
 }
 
 #[no_mangle]
 pub extern "C" fn tlf_log_last_insert(records: &[u8], texts: &[u8], log: Log) -> LogAnswer
-    ensures { λ r. ⌜ ((text : List ℕ) (line : declared.Line) → Meets catalogue narrow (asked.log lastInsert) (edits.lent text (now (records .entry)) (now (texts .entry)) line log)
+    ensures { λ r. ⌜ ((text : List ℕ) (line : declared.Line) → Meets catalogue (asked.log lastInsert) (edits.lent text (now (records .entry)) (now (texts .entry)) line log)
         r (buffers text (now (records .entry)) (now (texts .entry)))) ⌝ }
 {
     log_calls::last_insert(records, texts, log)
@@ -125,7 +125,7 @@ pub extern "C" fn tlf_log_undo(
     log: Log,
     n: u16,
 ) -> EditAnswer
-    ensures outcome { λ r. ⌜ Meets catalogue narrow (undo n) (edits.lent (now (text .entry)) (now (records .entry)) (now (texts .entry)) line log)
+    ensures outcome { λ r. ⌜ Meets catalogue (undo n) (edits.lent (now (text .entry)) (now (records .entry)) (now (texts .entry)) line log)
         r (buffers (now (text .exit)) (now (records .entry)) (now (texts .entry))) ⌝ }
     ensures still { λ r. ⌜ (r .log ≡ log → now (text .exit) ≡ now (text .entry)) ⌝ }
 {
@@ -141,7 +141,7 @@ pub extern "C" fn tlf_log_redo(
     log: Log,
     n: u16,
 ) -> EditAnswer
-    ensures outcome { λ r. ⌜ Meets catalogue narrow (redo n) (edits.lent (now (text .entry)) (now (records .entry)) (now (texts .entry)) line log)
+    ensures outcome { λ r. ⌜ Meets catalogue (redo n) (edits.lent (now (text .entry)) (now (records .entry)) (now (texts .entry)) line log)
         r (buffers (now (text .exit)) (now (records .entry)) (now (texts .entry))) ⌝ }
     ensures still { λ r. ⌜ (r .log ≡ log → now (text .exit) ≡ now (text .entry)) ⌝ }
 {
@@ -157,7 +157,7 @@ pub extern "C" fn tlf_log_cancel(
     log: Log,
     mark: usize,
 ) -> EditAnswer
-    ensures outcome { λ r. ⌜ Meets catalogue narrow (cancel mark) (edits.lent (now (text .entry)) (now (records .entry)) (now (texts .entry)) line log)
+    ensures outcome { λ r. ⌜ Meets catalogue (cancel mark) (edits.lent (now (text .entry)) (now (records .entry)) (now (texts .entry)) line log)
         r (buffers (now (text .exit)) (now (records .entry)) (now (texts .entry))) ⌝ }
     ensures still { λ r. ⌜ (r .log ≡ log → now (text .exit) ≡ now (text .entry)) ⌝ }
 {

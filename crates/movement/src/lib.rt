@@ -2,11 +2,12 @@
 // may be handed over: what is unfit is turned away by a number of document 01.
 ghost use mathlib.Core.Path.{_≡_};
 ghost use Rattle.unicode.specs.Repertoire.{catalogue};
+ghost use Rattle.checks.specs.Answers.{lineAnswer};
 ghost use Rattle.movement.specs.Moves.{nextPosCall, moveForward, moveBackward, moveBufferStart, moveBufferEnd, moveHome, moveEnd, isCursorAtEnd, isEndOfInput, setPos, moveToLineUp, moveToLineDown, moveToPrevWord, moveToNextWord, moveTo, prevWordBy, nextWordBy, searchBy, wordIs, stopIs, searchIs, elsewhere as Moves·elsewhere, tells as Moves·tells};
 use checks::Line;
 use checks::LineAnswer;
-use checks::answered;
 use checks::moved_to;
+use checks::place_of;
 use checks::refusal;
 use checks::says;
 use keymap::At;
@@ -38,14 +39,14 @@ fn elsewhere(line: Line, p: usize) -> Found
 
 // 0 where a test is met, else 1.
 fn tells(line: Line, met: bool) -> LineAnswer
-    ensures { λ r. ⌜ r ≡ Moves·tells line met ⌝ }
+    ensures { λ r. ⌜ r ≡ lineAnswer line (Moves·tells line met) ⌝ }
 {
     if met { says(0, line) } else { says(1, line) }
 }
 
 // Wrong answers ruled out: the cursor itself; the place one byte on.
 pub fn next_pos(text: &[u8], line: Line, n: RepeatCount) -> LineAnswer
-    ensures { λ r. ⌜ r ≡ nextPosCall catalogue (now (text .entry)) line n ⌝ }
+    ensures { λ r. ⌜ r ≡ lineAnswer line (nextPosCall catalogue (now (text .entry)) line n) ⌝ }
 {
     let r = refusal(text, line, false, false, false);
     if r != 0 {
@@ -53,12 +54,12 @@ pub fn next_pos(text: &[u8], line: Line, n: RepeatCount) -> LineAnswer
     }
     let len = line.len;
     let cursor = line.cursor;
-    answered(line, motion::next_pos(&text[..len], cursor, n))
+    place_of(line, motion::next_pos(&text[..len], cursor, n))
 }
 
 // Wrong answers ruled out: 1 before looking; the text's end for every n.
 pub fn move_forward(text: &[u8], line: Line, n: RepeatCount) -> LineAnswer
-    ensures { λ r. ⌜ r ≡ moveForward catalogue (now (text .entry)) line n ⌝ }
+    ensures { λ r. ⌜ r ≡ lineAnswer line (moveForward catalogue (now (text .entry)) line n) ⌝ }
 {
     let r = refusal(text, line, false, false, false);
     if r != 0 {
@@ -71,7 +72,7 @@ pub fn move_forward(text: &[u8], line: Line, n: RepeatCount) -> LineAnswer
 
 // Wrong answers ruled out: 0 for every n; one step for every n.
 pub fn move_backward(text: &[u8], line: Line, n: RepeatCount) -> LineAnswer
-    ensures { λ r. ⌜ r ≡ moveBackward catalogue (now (text .entry)) line n ⌝ }
+    ensures { λ r. ⌜ r ≡ lineAnswer line (moveBackward catalogue (now (text .entry)) line n) ⌝ }
 {
     let r = refusal(text, line, false, false, false);
     if r != 0 {
@@ -84,7 +85,7 @@ pub fn move_backward(text: &[u8], line: Line, n: RepeatCount) -> LineAnswer
 
 // Wrong answers ruled out: 0 where the cursor is at the start; the line's start.
 pub fn move_buffer_start(text: &[u8], line: Line) -> LineAnswer
-    ensures { λ r. ⌜ r ≡ moveBufferStart catalogue (now (text .entry)) line ⌝ }
+    ensures { λ r. ⌜ r ≡ lineAnswer line (moveBufferStart catalogue (now (text .entry)) line) ⌝ }
 {
     let r = refusal(text, line, false, false, false);
     if r != 0 {
@@ -95,7 +96,7 @@ pub fn move_buffer_start(text: &[u8], line: Line) -> LineAnswer
 
 // Wrong answers ruled out: the buffer's length; the line's end.
 pub fn move_buffer_end(text: &[u8], line: Line) -> LineAnswer
-    ensures { λ r. ⌜ r ≡ moveBufferEnd catalogue (now (text .entry)) line ⌝ }
+    ensures { λ r. ⌜ r ≡ lineAnswer line (moveBufferEnd catalogue (now (text .entry)) line) ⌝ }
 {
     let r = refusal(text, line, false, false, false);
     if r != 0 {
@@ -107,7 +108,7 @@ pub fn move_buffer_end(text: &[u8], line: Line) -> LineAnswer
 
 // Wrong answers ruled out: the text's start on every line; the place of the \n.
 pub fn move_home(text: &[u8], line: Line) -> LineAnswer
-    ensures { λ r. ⌜ r ≡ moveHome catalogue (now (text .entry)) line ⌝ }
+    ensures { λ r. ⌜ r ≡ lineAnswer line (moveHome catalogue (now (text .entry)) line) ⌝ }
 {
     let r = refusal(text, line, false, false, false);
     if r != 0 {
@@ -120,7 +121,7 @@ pub fn move_home(text: &[u8], line: Line) -> LineAnswer
 
 // Wrong answers ruled out: the text's end on every line; behind the \n.
 pub fn move_end(text: &[u8], line: Line) -> LineAnswer
-    ensures { λ r. ⌜ r ≡ moveEnd catalogue (now (text .entry)) line ⌝ }
+    ensures { λ r. ⌜ r ≡ lineAnswer line (moveEnd catalogue (now (text .entry)) line) ⌝ }
 {
     let r = refusal(text, line, false, false, false);
     if r != 0 {
@@ -133,7 +134,7 @@ pub fn move_end(text: &[u8], line: Line) -> LineAnswer
 
 // Wrong answers ruled out: always 1; 0 at the buffer's end instead of the text's.
 pub fn is_cursor_at_end(text: &[u8], line: Line) -> LineAnswer
-    ensures { λ r. ⌜ r ≡ isCursorAtEnd catalogue (now (text .entry)) line ⌝ }
+    ensures { λ r. ⌜ r ≡ lineAnswer line (isCursorAtEnd catalogue (now (text .entry)) line) ⌝ }
 {
     let r = refusal(text, line, false, false, false);
     if r != 0 {
@@ -146,7 +147,7 @@ pub fn is_cursor_at_end(text: &[u8], line: Line) -> LineAnswer
 
 // Wrong answers ruled out: 0 only at the text's end; U+00A0 not white.
 pub fn is_end_of_input(text: &[u8], line: Line) -> LineAnswer
-    ensures { λ r. ⌜ r ≡ isEndOfInput catalogue (now (text .entry)) line ⌝ }
+    ensures { λ r. ⌜ r ≡ lineAnswer line (isEndOfInput catalogue (now (text .entry)) line) ⌝ }
 {
     let r = refusal(text, line, false, false, false);
     if r != 0 {
@@ -159,7 +160,7 @@ pub fn is_end_of_input(text: &[u8], line: Line) -> LineAnswer
 
 // Its own place is tried by 5 and 6, with the lent cursor's. Wrong answers ruled out: 1 where nothing moves; 6 before 5.
 pub fn set_pos(text: &[u8], line: Line, pos: usize) -> LineAnswer
-    ensures { λ r. ⌜ r ≡ setPos catalogue (now (text .entry)) line pos ⌝ }
+    ensures { λ r. ⌜ r ≡ lineAnswer line (setPos catalogue (now (text .entry)) line pos) ⌝ }
 {
     let len = line.len;
     let r = refusal(text, line, false, false, len < pos);
@@ -174,7 +175,7 @@ pub fn set_pos(text: &[u8], line: Line, pos: usize) -> LineAnswer
 
 // Wrong answers ruled out: a too short line's own end; the prompt left out on the first line.
 pub fn move_to_line_up(text: &[u8], line: Line, n: RepeatCount, prompt: usize) -> LineAnswer
-    ensures { λ r. ⌜ r ≡ moveToLineUp catalogue (now (text .entry)) line n prompt ⌝ }
+    ensures { λ r. ⌜ r ≡ lineAnswer line (moveToLineUp catalogue (now (text .entry)) line n prompt) ⌝ }
 {
     let r = refusal(text, line, false, false, false);
     if r != 0 {
@@ -190,7 +191,7 @@ pub fn move_to_line_up(text: &[u8], line: Line, n: RepeatCount, prompt: usize) -
 
 // Wrong answers ruled out: n = 0 as no move; the last line's end wherever the target is short.
 pub fn move_to_line_down(text: &[u8], line: Line, n: RepeatCount, prompt: usize) -> LineAnswer
-    ensures { λ r. ⌜ r ≡ moveToLineDown catalogue (now (text .entry)) line n prompt ⌝ }
+    ensures { λ r. ⌜ r ≡ lineAnswer line (moveToLineDown catalogue (now (text .entry)) line n prompt) ⌝ }
 {
     let r = refusal(text, line, false, false, false);
     if r != 0 {
@@ -206,7 +207,7 @@ pub fn move_to_line_down(text: &[u8], line: Line, n: RepeatCount, prompt: usize)
 
 // Wrong answers ruled out: n times one word for Vi; an unknown code as Big.
 pub fn move_to_prev_word(text: &[u8], line: Line, word: u32, n: RepeatCount) -> LineAnswer
-    ensures { λ r. ⌜ r ≡ moveToPrevWord catalogue (now (text .entry)) line word n ⌝ }
+    ensures { λ r. ⌜ r ≡ lineAnswer line (moveToPrevWord catalogue (now (text .entry)) line word n) ⌝ }
 {
     let code = Word::from_code(word);
     let WordCode::Is(w) = code else {
@@ -216,7 +217,7 @@ pub fn move_to_prev_word(text: &[u8], line: Line, word: u32, n: RepeatCount) -> 
 }
 
 fn prev_word(text: &[u8], line: Line, word: Word, n: RepeatCount) -> LineAnswer
-    ensures { λ r. ⌜ r ≡ prevWordBy catalogue (now (text .entry)) line n (wordIs word) ⌝ }
+    ensures { λ r. ⌜ r ≡ lineAnswer line (prevWordBy catalogue (now (text .entry)) line n (wordIs word)) ⌝ }
 {
     let r = refusal(text, line, false, false, false);
     if r != 0 {
@@ -230,7 +231,7 @@ fn prev_word(text: &[u8], line: Line, word: Word, n: RepeatCount) -> LineAnswer
 // Wrong answers ruled out: the start of the last cluster read where the text ran out behind an Emacs word; 3 for a stop that
 // is known.
 pub fn move_to_next_word(text: &[u8], line: Line, at: u32, word: u32, n: RepeatCount) -> LineAnswer
-    ensures { λ r. ⌜ r ≡ moveToNextWord catalogue (now (text .entry)) line at word n ⌝ }
+    ensures { λ r. ⌜ r ≡ lineAnswer line (moveToNextWord catalogue (now (text .entry)) line at word n) ⌝ }
 {
     let stop = At::from_code(at);
     let AtCode::Is(a) = stop else {
@@ -244,7 +245,7 @@ pub fn move_to_next_word(text: &[u8], line: Line, at: u32, word: u32, n: RepeatC
 }
 
 fn next_word(text: &[u8], line: Line, at: At, word: Word, n: RepeatCount) -> LineAnswer
-    ensures { λ r. ⌜ r ≡ nextWordBy catalogue (now (text .entry)) line n (stopIs at) (wordIs word) ⌝ }
+    ensures { λ r. ⌜ r ≡ lineAnswer line (nextWordBy catalogue (now (text .entry)) line n (stopIs at) (wordIs word)) ⌝ }
 {
     let r = refusal(text, line, false, false, false);
     if r != 0 {
@@ -260,7 +261,7 @@ fn next_word(text: &[u8], line: Line, at: At, word: Word, n: RepeatCount) -> Lin
 
 // Wrong answers ruled out: the cursor's own cluster matched; the first match for every n.
 pub fn move_to(text: &[u8], line: Line, search: u32, ch: u32, n: RepeatCount) -> LineAnswer
-    ensures { λ r. ⌜ r ≡ moveTo catalogue (now (text .entry)) line search ch n ⌝ }
+    ensures { λ r. ⌜ r ≡ lineAnswer line (moveTo catalogue (now (text .entry)) line search ch n) ⌝ }
 {
     let code = CharSearch::from_code(search, ch);
     let SearchCode::Is(cs) = code else {
@@ -270,7 +271,7 @@ pub fn move_to(text: &[u8], line: Line, search: u32, ch: u32, n: RepeatCount) ->
 }
 
 fn search_char(text: &[u8], line: Line, cs: CharSearch, ch: u32, n: RepeatCount) -> LineAnswer
-    ensures { λ r. ⌜ r ≡ searchBy catalogue (now (text .entry)) line ch n (searchIs cs) ⌝ }
+    ensures { λ r. ⌜ r ≡ lineAnswer line (searchBy catalogue (now (text .entry)) line ch n (searchIs cs)) ⌝ }
 {
     let r = refusal(text, line, false, !check_char(ch), false);
     if r != 0 {

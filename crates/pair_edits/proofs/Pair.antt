@@ -13,10 +13,12 @@ use Rattle.unicode.specs.Repertoire.{catalogue}
 use Rattle.unicode.specs.Text.{isText}
 use Rattle.cluster.specs.Clusters.{clustersOf}
 use Rattle.journal.specs.Change.{Change}
-use Rattle.journal.specs.Layout.{Format, top}
+use Rattle.numbers.specs.Numbers.{top}
+use Rattle.formats.specs.declared.Format.{Format}
+use Rattle.formats.specs.Formats.{textMax}
 use Rattle.journal.specs.Recording.{isSingle}
 use Rattle.journal.specs.Undo.{fits}
-use Rattle.recording.specs.Tails.{tailOf, Narrow}
+use Rattle.recording.specs.Tails.{tailOf, InRange}
 use Rattle.edit.specs.declared.EditAnswer.{EditAnswer}
 use Rattle.edit.specs.declared.Room.{Room}
 use Rattle.edit.specs.Plan.{Piece, cutting, pasted, made, recorded, Plan, once, listAfter, Suits, AllSuit, tooLong, edited}
@@ -25,7 +27,7 @@ use Rattle.edit.specs.Room.{roomCut, roomPut}
 use Rattle.edit.proofs.Answers.{length-kept}
 use Rattle.edit.proofs.Pieces.{made-text}
 use Rattle.edit.proofs.Splice.{splice-length}
-use Rattle.edit.proofs.Rooms.{Roomy, dry-now, dry-narrow, dry-cut, dry-put}
+use Rattle.edit.proofs.Rooms.{Roomy, dry-now, dry-in-range, dry-cut, dry-put}
 use Rattle.edit.proofs.Left.{Left, begins, goes-on, ends}
 
 module _ (F : Format) (l : Lent) (h : Ready F l) (a b p : ℕ) (n : List ℕ) (s : AllSuit catalogue (cutting a b ∷ pasted p n ∷ []) (textOf l)) where
@@ -81,8 +83,8 @@ module _ (F : Format) (l : Lent) (h : Ready F l) (a b p : ℕ) (n : List ℕ) (s
     now-roomy : Roomy catalogue F (sizesOf l) u r₀
     now-roomy = subst (Roomy catalogue F (sizesOf l) u) (sym e₀) (dry-now F l h)
 
-    pub first-narrow : r₀ .fits ≡ true → Narrow (r₀ .tail) (b - a) 0
-    first-narrow = dry-narrow F l h u r₀ now-roomy (b - a) 0 w (let e = length-kept F l h in let i = cut-suits .1 in omega (arith, h .used, h .small)) (omega arith)
+    pub first-in-range : r₀ .fits ≡ true → InRange (r₀ .tail) (b - a) 0
+    first-in-range = dry-in-range F l h u r₀ now-roomy (b - a) 0 w (let e = length-kept F l h in let i = cut-suits .1 in omega (arith, h .used, h .small, h .log .fit .text)) (omega arith)
 
     module _ (j : Bool) (ej : j ≡ isSingle catalogue (clustersOf catalogue (part t a b))) (r₁ : Room) (e₁ : r₁ ≡ roomCut F (sizesOf l) j a b r₀) where
       mid-roomy : Roomy catalogue F (sizesOf l) (recorded catalogue (cutting a b) t u) r₁
@@ -90,8 +92,8 @@ module _ (F : Format) (l : Lent) (h : Ready F l) (a b p : ℕ) (n : List ℕ) (s
           subst (Roomy catalogue F (sizesOf l) (recorded catalogue (cutting a b) t u)) (sym e₁)
           (dry-cut F l h u r₀ now-roomy t (h .text) (omega (arith, length-kept F l h, h .used)) a b j cut-suits ej)
 
-      pub second-narrow : length n ≤ 4096 → r₁ .fits ≡ true → Narrow (r₁ .tail) 0 (length n)
-      second-narrow k = dry-narrow F l h (recorded catalogue (cutting a b) t u) r₁ mid-roomy 0 (length n) w (omega arith) k
+      pub second-in-range : length n ≤ textMax → r₁ .fits ≡ true → InRange (r₁ .tail) 0 (length n)
+      second-in-range k = dry-in-range F l h (recorded catalogue (cutting a b) t u) r₁ mid-roomy 0 (length n) w (omega arith) k
 
       pub pair-room : (r₂ : Room) → r₂ ≡ roomPut F (sizesOf l) p (length n) r₁ → r₂ .fits ≡ fits F (sizesOf l) (listAfter catalogue both t u)
       unfolding listAfter

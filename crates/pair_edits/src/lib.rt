@@ -6,7 +6,7 @@ ghost use Prim.Native.Nat.{_≤_};
 ghost use lib.ListN.{length, take};
 ghost use Rattle.unicode.specs.Repertoire.{catalogue};
 ghost use Rattle.journal.specs.Undo.{fits};
-ghost use Rattle.records.specs.Formats.{asFormat, Fit};
+ghost use Rattle.formats.specs.Formats.{Fit, textMax};
 ghost use Rattle.edit.specs.Plan.{cutting, pasted, AllSuit, listAfter, edited};
 ghost use Rattle.edit.specs.Calls.{lent, sizesOf, stateOf, Edited, Ready};
 use changeset::Log;
@@ -19,7 +19,7 @@ use edit::room_cut;
 use edit::room_now;
 use edit::room_put;
 use edit::says;
-use records::Format;
+use formats::Format;
 
 // Has the log room for a cut and then a text put in?
 fn pair_fits(
@@ -35,11 +35,11 @@ fn pair_fits(
     new: &[u8],
 ) -> bool
     requires { ⌜ Fit f ⌝ }
-    requires { ⌜ Ready (asFormat f) (lent (now text) (now records) (now texts) line log) ⌝ }
+    requires { ⌜ Ready f (lent (now text) (now records) (now texts) line log) ⌝ }
     requires { ⌜ AllSuit catalogue (cutting from to ∷ pasted at (now new) ∷ []) (take (line .len) (now text)) ⌝ }
-    requires { ⌜ length (now new) ≤ 4096 ⌝ }
-    ensures { λ r. ⌜ r ≡ fits (asFormat f) (sizesOf (lent (now (text .entry)) (now (records .entry)) (now (texts .entry)) line log))
-        (listAfter catalogue (cutting from to ∷ pasted at (now (new .entry)) ∷ []) (take (line .len) (now (text .entry))) (stateOf catalogue (asFormat f) (lent (now (text .entry)) (now (records .entry)) (now (texts .entry)) line log) .log .undo)) ⌝ }
+    requires { ⌜ length (now new) ≤ textMax ⌝ }
+    ensures { λ r. ⌜ r ≡ fits f (sizesOf (lent (now (text .entry)) (now (records .entry)) (now (texts .entry)) line log))
+        (listAfter catalogue (cutting from to ∷ pasted at (now (new .entry)) ∷ []) (take (line .len) (now (text .entry))) (stateOf catalogue f (lent (now (text .entry)) (now (records .entry)) (now (texts .entry)) line log) .log .undo)) ⌝ }
 {
     let joins = is_single(&text[from..to]);
     let a = room_now(f, records, texts, log);
@@ -65,11 +65,11 @@ pub fn cut_and_put(
     number: u32,
 ) -> EditAnswer
     requires { ⌜ Fit f ⌝ }
-    requires { ⌜ Ready (asFormat f) (lent (now text) (now records) (now texts) line log) ⌝ }
+    requires { ⌜ Ready f (lent (now text) (now records) (now texts) line log) ⌝ }
     requires { ⌜ AllSuit catalogue (cutting from to ∷ pasted at (now new) ∷ []) (take (line .len) (now text)) ⌝ }
-    ensures { λ r. ⌜ Edited (asFormat f) (lent (now (text .entry)) (now (records .entry)) (now (texts .entry)) line log)
-        (edited catalogue (asFormat f) (sizesOf (lent (now (text .entry)) (now (records .entry)) (now (texts .entry)) line log)) (length (now (text .entry))) (record { pieces = cutting from to ∷ pasted at (now (new .entry)) ∷ []; cursor = cursor; number = number; from = 0; to = 0 })
-        (stateOf catalogue (asFormat f) (lent (now (text .entry)) (now (records .entry)) (now (texts .entry)) line log)))
+    ensures { λ r. ⌜ Edited f (lent (now (text .entry)) (now (records .entry)) (now (texts .entry)) line log)
+        (edited catalogue f (sizesOf (lent (now (text .entry)) (now (records .entry)) (now (texts .entry)) line log)) (length (now (text .entry))) (record { pieces = cutting from to ∷ pasted at (now (new .entry)) ∷ []; cursor = cursor; number = number; from = 0; to = 0 })
+        (stateOf catalogue f (lent (now (text .entry)) (now (records .entry)) (now (texts .entry)) line log)))
         r (now (text .exit)) (now (records .exit)) (now (texts .exit)) ⌝ }
 {
     let left = line.len - (to - from);

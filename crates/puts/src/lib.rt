@@ -6,7 +6,7 @@ ghost use lib.ListN.{length};
 ghost use Rattle.utf8.specs.Encode.{encode};
 ghost use Rattle.unicode.specs.Repertoire.{catalogue};
 ghost use Rattle.unicode.specs.Text.{isText, isChar};
-ghost use Rattle.journal.specs.Layout.{narrow};
+ghost use Rattle.formats.specs.Formats.{textMax};
 ghost use Rattle.edit.specs.Plan.{typed, pasted, once, edited};
 ghost use Rattle.edit.specs.Calls.{lent, sizesOf, stateOf, Edited, Ready};
 ghost use Rattle.buffer.specs.Edit.{copies as Inserts·copies};
@@ -19,11 +19,12 @@ use edit::put_in;
 use edit::room_now;
 use edit::room_put;
 use edit::says;
-use records::NARROW;
+use formats::Format;
 use unicode::is_alnum;
 
 // A character typed at the cursor, which goes behind it; s are its bytes.
 pub fn type_char(
+    f: Format,
     text: &mut [u8],
     records: &mut [u8],
     texts: &mut [u8],
@@ -32,18 +33,18 @@ pub fn type_char(
     ch: u32,
     s: &[u8],
 ) -> EditAnswer
-    requires { ⌜ Ready narrow (lent (now text) (now records) (now texts) line log) ⌝ }
+    requires { ⌜ Ready f (lent (now text) (now records) (now texts) line log) ⌝ }
     requires { ⌜ isChar catalogue ch ≡ true ⌝ }
     requires { ⌜ now s ≡ encode ch ⌝ }
-    ensures { λ r. ⌜ Edited narrow (lent (now (text .entry)) (now (records .entry)) (now (texts .entry)) line log)
-        (edited catalogue narrow (sizesOf (lent (now (text .entry)) (now (records .entry)) (now (texts .entry)) line log)) (length (now (text .entry)))
+    ensures { λ r. ⌜ Edited f (lent (now (text .entry)) (now (records .entry)) (now (texts .entry)) line log)
+        (edited catalogue f (sizesOf (lent (now (text .entry)) (now (records .entry)) (now (texts .entry)) line log)) (length (now (text .entry)))
         (once (typed (line .cursor) ch) (line .cursor + length (encode ch)))
-        (stateOf catalogue narrow (lent (now (text .entry)) (now (records .entry)) (now (texts .entry)) line log)))
+        (stateOf catalogue f (lent (now (text .entry)) (now (records .entry)) (now (texts .entry)) line log)))
         r (now (text .exit)) (now (records .exit)) (now (texts .exit)) ⌝ }
 {
     let pos = line.cursor;
     change(
-        NARROW,
+        f,
         text,
         records,
         texts,
@@ -60,6 +61,7 @@ pub fn type_char(
 
 // n copies of a text put in at the cursor, in place: 9 is answered before one is made, and 10 before a byte changes.
 pub fn put_copies(
+    f: Format,
     text: &mut [u8],
     records: &mut [u8],
     texts: &mut [u8],
@@ -68,13 +70,13 @@ pub fn put_copies(
     s: &[u8],
     n: usize,
 ) -> EditAnswer
-    requires { ⌜ Ready narrow (lent (now text) (now records) (now texts) line log) ⌝ }
+    requires { ⌜ Ready f (lent (now text) (now records) (now texts) line log) ⌝ }
     requires { ⌜ isText catalogue (now s) ≡ true ⌝ }
-    requires { ⌜ (length (now s) ≤ 4096) × (n ≤ 65535) ⌝ }
-    ensures { λ r. ⌜ Edited narrow (lent (now (text .entry)) (now (records .entry)) (now (texts .entry)) line log)
-        (edited catalogue narrow (sizesOf (lent (now (text .entry)) (now (records .entry)) (now (texts .entry)) line log)) (length (now (text .entry)))
+    requires { ⌜ (length (now s) ≤ textMax) × (n ≤ 65535) ⌝ }
+    ensures { λ r. ⌜ Edited f (lent (now (text .entry)) (now (records .entry)) (now (texts .entry)) line log)
+        (edited catalogue f (sizesOf (lent (now (text .entry)) (now (records .entry)) (now (texts .entry)) line log)) (length (now (text .entry)))
         (once (pasted (line .cursor) (Inserts·copies n (now (s .entry)))) (line .cursor + length (Inserts·copies n (now (s .entry)))))
-        (stateOf catalogue narrow (lent (now (text .entry)) (now (records .entry)) (now (texts .entry)) line log)))
+        (stateOf catalogue f (lent (now (text .entry)) (now (records .entry)) (now (texts .entry)) line log)))
         r (now (text .exit)) (now (records .exit)) (now (texts .exit)) ⌝ }
 {
     let len = line.len;
@@ -86,26 +88,16 @@ pub fn put_copies(
     let none = [0u8; 1];
     let end = pos + size;
     if size == 0 {
-        return put_in(
-            NARROW,
-            text,
-            records,
-            texts,
-            line,
-            log,
-            pos,
-            &none[..0],
-            end,
-        );
+        return put_in(f, text, records, texts, line, log, pos, &none[..0], end);
     }
-    let now = room_now(NARROW, records, texts, log);
-    let room = room_put(NARROW, records, texts, now, pos, size);
+    let now = room_now(f, records, texts, log);
+    let room = room_put(f, records, texts, now, pos, size);
     if !room.fits {
         return says(10, line, log);
     }
     insert_copies(text, len, pos, s, n);
     let a = log.record(
-        NARROW,
+        f,
         records,
         texts,
         false,

@@ -11,10 +11,12 @@ use Rattle.lists.specs.Lists.{part}
 use Rattle.utf8.specs.Chars.{valid, boundary, In}
 use Rattle.unicode.specs.Repertoire.{catalogue}
 use Rattle.unicode.specs.Text.{isText}
-use Rattle.checks.specs.Checks.{Tests, lineTests}
+use Rattle.checks.specs.Checks.{Tests, withForeign, withSplit, lineTests}
 use Rattle.checks.proofs.Fit.{Passed}
+use Rattle.formats.specs.declared.Format.{Format}
+use Rattle.formats.specs.Formats.{textMax}
 use Rattle.journal.specs.Change.{replace, edit}
-use Rattle.journal.specs.Layout.{narrow, okChange}
+use Rattle.journal.specs.Layout.{okChange}
 use Rattle.edit.specs.declared.EditAnswer.{EditAnswer}
 use Rattle.edit.specs.Plan.{cutting, once, edited, changeOut}
 use Rattle.edit.specs.Calls.{Lent, textOf, sizesOf, stateOf, says, own, checked, Edited, Ready}
@@ -27,71 +29,71 @@ use Rattle.ranges.specs.Ranges.{rangeTests, replaceTests, deleteRangeCal
 use Rattle.ranges.proofs.Tests.{range-in}
 
 -- x and y are what the code says of 6 at the places a and b, where the text is one
-module _ (l : Lent) (a b : ℕ) (x y : Bool) (at-a : l .line .len ≤ length (l .text) → valid (textOf l) ≡ true → x ≡ not (boundary (textOf l) a)) (at-b : l .line .len ≤ length (l .text) → valid (textOf l) ≡ true → y ≡ not (boundary (textOf l) b)) where
+module _ (F : Format) (l : Lent) (a b : ℕ) (x y : Bool) (at-a : l .line .len ≤ length (l .text) → valid (textOf l) ≡ true → x ≡ not (boundary (textOf l) a)) (at-b : l .line .len ≤ length (l .text) → valid (textOf l) ≡ true → y ≡ not (boundary (textOf l) b)) where
   -- what it says of both is 6 of the range, where 2 and 4 pass the text
-  split-is : lineTests catalogue (l .text) (l .line) .sizes ≡ false → lineTests catalogue (l .text) (l .line) .foreign ≡ false → (x || y) ≡ rangeTests catalogue narrow l a b .split
-  split-is s f = let q = text-lent l s f in ap₂ (λ (i j : Bool). i || j) (at-a (q .0) (q .1)) (at-b (q .0) (q .1))
+  split-is : lineTests catalogue F (l .text) (l .line) .sizes ≡ false → lineTests catalogue F (l .text) (l .line) .foreign ≡ false → (x || y) ≡ rangeTests catalogue F l a b .split
+  split-is s f = let q = text-lent F l s f in ap₂ (λ (i j : Bool). i || j) (at-a (q .0) (q .1)) (at-b (q .0) (q .1))
 
   -- ---- delete_range, where the checks give k
-  module _ (k : ℕ) (e : k ≡ checked catalogue narrow l (own (record { sizes = false; code = false; foreign = false; place = ltb (l .line .len) b || ltb b a; split = x || y }))) where
+  module _ (k : ℕ) (e : k ≡ checked catalogue F l (own (record { sizes = false; code = false; foreign = false; place = ltb (l .line .len) b || ltb b a; split = x || y }))) where
     -- they are the call's
-    delete-checked : checked catalogue narrow l (rangeTests catalogue narrow l a b) ≡ k
-    delete-checked = sym (e ∙ split-as l (rangeTests catalogue narrow l a b) (x || y) (rangeTests catalogue narrow l a b .split) split-is)
+    delete-checked : checked catalogue F l (rangeTests catalogue F l a b) ≡ k
+    delete-checked = sym (e ∙ split-as F l (rangeTests catalogue F l a b) (x || y) (rangeTests catalogue F l a b .split) split-is)
 
     -- refused by k
-    pub delete-refused : (k ≡ 0 → ⊥) → (r : EditAnswer) → r ≡ says k (l .line) (l .log) → Edited narrow l (deleteRangeCall catalogue narrow l a b) r (l .text) (l .records) (l .texts)
-    delete-refused h r q = refused-by narrow l k (checked catalogue narrow l (rangeTests catalogue narrow l a b)) _ r delete-checked h q
+    pub delete-refused : (k ≡ 0 → ⊥) → (r : EditAnswer) → r ≡ says k (l .line) (l .log) → Edited F l (deleteRangeCall catalogue F l a b) r (l .text) (l .records) (l .texts)
+    delete-refused h r q = refused-by F l k (checked catalogue F l (rangeTests catalogue F l a b)) _ r delete-checked h q
 
     module _ (z : k ≡ 0) where
       -- passed: the places lie in the text, and the cut is the call's
-      pub delete-in : Ready narrow l → In (textOf l) a b
+      pub delete-in : Ready F l → In (textOf l) a b
       delete-in h =
-          let p = own-passed catalogue narrow l (rangeTests catalogue narrow l a b) (delete-checked ∙ z) in
-          range-in l a b (sym (length-kept narrow l h)) (p .place) (p .split)
+          let p = own-passed catalogue F l (rangeTests catalogue F l a b) (delete-checked ∙ z) in
+          range-in l a b (sym (length-kept F l h)) (p .place) (p .split)
 
-      pub delete-done : (r : EditAnswer) (t rb tb : List ℕ) → Edited narrow l (edited catalogue narrow (sizesOf l) (length (l .text)) (once (cutting a b) a) (stateOf catalogue narrow l)) r t rb tb
-          → Edited narrow l (deleteRangeCall catalogue narrow l a b) r t rb tb
-      delete-done r t rb tb q = passed-by narrow l k (checked catalogue narrow l (rangeTests catalogue narrow l a b)) _ r t rb tb delete-checked z q
+      pub delete-done : (r : EditAnswer) (t rb tb : List ℕ) → Edited F l (edited catalogue F (sizesOf l) (length (l .text)) (once (cutting a b) a) (stateOf catalogue F l)) r t rb tb
+          → Edited F l (deleteRangeCall catalogue F l a b) r t rb tb
+      delete-done r t rb tb q = passed-by F l k (checked catalogue F l (rangeTests catalogue F l a b)) _ r t rb tb delete-checked z q
 
   -- ---- replace, where w is what the code says of 4
   module _ (s : List ℕ) (w : Bool) (at-s : w ≡ isText catalogue s) (k : ℕ)
-      (e : k ≡ checked catalogue narrow l (own (record { sizes = ltb (length (l .text)) (length s); code = false; foreign = not w; place = ltb (l .line .len) b || ltb b a; split = x || y }))) where
+      (e : k ≡ checked catalogue F l (own (record { sizes = ltb (length (l .text)) (length s); code = false; foreign = not w; place = ltb (l .line .len) b || ltb b a; split = x || y }))) where
     abbrev tests : Tests
-    tests = replaceTests catalogue narrow l a b s
+    tests = replaceTests catalogue F l a b s
 
     -- the checks are the call's
-    replace-checked : checked catalogue narrow l tests ≡ k
+    replace-checked : checked catalogue F l tests ≡ k
     replace-checked =
         sym (e
-        ∙ ap (λ (i : Bool). checked catalogue narrow l (record { sizes = tests .sizes; code = false; foreign = not i; place = tests .place; split = x || y; prompt = false; damaged = false })) at-s
-        ∙ split-as l tests (x || y) (tests .split) split-is)
+        ∙ ap (λ (i : Bool). checked catalogue F l (withSplit (x || y) (withForeign (not i) tests))) at-s
+        ∙ split-as F l tests (x || y) (tests .split) split-is)
 
     -- refused by k
-    pub replace-refused : (k ≡ 0 → ⊥) → (r : EditAnswer) → r ≡ says k (l .line) (l .log) → Edited narrow l (replaceCall catalogue narrow l a b s) r (l .text) (l .records) (l .texts)
-    replace-refused h r q = refused-by narrow l k (checked catalogue narrow l tests) _ r replace-checked h q
+    pub replace-refused : (k ≡ 0 → ⊥) → (r : EditAnswer) → r ≡ says k (l .line) (l .log) → Edited F l (replaceCall catalogue F l a b s) r (l .text) (l .records) (l .texts)
+    replace-refused h r q = refused-by F l k (checked catalogue F l tests) _ r replace-checked h q
 
-    module _ (z : k ≡ 0) (h : Ready narrow l) where
+    module _ (z : k ≡ 0) (h : Ready F l) where
       -- passed: the places lie in the text
       passed : Passed tests
-      passed = own-passed catalogue narrow l tests (replace-checked ∙ z)
+      passed = own-passed catalogue F l tests (replace-checked ∙ z)
 
       replace-in : In (textOf l) a b
-      replace-in = range-in l a b (sym (length-kept narrow l h)) (passed .place) (passed .split)
+      replace-in = range-in l a b (sym (length-kept F l h)) (passed .place) (passed .split)
 
       pub replace-places : (a ≤ b) × (b ≤ l .line .len)
-      replace-places = (replace-in .0, omega (arith, replace-in .1, length-kept narrow l h))
+      replace-places = (replace-in .0, omega (arith, replace-in .1, length-kept F l h))
 
       -- the cursor is a machine's number
-      pub replace-cursor : a + length s ≤ 8192
-      replace-cursor = omega (arith, replace-places .0, replace-places .1, h .used, h .small, ltb-false (length (l .text)) (length s) (passed .sizes))
+      pub replace-cursor : a + length s ≤ textMax + textMax
+      replace-cursor = omega (arith, replace-places .0, replace-places .1, h .used, h .small, h .log .fit .text, ltb-false (length (l .text)) (length s) (passed .sizes))
 
       -- both texts are of the repertoire
       pub replace-texts : okChange catalogue (edit (replace a (part (textOf l) a b) s)) ≡ true
       replace-texts = rw (part-text catalogue (textOf l) a b replace-in (h .text), not-false (isText catalogue s) (passed .foreign))
 
       -- and the change is the call's
-      pub replace-done : (r : EditAnswer) (t rb tb : List ℕ) → Edited narrow l (changeOut narrow (sizesOf l) (length (l .text)) true (replace a (part (textOf l) a b) s) (a + length s) (stateOf catalogue narrow l)) r t rb tb
-          → Edited narrow l (replaceCall catalogue narrow l a b s) r t rb tb
+      pub replace-done : (r : EditAnswer) (t rb tb : List ℕ) → Edited F l (changeOut F (sizesOf l) (length (l .text)) true (replace a (part (textOf l) a b) s) (a + length s) (stateOf catalogue F l)) r t rb tb
+          → Edited F l (replaceCall catalogue F l a b s) r t rb tb
       replace-done r t rb tb q =
-          passed-by narrow l k (checked catalogue narrow l tests) _ r t rb tb replace-checked z
-          (outcome-as narrow l _ _ r t rb tb (once-swap catalogue narrow (sizesOf l) (length (l .text)) (a + length s) (stateOf catalogue narrow l) a b s replace-in) q)
+          passed-by F l k (checked catalogue F l tests) _ r t rb tb replace-checked z
+          (outcome-as F l _ _ r t rb tb (once-swap catalogue F (sizesOf l) (length (l .text)) (a + length s) (stateOf catalogue F l) a b s replace-in) q)

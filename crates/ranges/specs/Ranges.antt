@@ -7,9 +7,9 @@ use lib.ListN.{length}
 use Rattle.utf8.specs.Chars.{boundary}
 use Rattle.unicode.specs.Repertoire.{Repertoire}
 use Rattle.unicode.specs.Text.{isText}
-use Rattle.checks.specs.Checks.{Tests}
+use Rattle.checks.specs.Checks.{Tests, noTests, withSizes, withForeign, withPlace, withSplit}
 use Rattle.checks.specs.Outcome.{Outcome}
-use Rattle.journal.specs.Layout.{Format}
+use Rattle.formats.specs.declared.Format.{Format}
 use Rattle.edit.specs.Plan.{State, cutting, swapping, once}
 use Rattle.edit.specs.Calls.{Lent, textOf, editCall}
 
@@ -17,28 +17,12 @@ module _ (R : Repertoire) (F : Format) (l : Lent) where
   -- 5: an end beyond the text, a start after its end; 6: one of them inside a character
   abbrev pub rangeTests : ℕ → ℕ → Tests
   rangeTests a b =
-      record {
-        sizes = false;
-        code = false;
-        foreign = false;
-        place = ltb (l .line .len) b || ltb b a;
-        split = not (boundary (textOf l) a) || not (boundary (textOf l) b);
-        prompt = false;
-        damaged = false;
-      }
+      withPlace (ltb (l .line .len) b || ltb b a) (withSplit (not (boundary (textOf l) a) || not (boundary (textOf l) b)) noTests)
 
   -- 2 and 4 try the text to put in too
   abbrev pub replaceTests : ℕ → ℕ → List ℕ → Tests
   replaceTests a b s =
-      record {
-        sizes = ltb (length (l .text)) (length s);
-        code = false;
-        foreign = not (isText R s);
-        place = ltb (l .line .len) b || ltb b a;
-        split = not (boundary (textOf l) a) || not (boundary (textOf l) b);
-        prompt = false;
-        damaged = false;
-      }
+      withSizes (ltb (length (l .text)) (length s)) (withForeign (not (isText R s)) (rangeTests a b))
 
   -- delete_range: the cursor goes to the start
   abbrev pub deleteRangeCall : ℕ → ℕ → Outcome State

@@ -1,8 +1,7 @@
 // The calls of LineBuffer with a range of places of their own. Any text, cursor, log and place may be handed over: what is unfit
 // is turned away by a number of document 01.
 ghost use Rattle.unicode.specs.Repertoire.{catalogue};
-ghost use Rattle.journal.specs.Layout.{narrow};
-ghost use Rattle.edit.specs.Calls.{lent, Edited};
+ghost use Rattle.edit.specs.Calls.{lent, formatOf, Edited};
 ghost use Rattle.ranges.specs.Ranges.{deleteRangeCall, replaceCall};
 use changeset::Log;
 use checks::Line;
@@ -13,7 +12,7 @@ use edit::cut_out;
 use edit::is_split;
 use edit::refusal;
 use edit::says;
-use records::NARROW;
+use formats::format_for;
 use unicode::check_text;
 
 // Wrong answers ruled out: the redo list kept for an empty range; the cursor left behind the cut.
@@ -26,8 +25,8 @@ pub fn delete_range(
     start: usize,
     end: usize,
 ) -> EditAnswer
-    ensures { λ r. ⌜ Edited narrow (lent (now (text .entry)) (now (records .entry)) (now (texts .entry)) line log)
-        (deleteRangeCall catalogue narrow (lent (now (text .entry)) (now (records .entry)) (now (texts .entry)) line log) start end)
+    ensures { λ r. ⌜ Edited (formatOf (lent (now (text .entry)) (now (records .entry)) (now (texts .entry)) line log)) (lent (now (text .entry)) (now (records .entry)) (now (texts .entry)) line log)
+        (deleteRangeCall catalogue (formatOf (lent (now (text .entry)) (now (records .entry)) (now (texts .entry)) line log)) (lent (now (text .entry)) (now (records .entry)) (now (texts .entry)) line log) start end)
         r (now (text .exit)) (now (records .exit)) (now (texts .exit)) ⌝ }
 {
     let len = line.len;
@@ -39,11 +38,12 @@ pub fn delete_range(
         place: (len < end) | (end < start),
         split,
     };
-    let k = refusal(NARROW, text, records, texts, line, log, own);
+    let f = format_for(text.len());
+    let k = refusal(f, text, records, texts, line, log, own);
     if k != 0 {
         return says(k, line, log);
     }
-    cut_out(NARROW, text, records, texts, line, log, start, end)
+    cut_out(f, text, records, texts, line, log, start, end)
 }
 
 // Wrong answers ruled out: nothing by nothing left unrecorded; the cursor left at the start.
@@ -57,8 +57,8 @@ pub fn replace(
     end: usize,
     buf: &[u8],
 ) -> EditAnswer
-    ensures { λ r. ⌜ Edited narrow (lent (now (text .entry)) (now (records .entry)) (now (texts .entry)) line log)
-        (replaceCall catalogue narrow (lent (now (text .entry)) (now (records .entry)) (now (texts .entry)) line log) start end (now (buf .entry)))
+    ensures { λ r. ⌜ Edited (formatOf (lent (now (text .entry)) (now (records .entry)) (now (texts .entry)) line log)) (lent (now (text .entry)) (now (records .entry)) (now (texts .entry)) line log)
+        (replaceCall catalogue (formatOf (lent (now (text .entry)) (now (records .entry)) (now (texts .entry)) line log)) (lent (now (text .entry)) (now (records .entry)) (now (texts .entry)) line log) start end (now (buf .entry)))
         r (now (text .exit)) (now (records .exit)) (now (texts .exit)) ⌝ }
 {
     let len = line.len;
@@ -70,12 +70,13 @@ pub fn replace(
         place: (len < end) | (end < start),
         split,
     };
-    let k = refusal(NARROW, text, records, texts, line, log, own);
+    let f = format_for(text.len());
+    let k = refusal(f, text, records, texts, line, log, own);
     if k != 0 {
         return says(k, line, log);
     }
     change(
-        NARROW,
+        f,
         text,
         records,
         texts,

@@ -6,8 +6,8 @@ use mathlib.Core.Bool.{Bool, true, false}
 use lib.Dec.{eqb}
 use borrow.Author.Tests.{eqb-true, eqb-false, eq-eqb, ne-eqb}
 use Rattle.lists.proofs.Bools.{by-test}
-use Rattle.journal.specs.Layout.{Format}
-use Rattle.recording.specs.Tails.{tailFor, apart, behind, inFront, noted, Narrow}
+use Rattle.formats.specs.declared.Format.{Format}
+use Rattle.recording.specs.Tails.{tailFor, apart, behind, inFront, noted, InRange}
 use Rattle.recording.specs.declared.Tail.{Tail}
 
 -- does a cut end where the next one begins?
@@ -29,9 +29,9 @@ noted-for F false k p o n t = refl
 pub joined-for : (j : Bool) (t : Tail) → j ≡ true → t ≡ tailFor j t
 joined-for j t e = rw e
 
-pub narrow-for : (j : Bool) (t : Tail) (o n : ℕ) → Narrow t o n → Narrow (tailFor j t) o n
-narrow-for true t o n h = h
-narrow-for false t o n h = record { records = h .records; texts = h .texts; place = omega arith; within = omega arith; old = h .old; new = h .new }
+pub in-range-for : (j : Bool) (t : Tail) (o n : ℕ) → InRange t o n → InRange (tailFor j t) o n
+in-range-for true t o n h = h
+in-range-for false t o n h = record { records = h .records; texts = h .texts; place = omega arith; within = omega arith; old = h .old; new = h .new }
 
 module _ (F : Format) (k p o n : ℕ) (t : Tail) where
   pub may-not : (j : Bool) → j ≡ false → apart F k p o n t ≡ noted F j k p o n t

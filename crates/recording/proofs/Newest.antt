@@ -10,7 +10,9 @@ use borrow.Author.Tests.{le-leb, lt-leb, eq-eqb, ne-eqb}
 use Rattle.lists.proofs.Ends.{Snoc, empty, ended, snoc}
 use Rattle.unicode.specs.Repertoire.{Repertoire}
 use Rattle.journal.specs.Change.{Edit, insert, delete, replace, Change, begin, end, edit}
-use Rattle.journal.specs.Layout.{Format, kindOf, recordOf, encodeRecords, encodeTexts, numAt, firstLen, secondLen, sizeOf, Layout}
+use Rattle.numbers.specs.Numbers.{numAt}
+use Rattle.formats.specs.declared.Format.{Format}
+use Rattle.journal.specs.Layout.{kindOf, recordOf, encodeRecords, encodeTexts, firstLen, secondLen, sizeOf, Layout}
 use Rattle.journal.specs.Hold.{Listed}
 use Rattle.journal.specs.Undo.{undoRecords, undoTexts}
 use Rattle.journal.proofs.Decode.{NumbersAt, numbers-at, record-pos}

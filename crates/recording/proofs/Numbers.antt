@@ -10,9 +10,11 @@ use Rattle.unicode.specs.Repertoire.{Repertoire}
 use Rattle.unicode.specs.Text.{isText}
 use Rattle.unicode.proofs.Text.{text-nil}
 use Rattle.journal.specs.Change.{Edit, insert, delete, replace, Change, begin, end, edit, place, old, new}
-use Rattle.journal.specs.Layout.{Format, top, recordOf, textsOf, Small, okChange, AllGood}
+use Rattle.numbers.specs.Numbers.{top}
+use Rattle.formats.specs.declared.Format.{Format}
+use Rattle.journal.specs.Layout.{recordOf, textsOf, Small, okChange, AllGood}
 use Rattle.journal.specs.Undo.{undoRecords, undoTexts}
-use Rattle.journal.proofs.Numbers.{length-le}
+use Rattle.numbers.proofs.Numbers.{length-le}
 use Rattle.journal.proofs.Undo.{texts-size}
 use Rattle.records.specs.Written.{recordBytes, editSize}
 use Rattle.recording.specs.Tails.{kindNumber, tail, tailOf}

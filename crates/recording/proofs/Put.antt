@@ -14,7 +14,9 @@ use Rattle.unicode.proofs.Text.{text-append}
 use Rattle.buffer.specs.Edit.{inserted}
 use Rattle.buffer.proofs.Inserted.{inserted-at, inserted-end, inserted-length}
 use Rattle.journal.specs.Change.{Edit, insert, delete, replace, Change, begin, end, edit, place, old, new}
-use Rattle.journal.specs.Layout.{Format, top, recordOf, encodeRecords, encodeTexts, okChange, AllGood, Layout}
+use Rattle.numbers.specs.Numbers.{top}
+use Rattle.formats.specs.declared.Format.{Format}
+use Rattle.journal.specs.Layout.{recordOf, encodeRecords, encodeTexts, okChange, AllGood, Layout}
 use Rattle.journal.specs.Recording.{apart, joinIf, onJoined, note}
 use Rattle.journal.specs.Hold.{Holds}
 use Rattle.journal.specs.Undo.{undoRecords, undoTexts, Sizes, fits}

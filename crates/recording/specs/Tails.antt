@@ -9,7 +9,8 @@ use lib.Seq.{sets}
 use Rattle.unicode.specs.Repertoire.{Repertoire}
 use Rattle.buffer.specs.Edit.{inserted}
 use Rattle.journal.specs.Change.{Edit, insert, delete, replace, Change, begin, end, edit, place, old, new}
-use Rattle.journal.specs.Layout.{Format, Layout}
+use Rattle.formats.specs.declared.Format.{Format}
+use Rattle.journal.specs.Layout.{Layout}
 use Rattle.journal.specs.Undo.{undoRecords, undoTexts}
 use Rattle.records.specs.Written.{recordBytes, editSize}
 use Rattle.recording.specs.declared.Tail.{Tail}
@@ -70,7 +71,7 @@ noted F j k p o n t =
     (apart F k p o n t)
 
 -- no sum of these numbers passes the machine's range
-pub record Narrow (t : Tail) (o n : ℕ) : Type 0 where
+pub record InRange (t : Tail) (o n : ℕ) : Type 0 where
   pub records : t .records < 1152921504606846976
   pub texts : t .texts < 1152921504606846976
   pub place : t .place < 1152921504606846976

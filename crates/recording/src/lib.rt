@@ -5,14 +5,14 @@ ghost use lib.Dec.{eqb};
 ghost use lib.ListN.{length};
 ghost use Rattle.unicode.specs.Repertoire.{catalogue};
 ghost use Rattle.journal.specs.Hold.{Listed};
-ghost use Rattle.records.specs.Formats.{asFormat, Fit};
+ghost use Rattle.formats.specs.Formats.{Fit};
 ghost use Rattle.records.specs.Written.{editSize};
-ghost use Rattle.recording.specs.Tails.{tail, TailAt, TailFor, apart as Tails·apart, noted, Narrow, Wrote};
+ghost use Rattle.recording.specs.Tails.{tail, TailAt, TailFor, apart as Tails·apart, noted, InRange, Wrote};
 use buffer::insert_bytes;
-use records::Format;
+use formats::Format;
+use numbers::read_num;
 use records::edit_size;
 use records::last_start;
-use records::read_num;
 use records::write_record;
 
 // An undo list by its used lengths and its newest record: 3 Insert, 4 Delete, 5 Replace, 0 any other or none.
@@ -48,8 +48,8 @@ fn no_edit(records: usize, texts: usize) -> Tail
 // The tail of the undo list in records, whose texts are texts bytes long.
 pub fn tail_of(f: Format, records: &[u8], texts: usize) -> Tail
     requires { ⌜ Fit f ⌝ }
-    requires { ⌜ Listed catalogue (asFormat f) (now records) ⌝ }
-    ensures { λ r. ⌜ TailAt catalogue (asFormat f) (now (records .entry)) texts r ⌝ }
+    requires { ⌜ Listed catalogue f (now records) ⌝ }
+    ensures { λ r. ⌜ TailAt catalogue f (now (records .entry)) texts r ⌝ }
 {
     let used = records.len();
     if used == 0 {
@@ -98,8 +98,8 @@ pub fn tail_of(f: Format, records: &[u8], texts: usize) -> Tail
 // The tail as far as recording a change looks at it: the newest record is sought only where the change may be joined to it.
 pub fn tail_for(f: Format, joins: bool, records: &[u8], texts: usize) -> Tail
     requires { ⌜ Fit f ⌝ }
-    requires { ⌜ Listed catalogue (asFormat f) (now records) ⌝ }
-    ensures { λ r. ⌜ TailFor catalogue (asFormat f) joins (now (records .entry)) texts r ⌝ }
+    requires { ⌜ Listed catalogue f (now records) ⌝ }
+    ensures { λ r. ⌜ TailFor catalogue f joins (now (records .entry)) texts r ⌝ }
 {
     if !joins {
         return no_edit(records.len(), texts);
@@ -121,8 +121,8 @@ impl Tail {
     // The change in a record of its own.
     fn apart(self, f: Format, kind: usize, place: usize, old: usize, new: usize) -> Noted
         requires { ⌜ Fit f ⌝ }
-        requires { ⌜ Narrow self old new ⌝ }
-        ensures { λ r. ⌜ r ≡ Tails·apart (asFormat f) kind place old new self ⌝ }
+        requires { ⌜ InRange self old new ⌝ }
+        ensures { λ r. ⌜ r ≡ Tails·apart f kind place old new self ⌝ }
     {
         Noted {
             tail: Tail {
@@ -148,8 +148,8 @@ impl Tail {
         new: usize,
     ) -> Noted
         requires { ⌜ Fit f ⌝ }
-        requires { ⌜ Narrow self old new ⌝ }
-        ensures { λ r. ⌜ r ≡ noted (asFormat f) joins kind place old new self ⌝ }
+        requires { ⌜ InRange self old new ⌝ }
+        ensures { λ r. ⌜ r ≡ noted f joins kind place old new self ⌝ }
     {
         if !joins {
             return self.apart(f, kind, place, old, new);
@@ -203,9 +203,9 @@ pub fn write_noted(
 )
     requires { ⌜ Fit f ⌝ }
     requires { ⌜ (3 ≤ n .tail .kind) × (n .tail .kind ≤ 5) ⌝ }
-    requires { ⌜ (editSize (asFormat f) (n .tail .kind) ≤ n .tail .records) × (n .tail .records ≤ length (now records)) ⌝ }
+    requires { ⌜ (editSize f (n .tail .kind) ≤ n .tail .records) × (n .tail .records ≤ length (now records)) ⌝ }
     requires { ⌜ (n .at ≤ used) × (used + length (now old) + length (now new) ≤ length (now texts)) ⌝ }
-    ensures { λ _. ⌜ Wrote (asFormat f) n used (now (old .entry)) (now (new .entry)) (now (records .entry)) (now (texts .entry)) (now (records .exit)) (now (texts .exit)) ⌝ }
+    ensures { λ _. ⌜ Wrote f n used (now (old .entry)) (now (new .entry)) (now (records .entry)) (now (texts .entry)) (now (records .exit)) (now (texts .exit)) ⌝ }
 {
     let t = n.tail;
     let kind = t.kind;

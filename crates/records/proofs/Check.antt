@@ -14,7 +14,8 @@ use Rattle.utf8.specs.Chars.{noTail}
 use Rattle.unicode.specs.Repertoire.{Repertoire}
 use Rattle.unicode.specs.Text.{isText}
 use Rattle.unicode.proofs.Text.{text-append, text-front}
-use Rattle.journal.specs.Layout.{Format, sizeOf, firstLen, secondLen, isSome, decodeAt}
+use Rattle.formats.specs.declared.Format.{Format}
+use Rattle.journal.specs.Layout.{sizeOf, firstLen, secondLen, isSome, decodeAt}
 use Rattle.journal.proofs.Decode.{KindIs, is-begin, is-end, is-insert, is-delete, is-replace, kind-is, size-low, texts-low, texts-mid, texts-high, fine-low, fine-mid, fine-high, Whole, whole, whole-true, whole-false, some-step}
 use Rattle.journal.proofs.Texts.{whole-text}
 use Rattle.records.specs.Check.{isTextAt, PassedAt}

@@ -1,5 +1,3 @@
-pub mod Formats
-pub mod Numbers
 pub mod Records
 pub mod Check
 pub mod Walks

@@ -5,7 +5,8 @@ use mathlib.Core.Path.{_≡_, sym, ap, ap₂, _∙_}
 use mathlib.Core.List.{List}
 use lib.ListN.{getD}
 use Rattle.lists.proofs.Bools.{by-less}
-use Rattle.journal.specs.Layout.{Format, sizeOf, textsAt, firstLen, secondLen}
+use Rattle.formats.specs.declared.Format.{Format}
+use Rattle.journal.specs.Layout.{sizeOf, textsAt, firstLen, secondLen}
 use Rattle.journal.proofs.Decode.{KindIs, kind-is, size-mid, size-high, texts-low, texts-mid, texts-high}
 
 module _ (F : Format) (rs : List ℕ) (at k : ℕ) (h : 0 < sizeOf F (getD rs at 0)) (e : k ≡ getD rs at 0) where

@@ -8,7 +8,8 @@ use lib.Seq.{take-all, length-take-le}
 use borrow.Author.Tests.{eq-eqb, ne-eqb}
 use Rattle.unicode.specs.Repertoire.{Repertoire}
 use Rattle.journal.specs.Change.{Change}
-use Rattle.journal.specs.Layout.{Format, encodeTexts, textsOf, sizeOf, textsAt}
+use Rattle.formats.specs.declared.Format.{Format}
+use Rattle.journal.specs.Layout.{encodeTexts, textsOf, sizeOf, textsAt}
 use Rattle.journal.specs.Hold.{Listed}
 use Rattle.journal.specs.Groups.{passed}
 use Rattle.journal.specs.Undo.{undoRecords}

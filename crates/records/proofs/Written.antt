@@ -10,44 +10,10 @@ use lib.Dec.{eqb}
 use borrow.Author.Tests.{eq-eqb, ne-eqb, eqb-true, eqb-false}
 use Rattle.lists.proofs.Bools.{by-test}
 use Rattle.lists.proofs.Stores.{sets-append}
-use Rattle.journal.specs.Layout.{Format, top, le}
-use Rattle.journal.proofs.Numbers.{length-le}
+use Rattle.numbers.specs.Numbers.{top, le}
+use Rattle.formats.specs.declared.Format.{Format}
+use Rattle.numbers.proofs.Numbers.{length-le}
 use Rattle.records.specs.Written.{recordBytes, editSize}
-
--- ---- the number above those of w bytes, l of them left
-pub top-start : (w : ℕ) → 1 ≡ top (w - w)
-top-start w =
-    let g : w - w ≡ 0 = omega arith in
-    rw g
-
-pub top-more : (w l v : ℕ) → 0 < l → l ≤ w → v ≡ top (w - l) → 256 * v ≡ top (w - (l - 1))
-top-more w l v p h e =
-    let g : w - (l - 1) ≡ suc (w - l) = omega arith in
-    rw (g, e)
-
-pub top-whole : (w l v : ℕ) → l ≡ 0 → v ≡ top (w - l) → v ≡ top w
-top-whole w l v z e =
-    let g : w - l ≡ w = omega arith in
-    e ∙ rw g
-
--- ---- a number: of what is left of it the byte i is stored, and i is w behind the last
-module _ (s : List ℕ) (at i w v : ℕ) where
-  pub byte-stored : i < w → sets (set s (at + i) (v % 256)) (at + (i + 1)) (le (w - (i + 1)) (v / 256)) ≡ sets s (at + i) (le (w - i) v)
-  byte-stored h =
-      let e : w - i ≡ suc (w - (i + 1)) = omega arith in
-      let f : at + (i + 1) ≡ suc (at + i) = omega arith in
-      rw (e, f)
-
-  pub all-stored : w ≤ i → sets s (at + i) (le (w - i) v) ≡ s
-  all-stored h =
-      let e : w - i ≡ 0 = omega arith in
-      rw e
-
-pub none-stored : (s : List ℕ) (at w v : ℕ) → sets s (at + 0) (le (w - 0) v) ≡ sets s at (le w v)
-none-stored s at w v =
-    let e : w - 0 ≡ w = omega arith in
-    let f : at + 0 ≡ at = omega arith in
-    rw (e, f)
 
 -- ---- an edit's record
 module _ (F : Format) (k : ℕ) where

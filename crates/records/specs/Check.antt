@@ -7,7 +7,8 @@ use lib.Dec.{leb}
 use lib.ListN.{length, getD, take, drop}
 use Rattle.unicode.specs.Repertoire.{Repertoire}
 use Rattle.unicode.specs.Text.{isText}
-use Rattle.journal.specs.Layout.{Format, sizeOf, textsAt, wholeAt}
+use Rattle.formats.specs.declared.Format.{Format}
+use Rattle.journal.specs.Layout.{sizeOf, textsAt, wholeAt}
 use Rattle.records.specs.declared.Passed.{Passed}
 use Rattle.records.specs.declared.Passed.the-variants.{To, Broken}
 

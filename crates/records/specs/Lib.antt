@@ -1,4 +1,3 @@
-pub mod Formats
 pub mod Check
 pub mod Walks
 pub mod Written

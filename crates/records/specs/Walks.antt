@@ -7,7 +7,8 @@ use lib.Dec.{eqb}
 use lib.ListN.{length, take, drop}
 use Rattle.unicode.specs.Repertoire.{Repertoire}
 use Rattle.journal.specs.Change.{Change}
-use Rattle.journal.specs.Layout.{Format, kindOf, encodeRecords, encodeTexts, Layout}
+use Rattle.formats.specs.declared.Format.{Format}
+use Rattle.journal.specs.Layout.{kindOf, encodeRecords, encodeTexts, Layout}
 use Rattle.journal.specs.Groups.{passed}
 use Rattle.journal.specs.Undo.{undoRecords}
 use Rattle.records.specs.declared.Walked.{Walked}

@@ -3,7 +3,8 @@ use Prim.Native.Nat.{ℕ, _+_}
 use mathlib.Core.Bool.{cond}
 use mathlib.Core.List.{List, _∷_, _++_}
 use lib.Dec.{eqb}
-use Rattle.journal.specs.Layout.{Format, le}
+use Rattle.numbers.specs.Numbers.{le}
+use Rattle.formats.specs.declared.Format.{Format}
 
 unfoldable pub recordBytes : Format → ℕ → ℕ → ℕ → ℕ → List ℕ
 recordBytes F k p o n =

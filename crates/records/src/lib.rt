@@ -6,54 +6,24 @@ ghost use lib.ListN.{length, getD, drop};
 ghost use lib.Seq.{sets};
 ghost use Rattle.unicode.specs.Repertoire.{catalogue};
 ghost use Rattle.unicode.specs.Text.{isText};
-ghost use Rattle.journal.specs.Layout.{top, le, numAt, sizeOf, textsAt, decode, isSome};
+ghost use Rattle.numbers.specs.Numbers.{top, le, numAt};
+ghost use Rattle.journal.specs.Layout.{sizeOf, textsAt, decode, isSome};
 ghost use Rattle.journal.specs.Hold.{Listed};
-ghost use Rattle.records.specs.Formats.{asFormat, Fit};
+ghost use Rattle.formats.specs.Formats.{Fit, recordsMax};
 ghost use Rattle.records.specs.Check.{isTextAt, PassedAt};
 ghost use Rattle.records.specs.Walks.{Walks, LastAt, RunAt};
 ghost use Rattle.records.specs.Written.{recordBytes, editSize};
+use formats::Format;
+use numbers::read_num;
+use numbers::wide;
+use numbers::write_num;
 use unicode::check_text;
 use utf8::is_boundary;
-
-// How the log's records are written: the bytes of a number, and by how much the kinds of edits are raised.
-pub struct Format {
-    pub width: usize,
-    pub offset: usize,
-}
-
-// The format of the log's records: numbers of 2 bytes, kinds 1 to 5.
-pub const NARROW: Format = Format {
-    width: 2,
-    offset: 0,
-};
-
-fn wide(b: u8) -> usize
-    ensures { λ r. ⌜ (r ≡ b) × (r < 256) ⌝ }
-{
-    b as usize
-}
-
-// The little-endian number in the width bytes at a place. Two bytes, the width of the log's numbers, are read at once.
-pub fn read_num(s: &[u8], at: usize, width: usize) -> usize
-    requires { ⌜ (width ≤ 4) × (at + width ≤ length (now s)) ⌝ }
-    ensures { λ r. ⌜ (r ≡ numAt width (now (s .entry)) at) × (r < 4294967296) ⌝ }
-{
-    if width == 2 {
-        return wide(s[at]) + 256 * wide(s[at + 1]);
-    }
-    let mut value: usize = 0;
-    let mut left = width;
-    while 0 < left {
-        left -= 1;
-        value = wide(s[at + left]) + 256 * value;
-    }
-    value
-}
 
 // The size of a record by its kind; 0 for a byte that is no kind.
 pub fn record_size(f: Format, kind: usize) -> usize
     requires { ⌜ Fit f ⌝ }
-    ensures { λ r. ⌜ (r ≡ sizeOf (asFormat f) kind) × (r ≤ 13) ⌝ }
+    ensures { λ r. ⌜ (r ≡ sizeOf f kind) × (r ≤ 13) ⌝ }
 {
     let w = f.width;
     let o = f.offset;
@@ -78,8 +48,8 @@ pub fn record_size(f: Format, kind: usize) -> usize
 // The size of the texts of the whole record at a place.
 pub fn texts_size(f: Format, records: &[u8], at: usize) -> usize
     requires { ⌜ Fit f ⌝ }
-    requires { ⌜ (0 < sizeOf (asFormat f) (getD (now records) at 0)) × (at + sizeOf (asFormat f) (getD (now records) at 0) ≤ length (now records)) ⌝ }
-    ensures { λ r. ⌜ (r ≡ textsAt (asFormat f) (now (records .entry)) at (getD (now (records .entry)) at 0)) × (r < 8589934592) ⌝ }
+    requires { ⌜ (0 < sizeOf f (getD (now records) at 0)) × (at + sizeOf f (getD (now records) at 0) ≤ length (now records)) ⌝ }
+    ensures { λ r. ⌜ (r ≡ textsAt f (now (records .entry)) at (getD (now (records .entry)) at 0)) × (r < 8589934592) ⌝ }
 {
     let kind = wide(records[at]);
     let w = f.width;
@@ -116,7 +86,7 @@ fn pass_record(f: Format, records: &[u8], texts: &[u8], at: usize, t: usize) -> 
     requires { ⌜ Fit f ⌝ }
     requires { ⌜ at < length (now records) ⌝ }
     requires { ⌜ (t ≤ length (now texts)) × (isText catalogue (drop t (now texts)) ≡ true) ⌝ }
-    ensures { λ r. ⌜ PassedAt catalogue (asFormat f) (now (records .entry)) (now (texts .entry)) at t r ⌝ }
+    ensures { λ r. ⌜ PassedAt catalogue f (now (records .entry)) (now (texts .entry)) at t r ⌝ }
 {
     let kind = wide(records[at]);
     if (kind == 1) | (kind == 2) {
@@ -148,7 +118,7 @@ fn pass_record(f: Format, records: &[u8], texts: &[u8], at: usize, t: usize) -> 
 // record's texts it is then asked where they end.
 pub fn check_list(f: Format, records: &[u8], texts: &[u8]) -> bool
     requires { ⌜ Fit f ⌝ }
-    ensures { λ r. ⌜ r ≡ isSome (decode catalogue (asFormat f) (now (records .entry)) (now (texts .entry))) ⌝ }
+    ensures { λ r. ⌜ r ≡ isSome (decode catalogue f (now (records .entry)) (now (texts .entry))) ⌝ }
 {
     if !check_text(texts) {
         return false;
@@ -176,9 +146,9 @@ pub struct Walked {
 // The first n records of a list, or all of them.
 pub fn walk(f: Format, records: &[u8], n: usize) -> Walked
     requires { ⌜ Fit f ⌝ }
-    requires { ⌜ Listed catalogue (asFormat f) (now records) ⌝ }
-    requires { ⌜ length (now records) ≤ 32768 ⌝ }
-    ensures { λ r. ⌜ Walks catalogue (asFormat f) (now (records .entry)) n r ⌝ }
+    requires { ⌜ Listed catalogue f (now records) ⌝ }
+    requires { ⌜ length (now records) ≤ recordsMax ⌝ }
+    ensures { λ r. ⌜ Walks catalogue f (now (records .entry)) n r ⌝ }
 {
     let mut count: usize = 0;
     let mut at: usize = 0;
@@ -205,8 +175,8 @@ pub fn walk(f: Format, records: &[u8], n: usize) -> Walked
 // Where the last record of a list begins.
 pub fn last_start(f: Format, records: &[u8]) -> usize
     requires { ⌜ Fit f ⌝ }
-    requires { ⌜ Listed catalogue (asFormat f) (now records) ⌝ }
-    ensures { λ r. ⌜ LastAt catalogue (asFormat f) (now (records .entry)) r ⌝ }
+    requires { ⌜ Listed catalogue f (now records) ⌝ }
+    ensures { λ r. ⌜ LastAt catalogue f (now (records .entry)) r ⌝ }
 {
     let mut at: usize = 0;
     let mut last: usize = 0;
@@ -220,8 +190,8 @@ pub fn last_start(f: Format, records: &[u8]) -> usize
 // Where the records of one kind that stand last begin.
 pub fn run_start(f: Format, records: &[u8], kind: usize) -> usize
     requires { ⌜ Fit f ⌝ }
-    requires { ⌜ Listed catalogue (asFormat f) (now records) ⌝ }
-    ensures { λ r. ⌜ RunAt catalogue (asFormat f) (now (records .entry)) kind r ⌝ }
+    requires { ⌜ Listed catalogue f (now records) ⌝ }
+    ensures { λ r. ⌜ RunAt catalogue f (now (records .entry)) kind r ⌝ }
 {
     let mut at: usize = 0;
     let mut start: usize = 0;
@@ -235,38 +205,10 @@ pub fn run_start(f: Format, records: &[u8], kind: usize) -> usize
     start
 }
 
-// The number above those of width bytes.
-pub fn top_of(width: usize) -> usize
-    requires { ⌜ width ≤ 4 ⌝ }
-    ensures { λ r. ⌜ r ≡ top width ⌝ }
-{
-    let mut above: usize = 1;
-    let mut left = width;
-    while 0 < left {
-        left -= 1;
-        above = 256 * above;
-    }
-    above
-}
-
-// A number of width bytes, little-endian, at a place.
-pub fn write_num(s: &mut [u8], at: usize, v: usize, width: usize)
-    requires { ⌜ at + width ≤ length (now s) ⌝ }
-    ensures { λ _. ⌜ now (s .exit) ≡ sets (now (s .entry)) at (le width v) ⌝ }
-{
-    let mut rest = v;
-    let mut i: usize = 0;
-    while i < width {
-        s[at + i] = (rest % 256) as u8;
-        rest = rest / 256;
-        i += 1;
-    }
-}
-
 // The size of an edit's record: kind 3, 4 or 5.
 pub fn edit_size(f: Format, kind: usize) -> usize
     requires { ⌜ Fit f ⌝ }
-    ensures { λ r. ⌜ (r ≡ editSize (asFormat f) kind) × (r ≤ 13) ⌝ }
+    ensures { λ r. ⌜ (r ≡ editSize f kind) × (r ≤ 13) ⌝ }
 {
     let w = f.width;
     if kind == 5 { 1 + w + w + w } else { 1 + w + w }
@@ -284,8 +226,8 @@ pub fn write_record(
 )
     requires { ⌜ Fit f ⌝ }
     requires { ⌜ (3 ≤ kind) × (kind ≤ 5) ⌝ }
-    requires { ⌜ at + editSize (asFormat f) kind ≤ length (now records) ⌝ }
-    ensures { λ _. ⌜ now (records .exit) ≡ sets (now (records .entry)) at (recordBytes (asFormat f) kind place old new) ⌝ }
+    requires { ⌜ at + editSize f kind ≤ length (now records) ⌝ }
+    ensures { λ _. ⌜ now (records .exit) ≡ sets (now (records .entry)) at (recordBytes f kind place old new) ⌝ }
 {
     let w = f.width;
     let o = f.offset;

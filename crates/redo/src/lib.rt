@@ -7,9 +7,8 @@ ghost use Prim.Native.Nat.{_<_};
 ghost use lib.Dec.{eqb};
 ghost use lib.ListN.{length};
 ghost use Rattle.unicode.specs.Repertoire.{catalogue};
-ghost use Rattle.journal.specs.Layout.{narrow};
-ghost use Rattle.records.specs.Formats.{asFormat, Fit};
-ghost use Rattle.edit.specs.Calls.{lent, stateOf, Edited, Ready};
+ghost use Rattle.formats.specs.Formats.{Fit};
+ghost use Rattle.edit.specs.Calls.{lent, formatOf, stateOf, Edited, Ready};
 ghost use Rattle.undo.specs.Undo.{redoOut, redoCall};
 ghost use Rattle.undo.specs.Steps.{lentBy, PassesOne, Redone};
 use changeset::Log;
@@ -18,9 +17,9 @@ use edit::EditAnswer;
 use edit::Own;
 use edit::refusal;
 use edit::says;
+use formats::Format;
+use formats::format_for;
 use keymap::RepeatCount;
-use records::Format;
-use records::NARROW;
 use records::record_size;
 use retrace::Step;
 use retrace::read_record;
@@ -39,9 +38,9 @@ fn redo_record(
     log: Log,
 ) -> Passed
     requires { ⌜ Fit f ⌝ }
-    requires { ⌜ Ready (asFormat f) (lentBy (now text) (now records) (now texts) s log) ⌝ }
+    requires { ⌜ Ready f (lentBy (now text) (now records) (now texts) s log) ⌝ }
     requires { ⌜ (s .number ≡ 0) × (0 < log .redo .records) ⌝ }
-    ensures { λ q. ⌜ PassesOne (asFormat f) (lentBy (now (text .entry)) (now (records .entry)) (now (texts .entry)) s log) false (s .undone) q (now (text .exit)) ⌝ }
+    ensures { λ q. ⌜ PassesOne f (lentBy (now (text .entry)) (now (records .entry)) (now (texts .entry)) s log) false (s .undone) q (now (text .exit)) ⌝ }
 {
     let u = log.undo;
     let at = u.records;
@@ -70,8 +69,8 @@ fn redo_unit(
     log: Log,
 ) -> EditAnswer
     requires { ⌜ Fit f ⌝ }
-    requires { ⌜ Ready (asFormat f) (lent (now text) (now records) (now texts) line log) ⌝ }
-    ensures { λ r. ⌜ Redone (asFormat f) (lent (now (text .entry)) (now (records .entry)) (now (texts .entry)) line log) r (now (text .exit)) ⌝ }
+    requires { ⌜ Ready f (lent (now text) (now records) (now texts) line log) ⌝ }
+    ensures { λ r. ⌜ Redone f (lent (now (text .entry)) (now (records .entry)) (now (texts .entry)) line log) r (now (text .exit)) ⌝ }
 {
     let mut s = Step {
         number: 0,
@@ -123,9 +122,9 @@ fn redo_units(
     n: usize,
 ) -> EditAnswer
     requires { ⌜ Fit f ⌝ }
-    requires { ⌜ Ready (asFormat f) (lent (now text) (now records) (now texts) line log) ⌝ }
-    ensures outcome { λ r. ⌜ Edited (asFormat f) (lent (now (text .entry)) (now (records .entry)) (now (texts .entry)) line log)
-        (redoOut (length (now (text .entry))) n (stateOf catalogue (asFormat f) (lent (now (text .entry)) (now (records .entry)) (now (texts .entry)) line log)))
+    requires { ⌜ Ready f (lent (now text) (now records) (now texts) line log) ⌝ }
+    ensures outcome { λ r. ⌜ Edited f (lent (now (text .entry)) (now (records .entry)) (now (texts .entry)) line log)
+        (redoOut (length (now (text .entry))) n (stateOf catalogue f (lent (now (text .entry)) (now (records .entry)) (now (texts .entry)) line log)))
         r (now (text .exit)) (now (records .entry)) (now (texts .entry)) ⌝ }
     ensures still { λ r. ⌜ (r .log ≡ log → now (text .exit) ≡ now (text .entry)) ⌝ }
 {
@@ -159,14 +158,15 @@ pub fn redo(
     log: Log,
     n: RepeatCount,
 ) -> EditAnswer
-    ensures outcome { λ r. ⌜ Edited narrow (lent (now (text .entry)) (now (records .entry)) (now (texts .entry)) line log)
-        (redoCall catalogue narrow (lent (now (text .entry)) (now (records .entry)) (now (texts .entry)) line log) n)
+    ensures outcome { λ r. ⌜ Edited (formatOf (lent (now (text .entry)) (now (records .entry)) (now (texts .entry)) line log)) (lent (now (text .entry)) (now (records .entry)) (now (texts .entry)) line log)
+        (redoCall catalogue (formatOf (lent (now (text .entry)) (now (records .entry)) (now (texts .entry)) line log)) (lent (now (text .entry)) (now (records .entry)) (now (texts .entry)) line log) n)
         r (now (text .exit)) (now (records .entry)) (now (texts .entry)) ⌝ }
     ensures still { λ r. ⌜ (r .log ≡ log → now (text .exit) ≡ now (text .entry)) ⌝ }
 {
-    let k = refusal(NARROW, text, records, texts, line, log, Own::none());
+    let f = format_for(text.len());
+    let k = refusal(f, text, records, texts, line, log, Own::none());
     if k != 0 {
         return says(k, line, log);
     }
-    redo_units(NARROW, text, records, texts, line, log, n as usize)
+    redo_units(f, text, records, texts, line, log, n as usize)
 }

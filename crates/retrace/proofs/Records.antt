@@ -6,7 +6,9 @@ use mathlib.Core.List.{List}
 use lib.ListN.{length, getD, drop, length-take, length-append}
 use borrow.Author.Tests.{eq-eqb, ne-eqb}
 use Rattle.journal.specs.Change.{Change, begin, end, edit, insert, delete, replace}
-use Rattle.journal.specs.Layout.{Format, numAt, firstLen, secondLen, textsOf, sizeOf}
+use Rattle.numbers.specs.Numbers.{numAt}
+use Rattle.formats.specs.declared.Format.{Format}
+use Rattle.journal.specs.Layout.{firstLen, secondLen, textsOf, sizeOf}
 use Rattle.journal.proofs.Decode.{KindIs, is-begin, is-end, is-insert, is-delete, is-replace, kind-is, is-replacement, texts-insert, texts-delete, texts-replace, change-insert, change-delete, change-replace, Reads}
 use Rattle.retrace.specs.declared.Record.{Record}
 use Rattle.retrace.specs.Records.{numbers, numbersOf, recordAt, Carries}

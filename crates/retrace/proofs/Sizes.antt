@@ -7,7 +7,8 @@ use lib.ListN.{length, getD, set, length-append}
 use lib.Seq.{getD-set-same, getD-set-other}
 use Rattle.unicode.specs.Repertoire.{Repertoire}
 use Rattle.journal.specs.Change.{Change}
-use Rattle.journal.specs.Layout.{Format, recordOf, encodeRecords, sizeOf}
+use Rattle.formats.specs.declared.Format.{Format}
+use Rattle.journal.specs.Layout.{recordOf, encodeRecords, sizeOf}
 use Rattle.journal.specs.Undo.{undoRecords}
 use Rattle.journal.proofs.Decode.{record-pos}
 use Rattle.journal.proofs.Holds.{records-snoc}

@@ -7,7 +7,9 @@ use lib.Dec.{eqb}
 use lib.ListN.{length, getD, take, drop}
 use Rattle.unicode.specs.Repertoire.{Repertoire}
 use Rattle.journal.specs.Change.{Change, begin, end, edit, place, old, new}
-use Rattle.journal.specs.Layout.{Format, numAt, firstLen, secondLen, recordOf, textsOf, Layout}
+use Rattle.numbers.specs.Numbers.{numAt}
+use Rattle.formats.specs.declared.Format.{Format}
+use Rattle.journal.specs.Layout.{firstLen, secondLen, recordOf, textsOf, Layout}
 use Rattle.journal.specs.Undo.{undoRecords}
 use Rattle.recording.specs.Tails.{kindNumber}
 use Rattle.retrace.specs.declared.Record.{Record}

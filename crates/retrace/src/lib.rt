@@ -8,13 +8,13 @@ ghost use Rattle.unicode.specs.Text.{isText};
 ghost use Rattle.journal.specs.Change.{Change};
 ghost use Rattle.journal.specs.Hold.{Listed};
 ghost use Rattle.journal.specs.Layout.{sizeOf};
-ghost use Rattle.records.specs.Formats.{asFormat, Fit};
+ghost use Rattle.formats.specs.Formats.{Fit};
 ghost use Rattle.retrace.specs.Retrace.{exchanging, undoing, facing};
 ghost use Rattle.retrace.specs.Records.{recordAt, Carries, Noted, Exchanged, Retraced};
 use buffer::cut_bytes;
 use buffer::insert_bytes;
-use records::Format;
-use records::read_num;
+use formats::Format;
+use numbers::read_num;
 use records::record_size;
 use utf8::is_boundary;
 
@@ -29,8 +29,8 @@ pub struct Record {
 // The numbers of the record at a place.
 pub fn read_record(f: Format, records: &[u8], at: usize) -> Record
     requires { ⌜ Fit f ⌝ }
-    requires { ⌜ (0 < sizeOf (asFormat f) (getD (now records) at 0)) × (at + sizeOf (asFormat f) (getD (now records) at 0) ≤ length (now records)) ⌝ }
-    ensures { λ r. ⌜ (r ≡ recordAt (asFormat f) (now (records .entry)) at (getD (now (records .entry)) at 0)) × (r .kind ≤ 5) × (r .place < 4294967296) × (r .old < 4294967296) × (r .new < 4294967296) ⌝ }
+    requires { ⌜ (0 < sizeOf f (getD (now records) at 0)) × (at + sizeOf f (getD (now records) at 0) ≤ length (now records)) ⌝ }
+    ensures { λ r. ⌜ (r ≡ recordAt f (now (records .entry)) at (getD (now (records .entry)) at 0)) × (r .kind ≤ 5) × (r .place < 4294967296) × (r .old < 4294967296) × (r .new < 4294967296) ⌝ }
 {
     let kind = records[at] as usize;
     let w = f.width;
@@ -74,9 +74,9 @@ pub fn read_record(f: Format, records: &[u8], at: usize) -> Record
 // one pass. Answers the number of records.
 pub fn note_sizes(f: Format, records: &[u8], sizes: &mut [u8]) -> usize
     requires { ⌜ Fit f ⌝ }
-    requires { ⌜ Listed catalogue (asFormat f) (now records) ⌝ }
+    requires { ⌜ Listed catalogue f (now records) ⌝ }
     requires { ⌜ length (now records) ≤ length (now sizes) ⌝ }
-    ensures { λ r. ⌜ Noted catalogue (asFormat f) (now (records .entry)) r (now (sizes .exit)) ⌝ }
+    ensures { λ r. ⌜ Noted catalogue f (now (records .entry)) r (now (sizes .exit)) ⌝ }
 {
     let mut count: usize = 0;
     let mut at: usize = 0;
@@ -124,7 +124,7 @@ pub struct Step {
 
 // A record undone (back) or redone, whose texts begin at t.
 pub fn retrace(text: &mut [u8], texts: &[u8], s: Step, r: Record, t: usize, back: bool) -> Step
-    requires { ⌜ (s .number ≡ 0) × (s .len ≤ length (now text)) × (r .place < 4294967296) × (t + (r .old + r .new) ≤ length (now texts)) × (length (now texts) ≤ 65535) ⌝ }
+    requires { ⌜ (s .number ≡ 0) × (s .len ≤ length (now text)) × (r .place < 4294967296) × (t + (r .old + r .new) ≤ length (now texts)) × (length (now texts) < 4294967296) ⌝ }
     requires { ⌜ isText catalogue (take (s .len) (now text)) ≡ true ⌝ }
     ensures { λ q. ⌜ ((c : Change) → Carries c r (now (texts .entry)) t → Retraced
         (undoing (length (now (text .entry))) (facing back c) (record { text = take (s .len) (now (text .entry)); cursor = s .cursor; undone = s .undone })) s q (now (text .entry)) (now (text .exit))) ⌝ }

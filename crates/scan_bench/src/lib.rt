@@ -3,10 +3,10 @@ ghost use mathlib.Core.Path.{_≡_};
 ghost use mathlib.Core.Bool.{false};
 ghost use Rattle.unicode.specs.Repertoire.{catalogue};
 ghost use Rattle.unicode.specs.Text.{isText};
-ghost use Rattle.journal.specs.Layout.{narrow};
+ghost use Rattle.formats.specs.Formats.{logFormat};
 ghost use Rattle.changeset.specs.Calls.{lent, checked};
 use changeset::Log;
-use records::NARROW;
+use formats::format_for;
 
 #[no_mangle]
 pub extern "C" fn tlf_bench_check_text(s: &[u8]) -> bool
@@ -18,7 +18,7 @@ pub extern "C" fn tlf_bench_check_text(s: &[u8]) -> bool
 // Checks 2 and 8 of a lent log.
 #[no_mangle]
 pub extern "C" fn tlf_bench_check_log(records: &[u8], texts: &[u8], log: Log) -> u32
-    ensures { λ r. ⌜ r ≡ checked catalogue narrow (lent (now (records .entry)) (now (texts .entry)) log) false ⌝ }
+    ensures { λ r. ⌜ r ≡ checked catalogue logFormat (lent (now (records .entry)) (now (texts .entry)) log) false ⌝ }
 {
-    changeset::refusal(NARROW, records, texts, log, false)
+    changeset::refusal(format_for(0), records, texts, log, false)
 }

@@ -13,7 +13,7 @@ use Rattle.unicode.specs.Repertoire.{Repertoire}
 use Rattle.unicode.specs.Text.{isText}
 use Rattle.checks.specs.Outcome.{leaves}
 use Rattle.journal.specs.Change.{Change, begin, end, edit, place, old, turn}
-use Rattle.journal.specs.Layout.{Format}
+use Rattle.formats.specs.declared.Format.{Format}
 use Rattle.journal.specs.Undo.{allSmall}
 use Rattle.edit.specs.Plan.{State}
 use Rattle.retrace.specs.Retrace.{Trail, undoing}

@@ -10,7 +10,7 @@ use Rattle.unicode.specs.Text.{isText, isChar}
 use Rattle.unicode.specs.Case.{caseAll, cased}
 use Rattle.cluster.specs.Clusters.{joined, clusters}
 use Rattle.keymap.specs.Codes.{wordList, atList, searchList, movements}
-use Rattle.layout.specs.Width.{columnAfter, columnsAfter, width}
+use Rattle.layout.specs.Width.{advance, columnAfter, columnsAfter, width}
 use Rattle.motion.specs.Steps.{sizes, nextPos, prevPos}
 use Rattle.motion.specs.Search.{matches, nthMatch, afterCluster, matchForward, matchBackward}
 use Rattle.motion.specs.Trim.{firstAlnum, skipWhitespace}
@@ -20,12 +20,12 @@ use Rattle.words.specs.Words.{landsOn, nextWord, noWord, landed, nextWordPos, p
 use Rattle.lines.specs.Lines.{startOfLine, beforeNewline, endOfLine, linesDown, nLinesDown}
 use Rattle.lines.specs.Columns.{nthCluster, lineAbove, lineBelow, lineUp, lineDown}
 use Rattle.checks.specs.Checks.{refusal}
-use Rattle.checks.specs.Answers.{says, places}
 use Rattle.checks.specs.Outcome.{answered}
 use Rattle.copies.specs.Copy.{copied, startsAfter, copyCall}
-use Rattle.movement.specs.Moves.{called, moveForward, moveToPrevWord, moveToNextWord, moveTo, moveToLineUp}
+use Rattle.movement.specs.Moves.{moveCall, moveForward, moveToPrevWord, moveToNextWord, moveTo, moveToLineUp}
 use Rattle.journal.specs.Change.{edit, insert, delete}
-use Rattle.journal.specs.Layout.{narrow, sizeOf, textsAt, changeAt, wholeAt, decodeAt}
+use Rattle.formats.specs.Formats.{formatFor, logFormat}
+use Rattle.journal.specs.Layout.{sizeOf, textsAt, changeAt, wholeAt, decodeAt}
 use Rattle.journal.specs.Recording.{note, recordInsert, recordInsertStr, recordDelete}
 use Rattle.journal.specs.Undo.{undoRecords, undoTexts, allSmall, fits}
 use Rattle.journal.specs.Groups.{endAll, endsAny}
@@ -92,36 +92,36 @@ cb i = record { size = 2; slots = (0x63 ∷ []) ∷ (0x62 ∷ []) ∷ []; index 
 -- codes: words Big 0, Emacs 1, Vi 2; stops Start 0, BeforeEnd 1, AfterEnd 2; search Forward 0; movement LineDown 10; case action Uppercase 2
 pub record Cases : Type 0 where
   -- forward 1 from 0: 3; forward 5: 4
-  pub p1 : (moveForward catalogue marked (at 4 0) 1 ≡ says 0 (at 4 3)) × (moveForward catalogue marked (at 4 0) 5 ≡ says 0 (at 4 4))
+  pub p1 : (moveForward catalogue marked (at 4 0) 1 ≡ answered 0 0 0 (at 4 3)) × (moveForward catalogue marked (at 4 0) 5 ≡ answered 0 0 0 (at 4 4))
   -- forward 1 from 1: 3, from 2: 3; forward 0: nothing
   pub p2 :
-      (moveForward catalogue crlf (at 4 1) 1 ≡ says 0 (at 4 3)) × (moveForward catalogue crlf (at 4 2) 1 ≡ says 0 (at 4 3)) ×
-      (moveForward catalogue crlf (at 4 1) 0 ≡ says 1 (at 4 1))
+      (moveForward catalogue crlf (at 4 1) 1 ≡ answered 0 0 0 (at 4 3)) × (moveForward catalogue crlf (at 4 2) 1 ≡ answered 0 0 0 (at 4 3)) ×
+      (moveForward catalogue crlf (at 4 1) 0 ≡ answered 1 0 0 (at 4 1))
   -- word back 1, Emacs, from 10: 7, from 7: 0
   pub p3 :
-      (moveToPrevWord catalogue parish (at 10 10) 1 1 ≡ says 0 (at 10 7)) × (moveToPrevWord catalogue parish (at 10 7) 1 1 ≡ says 0 (at 10 0))
+      (moveToPrevWord catalogue parish (at 10 10) 1 1 ≡ answered 0 0 0 (at 10 7)) × (moveToPrevWord catalogue parish (at 10 7) 1 1 ≡ answered 0 0 0 (at 10 0))
   -- word forward 1 from 0, Emacs: Start 7, AfterEnd 6; Vi BeforeEnd 5
   pub p4 :
-      (moveToNextWord catalogue parish (at 10 0) 0 1 1 ≡ says 0 (at 10 7)) × (moveToNextWord catalogue parish (at 10 0) 2 1 1 ≡ says 0 (at 10 6)) ×
-      (moveToNextWord catalogue parish (at 10 0) 1 2 1 ≡ says 0 (at 10 5))
+      (moveToNextWord catalogue parish (at 10 0) 0 1 1 ≡ answered 0 0 0 (at 10 7)) × (moveToNextWord catalogue parish (at 10 0) 2 1 1 ≡ answered 0 0 0 (at 10 6)) ×
+      (moveToNextWord catalogue parish (at 10 0) 1 2 1 ≡ answered 0 0 0 (at 10 5))
   -- forward 0: Emacs AfterEnd 10, Vi Start nothing
   pub p5 :
-      (moveToNextWord catalogue parish (at 10 0) 2 1 0 ≡ says 0 (at 10 10)) × (moveToNextWord catalogue parish (at 10 0) 0 2 0 ≡ says 1 (at 10 0))
+      (moveToNextWord catalogue parish (at 10 0) 2 1 0 ≡ answered 0 0 0 (at 10 10)) × (moveToNextWord catalogue parish (at 10 0) 0 2 0 ≡ answered 1 0 0 (at 10 0))
   -- at 1, Forward a, n 2 or 9: 5; n 0: nothing
   pub p6 :
-      (moveTo catalogue banana (at 6 1) 0 0x61 2 ≡ says 0 (at 6 5)) × (moveTo catalogue banana (at 6 1) 0 0x61 9 ≡ says 0 (at 6 5)) ×
-      (moveTo catalogue banana (at 6 1) 0 0x61 0 ≡ says 1 (at 6 1))
+      (moveTo catalogue banana (at 6 1) 0 0x61 2 ≡ answered 0 0 0 (at 6 5)) × (moveTo catalogue banana (at 6 1) 0 0x61 9 ≡ answered 0 0 0 (at 6 5)) ×
+      (moveTo catalogue banana (at 6 1) 0 0x61 0 ≡ answered 1 0 0 (at 6 1))
   -- at 2, copy LineDown 1: places 1 to 5
-  pub p7 : copyCall catalogue abc (at 5 2) 10 1 0 0 0 0 ≡ places 1 5 (at 5 2)
+  pub p7 : copyCall catalogue abc (at 5 2) 10 1 0 0 0 0 ≡ answered 0 1 5 (at 5 2)
   -- at 9, prompt 0, line up 2: 4
-  pub p8 : moveToLineUp catalogue lines (at 9 9) 2 0 ≡ says 0 (at 9 4)
+  pub p8 : moveToLineUp catalogue lines (at 9 9) 2 0 ≡ answered 0 0 0 (at 9 4)
   -- at 0, upper: "STRASSE", cursor 7
   pub p9 :
-      editWordCall catalogue narrow (lending (state straße 0 [])) 2
+      editWordCall catalogue logFormat (lending (state straße 0 [])) 2
       ≡ answered 0 0 0 (state STRASSE 7 (edit (insert 0 STRASSE) ∷ edit (delete 0 straße) ∷ []))
   -- at 10, transpose_words 1: "parish box", cursor 10
   pub p10 :
-      transposeWordsCall catalogue narrow (lending (state (box ++ (0x20 ∷ firstWord)) 10 [])) 1
+      transposeWordsCall catalogue logFormat (lending (state (box ++ (0x20 ∷ firstWord)) 10 [])) 1
       ≡ answered 0 0 0 (state parish 10 (edit (insert 0 firstWord) ∷ edit (delete 0 box) ∷ edit (insert 4 box) ∷ edit (delete 4 firstWord) ∷ []))
   -- type a, b, space, c: two records, "ab" and " c"; undo 1 leaves "ab"
   pub p11 :
@@ -137,7 +137,7 @@ pub record Cases : Type 0 where
       × (ringCalls.yankPopCall catalogue (playedRing.lending (cb 0)) ≡ answered 0 1 1 (cb 1)) × (ringCalls.yankPopCall catalogue (playedRing.lending (cb 1)) ≡ answered 0 0 1 (cb 0))
 
 pub cases : Cases
-unfolding within one two lead3 three lead4 four firstOf first charsFrom validFrom startBefore scalar size isMember isControl isMark isAlnum isWhite widthOf isText isChar joined clusters wordList atList searchList columnAfter columnsAfter width sizes nextPos prevPos matches nthMatch afterCluster matchForward matchBackward isStartOfWord landsBehind marks graphemeIndices scan walk landsOn nextWord noWord landed nextWordPos prevWord prevWordPos startOfLine beforeNewline endOfLine nthCluster lineAbove lineBelow lineUp lineDown linesDown nLinesDown movements copied startsAfter refusal called isSmall isCapital upperOf lowerOf encode encodeAll caseAll cased firstAlnum skipWhitespace sizeOf textsAt changeAt wholeAt decodeAt note recordInsert recordInsertStr recordDelete undoRecords undoTexts allSmall fits overSizes damaged undos redos splice textAfter listAfter tooLong edited copies actionList beginOut endOut endAll endsAny misfit exchanging Retrace·undoing undos.walk undos.undoOut cancels.opens cancels.walkTo cancels.beginsDown cancels.cancelOut ring.putAt ring.killOut ring.yankOut ring.yankPopOut ringCalls.slotsFrom ringCalls.anyOver ringCalls.overSizes ringCalls.actionBreaks ringCalls.anyForeign ringCalls.damaged ringCalls.modeList
+unfolding within one two lead3 three lead4 four firstOf first charsFrom validFrom startBefore scalar size isMember isControl isMark isAlnum isWhite widthOf isText isChar joined clusters wordList atList searchList columnAfter columnsAfter width sizes nextPos prevPos matches nthMatch afterCluster matchForward matchBackward isStartOfWord landsBehind marks graphemeIndices scan walk landsOn nextWord noWord landed nextWordPos prevWord prevWordPos startOfLine beforeNewline endOfLine nthCluster lineAbove lineBelow lineUp lineDown linesDown nLinesDown movements copied startsAfter refusal moveCall isSmall isCapital upperOf lowerOf encode encodeAll caseAll cased firstAlnum skipWhitespace sizeOf textsAt changeAt wholeAt decodeAt note recordInsert recordInsertStr recordDelete undoRecords undoTexts allSmall fits overSizes damaged undos redos splice textAfter listAfter tooLong edited copies actionList beginOut endOut endAll endsAny misfit exchanging Retrace·undoing undos.walk undos.undoOut cancels.opens cancels.walkTo cancels.beginsDown cancels.cancelOut ring.putAt ring.killOut ring.yankOut ring.yankPopOut ringCalls.slotsFrom ringCalls.anyOver ringCalls.overSizes ringCalls.actionBreaks ringCalls.anyForeign ringCalls.damaged ringCalls.modeList formatFor advance
 cases =
     record {
       p1 = (refl, refl);

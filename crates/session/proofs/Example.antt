@@ -12,7 +12,8 @@ use Rattle.unicode.specs.Text.{isText, isChar}
 use Rattle.checks.specs.Outcome.{answered}
 use Rattle.checks.specs.Checks.{refusal}
 use Rattle.journal.specs.Change.{Change, begin, end, edit, insert, delete}
-use Rattle.journal.specs.Layout.{narrow, sizeOf, textsAt, changeAt, wholeAt, decodeAt}
+use Rattle.formats.specs.Formats.{formatFor, logFormat}
+use Rattle.journal.specs.Layout.{sizeOf, textsAt, changeAt, wholeAt, decodeAt}
 use Rattle.journal.specs.Recording.{note, recordInsert}
 use Rattle.journal.specs.Undo.{undoRecords, undoTexts, allSmall, fits}
 use Rattle.journal.specs.Groups.{endAll, endsAny}
@@ -62,27 +63,33 @@ abbrev s7 : State
 s7 = at (0x71 ∷ []) (q ∷ []) (end ∷ edit (delete 1 (0x72 ∷ [])) ∷ begin ∷ []) 0
 
 -- ---- the calls: each is lent the bytes of its state in buffers of 16, 32 and 32 bytes
-abbrev typeQ : Step (calls.edit (calls.insert 0x71 1))
-typeQ = record { lent = lending s0; answer = answerOf narrow (lending s0) (answered 0 0 0 s1); after = buffersOf (lending s1); lengths = record { text = refl; records = refl; texts = refl } }
+unfoldable pub typeQ : Step (calls.edit (calls.insert 0x71 1))
+unfolding formatFor
+typeQ = record { lent = lending s0; answer = answerOf logFormat (lending s0) (answered 0 0 0 s1); after = buffersOf (lending s1); lengths = record { text = refl; records = refl; texts = refl } }
 
-abbrev begins : Step (calls.log calls.begin)
-begins = record { lent = lending s1; answer = logs.answerOf narrow (logLent (lending s1)) (answered 0 1 0 (s2 .log)); after = buffersOf (lending s2); lengths = record { text = refl; records = refl; texts = refl } }
+unfoldable pub begins : Step (calls.log calls.begin)
+unfolding formatFor
+begins = record { lent = lending s1; answer = logs.answerOf logFormat (logLent (lending s1)) (answered 0 1 0 (s2 .log)); after = buffersOf (lending s2); lengths = record { text = refl; records = refl; texts = refl } }
 
 -- with the mark that begin answered; the log's buffers are lent to read
-abbrev cancels : Step (calls.cancel (begins .answer .from))
-cancels = record { lent = lending s2; answer = answerOf narrow (lending s2) (answered 0 0 0 s1); after = buffersOf (lending s2); lengths = record { text = refl; records = refl; texts = refl } }
+unfoldable pub cancels : Step (calls.cancel (begins .answer .from))
+unfolding formatFor
+cancels = record { lent = lending s2; answer = answerOf logFormat (lending s2) (answered 0 0 0 s1); after = buffersOf (lending s2); lengths = record { text = refl; records = refl; texts = refl } }
 
-abbrev typeR : Step (calls.edit (calls.insert 0x72 1))
-typeR = record { lent = lending s2; answer = answerOf narrow (lending s2) (answered 0 0 0 s5); after = buffersOf (lending s5); lengths = record { text = refl; records = refl; texts = refl } }
+unfoldable pub typeR : Step (calls.edit (calls.insert 0x72 1))
+unfolding formatFor
+typeR = record { lent = lending s2; answer = answerOf logFormat (lending s2) (answered 0 0 0 s5); after = buffersOf (lending s5); lengths = record { text = refl; records = refl; texts = refl } }
 
-abbrev ends : Step (calls.log calls.end)
-ends = record { lent = lending s5; answer = logs.answerOf narrow (logLent (lending s5)) (answered 0 0 0 (s6 .log)); after = buffersOf (lending s6); lengths = record { text = refl; records = refl; texts = refl } }
+unfoldable pub ends : Step (calls.log calls.end)
+unfolding formatFor
+ends = record { lent = lending s5; answer = logs.answerOf logFormat (logLent (lending s5)) (answered 0 0 0 (s6 .log)); after = buffersOf (lending s6); lengths = record { text = refl; records = refl; texts = refl } }
 
-abbrev undoes : Step (calls.undo 1)
+unfoldable pub undoes : Step (calls.undo 1)
+unfolding formatFor
 undoes =
     record {
       lent = lending s6;
-      answer = answerOf narrow (lending s6) (answered 0 0 0 s7);
+      answer = answerOf logFormat (lending s6) (answered 0 0 0 s7);
       after = record { text = lending s7 .text; records = lending s6 .records; texts = lending s6 .texts };
       lengths = record { text = refl; records = refl; texts = refl };
     }
@@ -95,6 +102,7 @@ story =
 -- what is handed on in buffers of the same lengths
 handed : (a b : Lent) → b .line ≡ a .line → SameText a b → SameLog a b → length (a .text) ≡ 16 → length (a .records) ≡ 32 → length (a .texts) ≡ 32 → length (b .text) ≡ 16 → length (b .records) ≡ 32
     → length (b .texts) ≡ 32 → HandedOn a b
+unfolding formatFor
 handed a b x y z i j k l m n =
     record {
       line = x;
@@ -105,8 +113,8 @@ handed a b x y z i j k l m n =
     }
 
 -- the story meets the conditions
-ran : Run catalogue narrow (lending s0) story
-unfolding Run within one two lead3 three lead4 four firstOf first charsFrom validFrom startBefore scalar size encode isMember isControl isMark isAlnum isText isChar refusal sizeOf textsAt changeAt wholeAt decodeAt note recordInsert undoRecords undoTexts allSmall fits endAll endsAny overSizes damaged undos redos beginOut endOut splice textAfter listAfter tooLong edited misfit exchanging undoing walk undoOut opens walkTo beginsDown cancelOut below
+ran : Run catalogue (lending s0) story
+unfolding typeQ begins cancels typeR ends undoes formatFor Run within one two lead3 three lead4 four firstOf first charsFrom validFrom startBefore scalar size encode isMember isControl isMark isAlnum isText isChar refusal sizeOf textsAt changeAt wholeAt decodeAt note recordInsert undoRecords undoTexts allSmall fits endAll endsAny overSizes damaged undos redos beginOut endOut splice textAfter listAfter tooLong edited misfit exchanging undoing walk undoOut opens walkTo beginsDown cancelOut below
 ran = (
   handed (lending s0) (typeQ .lent) refl (record { len = refl; bytes = refl }) (record { state = refl; records = refl; texts = refl }) refl refl refl refl refl refl,
   record { answer = refl; bytes = record { text = refl; log = record { records = refl; texts = refl } } },
@@ -138,37 +146,38 @@ ran = (
 )
 
 closed : Closed story []
-unfolding Closed below
+unfolding Closed below typeQ begins cancels typeR ends undoes
 closed = (tt, (tt, (tt, (tt, (tt, (tt, (refl, refl)))))))
 
 -- the first call is handed a text, a cursor and a log as 01 asks
-starts : Starts catalogue narrow (lending s0)
-unfolding refusal overSizes damaged validFrom isText decodeAt charsFrom
+starts : Starts catalogue (lending s0)
+unfolding formatFor refusal overSizes damaged validFrom isText decodeAt charsFrom
 starts = record { log = refl; passes = refl }
 
 -- so demand 3 holds of it
-pub story-demand : Demand3 catalogue narrow (lending s0) (leftBy (lending s0) story)
+pub story-demand : Demand3 catalogue (lending s0) (leftBy (lending s0) story)
 story-demand = demand-3-catalogue (lending s0) starts story ran closed
 
 -- ---- there is one unit: the list is not empty, and one undo call empties it
 abbrev s8 : State
 s8 = record { text = []; cursor = 0; log = record { undo = []; redo = edit (delete 0 (0x71 ∷ [])) ∷ end ∷ edit (delete 1 (0x72 ∷ [])) ∷ begin ∷ []; level = 0 } }
 
-abbrev last : Step (calls.undo 1)
+unfoldable pub last : Step (calls.undo 1)
+unfolding formatFor
 last =
     record {
       lent = lending s7;
-      answer = answerOf narrow (lending s7) (answered 0 0 0 s8);
+      answer = answerOf logFormat (lending s7) (answered 0 0 0 s8);
       after = record { text = lending s8 .text; records = lending s7 .records; texts = lending s7 .texts };
       lengths = record { text = refl; records = refl; texts = refl };
     }
 
-last-ran : Run catalogue narrow (leftBy (lending s0) story) (ones (last ∷ []))
-unfolding Run leftBy within one two lead3 three lead4 four firstOf first charsFrom validFrom startBefore scalar size encode isMember isControl isMark isAlnum isText isChar refusal sizeOf textsAt changeAt wholeAt decodeAt note recordInsert undoRecords undoTexts allSmall fits endAll endsAny overSizes damaged undos redos beginOut endOut splice textAfter listAfter tooLong edited misfit exchanging undoing walk undoOut opens walkTo beginsDown cancelOut below
+last-ran : Run catalogue (leftBy (lending s0) story) (ones (last ∷ []))
+unfolding typeQ begins cancels typeR ends undoes last formatFor Run leftBy within one two lead3 three lead4 four firstOf first charsFrom validFrom startBefore scalar size encode isMember isControl isMark isAlnum isText isChar refusal sizeOf textsAt changeAt wholeAt decodeAt note recordInsert undoRecords undoTexts allSmall fits endAll endsAny overSizes damaged undos redos beginOut endOut splice textAfter listAfter tooLong edited misfit exchanging undoing walk undoOut opens walkTo beginsDown cancelOut below
 last-ran = (handed (left (calls.undo 1) undoes) (last .lent) refl (record { len = refl; bytes = refl }) (record { state = refl; records = refl; texts = refl }) refl refl refl refl refl refl, (record { answer = refl; bytes = record { text = refl; log = record { records = refl; texts = refl } } }, refl, refl), tt)
 
 pub one-unit : story-demand .units ≡ 1
-unfolding Run leftBy
+unfolding typeQ begins cancels typeR ends undoes last formatFor Run leftBy
 one-unit =
     let none = story-demand .counted [] tt .1 in
     let one = story-demand .counted (last ∷ []) last-ran .0 refl in

@@ -10,10 +10,10 @@ use lib.ListN.{length}
 use borrow.Author.Tests.{lt-leb, ne-eqb}
 use Rattle.lists.proofs.Bools.{and-both, by-test}
 use Rattle.unicode.specs.Repertoire.{Repertoire}
-use Rattle.checks.specs.Checks.{Tests, refusal, both, ownTests}
+use Rattle.checks.specs.Checks.{Tests, laterNumber, refusal, both, ownTests}
 use Rattle.checks.specs.Outcome.{Outcome, refused, called, leaves}
 use Rattle.journal.specs.Change.{Change, begin, end, edit}
-use Rattle.journal.specs.Layout.{Format}
+use Rattle.formats.specs.declared.Format.{Format}
 use Rattle.journal.specs.Groups.{Log, endAll, endsAny, ended}
 use Rattle.journal.specs.Undo.{Places, allSmall, fits, lastInsertAt}
 use Rattle.changeset.specs.Logs.{logTests}
@@ -75,6 +75,10 @@ later : (b : Bool) (n m : ℕ) → 1 < n → (m ≡ 1 → ⊥) → cond b n m �
 later true n m h f e = omega arith
 later false n m h f e = f e
 
+order-number : (k : ℕ) → laterNumber k ≡ 1 → ⊥
+order-number zero e = omega arith
+order-number (suc k) e = omega arith
+
 -- a check refuses by 2 or more
 pub not-one : (t : Tests) → refusal t ≡ 1 → ⊥
 unfolding refusal
@@ -85,7 +89,7 @@ not-one t =
     (later (t .place) 5 _ (omega arith)
     (later (t .split) 6 _ (omega arith)
     (later (t .prompt) 7 _ (omega arith)
-    (later (t .damaged) 8 0 (omega arith) (λ e. omega arith)))))))
+    (later (t .damaged) 8 _ (omega arith) (order-number (t .later))))))))
 
 module _ (R : Repertoire) (F : Format) (Q : List ℕ → Type 0) (t₀ : List ℕ) where
   -- the invariant of what an outcome leaves of a state, with the groups that are open then

@@ -11,9 +11,11 @@ use lib.ListN.{length, take, length-append, length-reverse}
 use Rattle.unicode.specs.Repertoire.{Repertoire}
 use Rattle.checks.specs.declared.Line.{Line}
 use Rattle.checks.specs.declared.LineAnswer.{LineAnswer}
+use Rattle.checks.specs.Answers.{lineAnswer}
 use Rattle.checks.specs.Outcome.{Outcome, refused, answered, called, numberIn, leaves}
 use Rattle.journal.specs.Change.{Change, turn}
-use Rattle.journal.specs.Layout.{Format, encodeRecords, encodeTexts}
+use Rattle.formats.specs.declared.Format.{Format}
+use Rattle.journal.specs.Layout.{encodeRecords, encodeTexts}
 use Rattle.journal.specs.Groups as groups
 use Rattle.journal.specs.Undo.{Places, lastInsertAt}
 use Rattle.journal.proofs.Decode.{records-many}
@@ -24,12 +26,12 @@ use Rattle.changeset.specs.declared.Log.{Log}
 use Rattle.changeset.specs.declared.LogAnswer.{LogAnswer}
 use Rattle.changeset.specs.declared.Used.{Used}
 use Rattle.edit.specs.Plan.{State}
-use Rattle.edit.specs.Calls.{Lent, lent, logLent, textOf, stateOf, answerOf, Stored, Edited}
+use Rattle.edit.specs.Calls.{Lent, lent, formatOf, logLent, textOf, stateOf, answerOf, Stored, Edited}
 use Rattle.edit.specs.declared.EditAnswer.{EditAnswer}
 use Rattle.calls.specs.Calls as asked
-use Rattle.calls.specs.Calls.{Asked, MoveCall, moveAnswer, movedBy, logOutcome, loggedBy, outcomeOf}
-use Rattle.calls.specs.Contracts.{Buffers, Meets}
-use Rattle.session.specs.Runs.{buffersOf, Step, left, usedRecords, usedTexts, SameText, SameLog, HandedOn, below, openAfter}
+use Rattle.calls.specs.Calls.{Asked, MoveCall, moveOutcome, movedBy, logOutcome, loggedBy, outcomeOf}
+use Rattle.calls.specs.Contracts.{Buffers, MeetsIn}
+use Rattle.session.specs.Runs.{Sized, buffersOf, Step, left, usedRecords, usedTexts, SameText, SameLog, HandedOn, below, openAfter}
 use Rattle.session.specs.Demand3.{Emptied}
 use Rattle.session.proofs.Values as values
 use Rattle.session.proofs.Values.{Handed, lentFor, markIn}
@@ -98,7 +100,7 @@ same-log F s s′ a b h k e =
     }
 
 -- ---- what is handed on
-module _ (F : Format) (s : State) (a b : Lent) (h : Stands F s a) (k : HandedOn a b) where
+module _ (F : Format) (one : (l : Lent) → formatOf l ≡ F) (s : State) (a b : Lent) (h : Stands F s a) (k : HandedOn a b) where
   -- the state stands in it too
   pub handed-stands : Stands F s b
   handed-stands =
@@ -123,7 +125,7 @@ module _ (F : Format) (s : State) (a b : Lent) (h : Stands F s a) (k : HandedOn 
   handed-is = ap₂ (λ (x : Line) (g : Log). lent (b .text) (b .records) (b .texts) x g) (handed-stands .line) (handed-stands .log)
 
   pub handed-on : Handed F (buffersOf a) s (buffersOf b)
-  handed-on = record { stored = handed-stands .stored; noSmaller = k .noSmaller; sized = k .sized }
+  handed-on = record { stored = handed-stands .stored; noSmaller = k .noSmaller; sized = subst (λ (G : Format). Sized G (buffersOf b)) (one b) (k .sized) }
 
 -- ---- what a call leaves
 module _ (R : Repertoire) (F : Format) (s : State) (l : Lent) (h : Stands F s l) where
@@ -155,21 +157,16 @@ module _ (R : Repertoire) (F : Format) (s : State) (l : Lent) (h : Stands F s l)
       }
 
   module _ (is : stateOf R F l ≡ s) where
-    -- a movement: the cursor alone is another
-    moved : (a : LineAnswer) → Within l a → Stands F (record { text = stateOf R F l .text; cursor = a .line .cursor; log = stateOf R F l .log }) (lent (l .text) (l .records) (l .texts) (a .line) (l .log))
-    moved a w =
-        subst (λ (x : State). Stands F (record { text = x .text; cursor = a .line .cursor; log = x .log }) (lent (l .text) (l .records) (l .texts) (a .line) (l .log))) (sym is)
+    -- a movement: the cursor alone is another, and a refusal changes nothing
+    moved-leaves : (o : Outcome Line) → Within l o → Stands F (leaves (movedBy R F l o) s) (lent (l .text) (l .records) (l .texts) (lineAnswer (l .line) o .line) (l .log))
+    moved-leaves (refused k) w = record { stored = h .stored; line = h .line; log = h .log }
+    moved-leaves (answered k p q x) w =
+        subst (λ (y : State). Stands F (record { text = y .text; cursor = x .cursor; log = y .log }) (lent (l .text) (l .records) (l .texts) x (l .log))) (sym is)
         (record {
           stored = record { text = h .stored .text; log = h .stored .log };
-          line = ap (λ (n : ℕ). record { len = n; cursor = a .line .cursor }) (w .len ∙ ap (λ (x : Line). x .len) (h .line));
+          line = ap (λ (n : ℕ). record { len = n; cursor = x .cursor }) (w .len ∙ ap (λ (y : Line). y .len) (h .line));
           log = h .log;
         })
-
-    -- and a refusal changes nothing
-    moved-leaves : (n : ℕ) (a : LineAnswer) → a .number ≡ n → Within l a → Stands F (leaves (movedBy R F l n a) s) (lent (l .text) (l .records) (l .texts) (a .line) (l .log))
-    moved-leaves zero a e w = moved a w
-    moved-leaves (suc zero) a e w = moved a w
-    moved-leaves (suc (suc k)) a e w = record { stored = h .stored; line = w .kept k e ∙ h .line; log = h .log }
 
     -- last_insert: the log's buffers are lent to read
     read-leaves : (o : Outcome groups.Log) → leaves o (stateOf R F l .log) ≡ stateOf R F l .log → logs.Bytes F (logLent l) o (l .records) (l .texts)
@@ -198,14 +195,14 @@ module _ (R : Repertoire) (F : Format) where
 
   -- every call: what its outcome leaves stands in what it left
   pub step-leaves : (s : State) (a : Asked) (x : Step a) → Stands F s (x .lent) → stateOf R F (x .lent) ≡ s
-      → ((y : MoveCall) → Within (x .lent) (moveAnswer R (x .lent .text) (x .lent .line) y)) → Meets R F a (x .lent) (x .answer) (x .after)
+      → ((y : MoveCall) → Within (x .lent) (moveOutcome R (x .lent .text) (x .lent .line) y)) → MeetsIn R F a (x .lent) (x .answer) (x .after)
       → Stands F (leaves (outcomeOf R F (x .lent) a) s) (left a x)
   step-leaves s (asked.edit y) x h is w m = edited-leaves R F s (x .lent) h _ (x .answer) _ _ _ m
   step-leaves s (asked.move y) x h is w m =
-      let r = moveAnswer R (x .lent .text) (x .lent .line) y in
+      let o = moveOutcome R (x .lent .text) (x .lent .line) y in
       same-stands _ (x .lent) _ _ _ _ _ (m .1 .text) (m .1 .records) (m .1 .texts)
-      (subst (λ (a : LineAnswer). Stands F (leaves (movedBy R F (x .lent) (r .number) r) s) (lent (x .lent .text) (x .lent .records) (x .lent .texts) (a .line) (x .lent .log))) (sym (m .0))
-      (moved-leaves R F s (x .lent) h is (r .number) r refl (w y)))
+      (subst (λ (a : LineAnswer). Stands F (leaves (movedBy R F (x .lent) o) s) (lent (x .lent .text) (x .lent .records) (x .lent .texts) (a .line) (x .lent .log))) (sym (m .0))
+      (moved-leaves R F s (x .lent) h is o (w y)))
   step-leaves s (asked.log asked.begin) x h is w m = text-same _ (x .lent) _ _ _ _ _ (m .1) (logged-leaves R F s (x .lent) h _ (x .answer) _ _ (m .0))
   step-leaves s (asked.log asked.end) x h is w m = text-same _ (x .lent) _ _ _ _ _ (m .1) (logged-leaves R F s (x .lent) h _ (x .answer) _ _ (m .0))
   step-leaves s (asked.log asked.lastInsert) x h is w m =
@@ -231,7 +228,7 @@ module _ (R : Repertoire) (F : Format) where
   edit-number l (refused k) = refl
   edit-number l (answered k p q g) = refl
 
-  pub opened : (a : Asked) (x : Step a) (g : List ℕ) → Meets R F a (x .lent) (x .answer) (x .after) → openAfter a x g ≡ values.openAfter a (outcomeOf R F (x .lent) a) g
+  pub opened : (a : Asked) (x : Step a) (g : List ℕ) → MeetsIn R F a (x .lent) (x .answer) (x .after) → openAfter a x g ≡ values.openAfter a (outcomeOf R F (x .lent) a) g
   opened (asked.edit y) x g m = refl
   opened (asked.move y) x g m = refl
   opened (asked.log asked.begin) x g m =

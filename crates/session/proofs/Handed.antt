@@ -12,7 +12,10 @@ use Rattle.unicode.specs.Repertoire.{Repertoire}
 use Rattle.unicode.specs.Text.{isText}
 use Rattle.checks.specs.Checks.{ownTests}
 use Rattle.journal.specs.Change.{Edit, insert, delete, replace, Change, begin, end, edit, old, new, turn}
-use Rattle.journal.specs.Layout.{Format, top, Good, AllGood, encodeRecords}
+use Rattle.numbers.specs.Numbers.{top}
+use Rattle.formats.specs.declared.Format.{Format}
+use Rattle.formats.specs.Formats.{recordsMax}
+use Rattle.journal.specs.Layout.{Good, AllGood, encodeRecords}
 use Rattle.journal.specs.Undo.{small, allSmall}
 use Rattle.journal.proofs.Decode.{records-many}
 use Rattle.edit.specs.Plan.{State}
@@ -73,8 +76,8 @@ module _ (R : Repertoire) where
         state-passes R F s (b .text) (b .records) (b .texts) (h .stored) undo-good redo-good (h .sized .text) (h .sized .records) (h .sized .texts) l (v .here .text) (v .cursor)
 
     -- there are no more records than a repeat count can name
-    pub few : length (s .log .undo) ≤ 32768
-    few =
+    pub few : F .records ≤ recordsMax → length (s .log .undo) ≤ recordsMax
+    few m =
         let u = s .log .undo in
         let r = map turn (s .log .redo) in
         omega (arith, length-reverse u, length-append (reverse u) r, records-many F (reverse u ++ r), take-within (length (encodeRecords F (reverse u ++ r))) (b .records) (ap length (h .stored .log .records)), h .sized .records)

@@ -1,3 +1,4 @@
+pub mod Formats
 pub mod Invariant
 pub mod Values
 pub mod Handed

@@ -1,4 +1,4 @@
--- A movement leaves the cursor between characters and the line as long as it was, and keeps the invariant; its answer is what it leaves. Assumes nothing.
+-- A movement leaves the cursor between characters and the line as long as it was, and keeps the invariant. Assumes nothing.
 use Prim.Native.Nat.{ℕ, zero, suc, _≤_}
 use native.Mathlib.Omega.{arith}
 use mathlib.Core.Path.{_≡_, refl, sym, ap, subst}
@@ -34,32 +34,27 @@ use Rattle.lines.specs.Columns.{lineUp, lineDown}
 use Rattle.lines.specs.declared.Range.{Range}
 use Rattle.lines.specs.declared.Range.the-variants.{Places, Nowhere}
 use Rattle.lines.proofs.Places.{start-of-line-place, end-of-line-place, line-up-place, line-down-place}
-use Rattle.checks.specs.Outcome.{leaves}
-use Rattle.checks.specs.Checks.{Tests, noTests, both, refusal, lineTests, ownTests}
-use Rattle.checks.specs.Answers.{says, unlessRefused, movedTo, answered}
+use Rattle.checks.specs.Outcome.{Outcome, refused, answered, called, leaves}
+use Rattle.checks.specs.Checks.{Tests, noTests, both, refusal, ownTests}
+use Rattle.checks.specs.Answers.{movedTo, placeOf}
 use Rattle.checks.specs.declared.Line.{Line}
-use Rattle.checks.specs.declared.LineAnswer.{LineAnswer}
 use Rattle.checks.proofs.Fit.{fit}
 use Rattle.movement.specs.Moves as moves
-use Rattle.movement.specs.Moves.{called, elsewhere, tells, placeTests, promptTests}
+use Rattle.movement.specs.Moves.{moveCall, elsewhere, placeTests, promptTests}
+use Rattle.movement.proofs.Called.{lent}
 use Rattle.copies.specs.Copy.{ranged, copied, copyBy, copyTests}
-use Rattle.journal.specs.Layout.{Format}
+use Rattle.formats.specs.declared.Format.{Format}
+use Rattle.formats.specs.Formats.{formatFor}
 use Rattle.edit.specs.Plan.{State}
 use Rattle.edit.specs.Calls.{Lent, textOf, stateOf}
-use Rattle.calls.specs.Calls.{MoveCall, moveAnswer, movedBy, outcomeOf}
+use Rattle.calls.specs.Calls.{MoveCall, moveOutcome, movedBy, outcomeOf}
 use Rattle.calls.specs.Calls as asked
 use Rattle.session.proofs.Invariant.{Inv}
 
--- a movement's answer: its cursor stands between characters, the line is as long as it was, and a refusal leaves it as it was
-pub record Within (l : Lent) (a : LineAnswer) : Type 0 where
-  pub place : In (textOf l) (a .line .cursor) (a .line .cursor)
-  pub len : a .line .len ≡ l .line .len
-  pub kept : (k : ℕ) → a .number ≡ suc (suc k) → a .line ≡ l .line
-
--- a movement is refused by n, or it answers
-unless-refused : (P : LineAnswer → Type 0) (n : ℕ) (line : Line) (a : LineAnswer) → ((k : ℕ) → P (says k line)) → (n ≡ 0 → P a) → P (unlessRefused n line a)
-unless-refused P zero line a f g = g refl
-unless-refused P (suc n) line a f g = f (suc n)
+-- the line that a movement leaves: its cursor stands between characters, and it is as long as it was
+pub record Within (l : Lent) (o : Outcome Line) : Type 0 where
+  pub place : In (textOf l) (leaves o (l .line) .cursor) (leaves o (l .line) .cursor)
+  pub len : leaves o (l .line) .len ≡ l .line .len
 
 module _ (R : Repertoire) (F : Format) (l : Lent) (is : isText R (textOf l) ≡ true) (i : In (textOf l) (l .line .cursor) (l .line .cursor)) (len : l .line .len ≡ length (textOf l)) where
   abbrev t : List ℕ
@@ -71,21 +66,25 @@ module _ (R : Repertoire) (F : Format) (l : Lent) (is : isText R (textOf l) ≡ 
   abbrev v : valid t ≡ true
   v = text-valid R t is
 
-  abbrev Stands : LineAnswer → Type 0
-  Stands a = Within l a
+  abbrev Stands : Outcome Line → Type 0
+  Stands o = Within l o
 
   -- the line as it was
-  as-it-was : (a : LineAnswer) → a .line ≡ l .line → Stands a
-  as-it-was a e = record { place = rw e i; len = ap (λ (x : Line). x .len) e; kept = λ k f. e }
+  as-it-was : (o : Outcome Line) → leaves o (l .line) ≡ l .line → Stands o
+  as-it-was o e = record { place = rw e i; len = ap (λ (x : Line). x .len) e }
 
   -- with the cursor at a place
   placed : (p : ℕ) → (p ≤ length t) × (boundary t p ≡ true) → Stands (movedTo (l .line) (At p))
-  placed p h = record { place = (omega arith, h .0, h .1, h .1); len = refl; kept = λ k e. absurd (omega arith) }
+  placed p h = record { place = (omega arith, h .0, h .1, h .1); len = refl }
 
   -- a call that leaves the cursor there where its checks pass
-  called-stands : (own : Tests) (a : LineAnswer) → (refusal (both (lineTests R (l .text) (l .line)) own) ≡ 0 → Stands a) → Stands (called R (l .text) (l .line) own a)
-  unfolding called
-  called-stands own a f = unless-refused Stands (refusal (both (lineTests R (l .text) (l .line)) own)) (l .line) a (λ k. as-it-was (says k (l .line)) refl) f
+  called-stands : (own : Tests) (o : Outcome Line) → (refusal (both (lent R (l .text) (l .line)) own) ≡ 0 → Stands o) → Stands (moveCall R (l .text) (l .line) own o)
+  unfolding moveCall
+  called-stands own o f = by-number (refusal (both (lent R (l .text) (l .line)) own)) f
+    where
+      by-number : (n : ℕ) → (n ≡ 0 → Stands o) → Stands (called n o)
+      by-number zero g = g refl
+      by-number (suc n) g = as-it-was (refused (suc n)) refl
 
   -- a place in the text, between characters
   abbrev Place : ℕ → Type 0
@@ -105,11 +104,11 @@ module _ (R : Repertoire) (F : Format) (l : Lent) (is : isText R (textOf l) ≡ 
   moved-stands Nothing g = as-it-was (movedTo (l .line) Nothing) refl
 
   -- to the place found, where no check refuses
-  goes : (own : Tests) (f : Found) → ((p : ℕ) → f ≡ At p → Place p) → Stands (called R (l .text) (l .line) own (movedTo (l .line) f))
+  goes : (own : Tests) (f : Found) → ((p : ℕ) → f ≡ At p → Place p) → Stands (moveCall R (l .text) (l .line) own (movedTo (l .line) f))
   goes own f g = called-stands own (movedTo (l .line) f) (λ e. moved-stands f g)
 
   -- to a place, unless the cursor is there
-  goes-to : (p : ℕ) → Place p → Stands (called R (l .text) (l .line) noTests (movedTo (l .line) (elsewhere (l .line) p)))
+  goes-to : (p : ℕ) → Place p → Stands (moveCall R (l .text) (l .line) noTests (movedTo (l .line) (elsewhere (l .line) p)))
   goes-to p h = called-stands noTests (movedTo (l .line) (elsewhere (l .line) p)) (λ e. at-place (eqb pos p))
     where
       at-place : (b : Bool) → Stands (movedTo (l .line) (cond b Nothing (At p)))
@@ -117,27 +116,22 @@ module _ (R : Repertoire) (F : Format) (l : Lent) (is : isText R (textOf l) ≡ 
       at-place false = placed p h
 
   -- the line as it is
-  stays : (own : Tests) (a : LineAnswer) → a .line ≡ l .line → Stands (called R (l .text) (l .line) own a)
-  stays own a e = called-stands own a (λ z. as-it-was a e)
+  stays : (own : Tests) (o : Outcome Line) → leaves o (l .line) ≡ l .line → Stands (moveCall R (l .text) (l .line) own o)
+  stays own o e = called-stands own o (λ z. as-it-was o e)
 
   -- a place answered leaves the line as it was
-  answered-line : (f : Found) → answered (l .line) f .line ≡ l .line
-  answered-line (At p) = refl
-  answered-line Nothing = refl
+  place-line : (f : Found) → leaves (placeOf (l .line) f) (l .line) ≡ l .line
+  place-line (At p) = refl
+  place-line Nothing = refl
 
   -- so do two places
-  ranged-line : (r : Range) → ranged (l .line) r .line ≡ l .line
+  ranged-line : (r : Range) → leaves (ranged (l .line) r) (l .line) ≡ l .line
   ranged-line (Places a b) = refl
   ranged-line Nowhere = refl
 
-  -- so does a test
-  tells-line : (b : Bool) → tells (l .line) b .line ≡ l .line
-  tells-line true = refl
-  tells-line false = refl
-
   -- a code that names nothing
   unnamed : Stands (moves.unnamed R (l .text) (l .line))
-  unnamed = stays (ownTests true false false) (says 0 (l .line)) refl
+  unnamed = stays (ownTests true false false) _ refl
 
   -- ---- by codes
   -- copy changes nothing
@@ -166,17 +160,17 @@ module _ (R : Repertoire) (F : Format) (l : Lent) (is : isText R (textOf l) ≡ 
   set-pos-stands p =
       called-stands (placeTests t (l .line .len) p) (movedTo (l .line) (At p))
       (λ e.
-      let q = fit R (l .text) (l .line) (placeTests t (l .line .len) p) e .1 in
+      let q = fit R (formatFor (length (l .text))) (l .text) (l .line) (placeTests t (l .line .len) p) e .1 in
       let h = ltb-false (l .line .len) p (q .place) in
       let b = not-false (boundary t p) (q .split) in
       placed p (omega (arith, len), b))
 
   -- every movement
-  pub move-keeps : (x : MoveCall) → Within l (moveAnswer R (l .text) (l .line) x)
-  move-keeps (asked.nextPos n) = stays noTests _ (answered-line (nextPos R t pos n))
+  pub move-keeps : (x : MoveCall) → Within l (moveOutcome R (l .text) (l .line) x)
+  move-keeps (asked.nextPos n) = stays noTests _ (place-line (nextPos R t pos n))
   move-keeps (asked.copy m) = copy-stands (movementOf (m .mvt) (m .n) (m .at) (m .word) (m .search) (m .ch))
-  move-keeps asked.isCursorAtEnd = stays noTests _ (tells-line (eqb pos (l .line .len)))
-  move-keeps asked.isEndOfInput = stays noTests _ (tells-line (leb (trimEnd R t) pos))
+  move-keeps asked.isCursorAtEnd = stays noTests _ refl
+  move-keeps asked.isEndOfInput = stays noTests _ refl
   move-keeps (asked.setPos p) = set-pos-stands p
   move-keeps (asked.moveForward n) = goes noTests (nextPos R t pos n) (λ p e. on-place p (next-pos-place R t pos n p v (i .2) (i .1) e))
   move-keeps (asked.moveBackward n) = goes noTests (prevPos R t pos n) (λ p e. back-place p (prev-pos-place R t pos n p v (i .2) (i .1) e))
@@ -199,11 +193,10 @@ module _ (R : Repertoire) (F : Format) (l : Lent) (is : isText R (textOf l) ≡ 
         record { here = w .here; goal = w .goal; forth = w .forth; nested = w .nested; cursor = h; undo-small = w .undo-small; redo-small = w .redo-small }
 
     -- a movement that is refused changes nothing
-    answer-keeps : (n : ℕ) (a : LineAnswer) → Stands a → Inv R F Q t₀ (leaves (movedBy R F l n a) s) g
-    answer-keeps zero a h = cursor-keeps (a .line .cursor) (h .place)
-    answer-keeps (suc zero) a h = cursor-keeps (a .line .cursor) (h .place)
-    answer-keeps (suc (suc n)) a h = q
+    outcome-keeps : (o : Outcome Line) → Stands o → Inv R F Q t₀ (leaves (movedBy R F l o) s) g
+    outcome-keeps (refused k) h = q
+    outcome-keeps (answered k a b x) h = cursor-keeps (x .cursor) (h .place)
 
     -- a movement keeps the invariant
     pub moved-keeps : (x : MoveCall) → Inv R F Q t₀ (leaves (outcomeOf R F l (asked.move x)) s) g
-    moved-keeps x = answer-keeps (moveAnswer R (l .text) (l .line) x .number) (moveAnswer R (l .text) (l .line) x) (move-keeps x)
+    moved-keeps x = outcome-keeps (moveOutcome R (l .text) (l .line) x) (move-keeps x)

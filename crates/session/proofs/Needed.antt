@@ -12,6 +12,7 @@ use Rattle.motion.specs.Steps.{sizes, prevPos}
 use Rattle.copies.specs.Copy.{copied}
 use Rattle.checks.specs.Checks.{refusal}
 use Rattle.checks.specs.Outcome.{answered}
+use Rattle.formats.specs.Formats.{formatFor}
 use Rattle.journal.specs.Change.{begin, end, edit, insert, delete}
 use Rattle.journal.specs.Layout.{sizeOf, textsAt, changeAt, wholeAt, decodeAt}
 use Rattle.journal.specs.Recording.{note, recordInsert, recordDelete}
@@ -54,5 +55,5 @@ pub record Needed : Type 0 where
   pub zero : (after (typing a ∷ undoing 0 ∷ redoing 0 ∷ []) .text ≡ [])
 
 pub needed : Needed
-unfolding within one two lead3 three lead4 four firstOf first charsFrom validFrom startBefore scalar size encode isMember isControl isMark isAlnum isText isChar joined clusters sizes prevPos copied refusal sizeOf textsAt changeAt wholeAt decodeAt note recordInsert recordDelete undoRecords undoTexts allSmall fits endAll endsAny overSizes damaged undos redos beginOut endOut splice textAfter listAfter tooLong edited misfit exchanging Retrace·undoing walk undoOut redoOut
+unfolding formatFor within one two lead3 three lead4 four firstOf first charsFrom validFrom startBefore scalar size encode isMember isControl isMark isAlnum isText isChar joined clusters sizes prevPos copied refusal sizeOf textsAt changeAt wholeAt decodeAt note recordInsert recordDelete undoRecords undoTexts allSmall fits endAll endsAny overSizes damaged undos redos beginOut endOut splice textAfter listAfter tooLong edited misfit exchanging Retrace·undoing walk undoOut redoOut
 needed = record { in-group = (refl, refl); group-open = (refl, refl); smaller = refl; above-units = (refl, refl); zero = refl }

@@ -5,7 +5,7 @@ use mathlib.Core.List.{List, [], _∷_}
 use Rattle.lists.proofs.Every.{Every}
 use Rattle.unicode.specs.Repertoire.{Repertoire}
 use Rattle.journal.specs.Change.{Change, turn}
-use Rattle.journal.specs.Layout.{Format}
+use Rattle.formats.specs.declared.Format.{Format}
 use Rattle.edit.specs.Plan.{State}
 use Rattle.retrace.specs.Retrace.{Trail, Tried, done, stops, undoing}
 use Rattle.undo.specs.Undo.{Waiting, owed, passing, settled, trailOf}

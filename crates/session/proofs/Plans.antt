@@ -19,7 +19,7 @@ use Rattle.checks.specs.Checks.{Tests, ownTests}
 use Rattle.checks.specs.Outcome.{Outcome}
 use Rattle.checks.proofs.Fit.{Passed}
 use Rattle.copies.specs.Copy.{isForeign}
-use Rattle.journal.specs.Layout.{Format}
+use Rattle.formats.specs.declared.Format.{Format}
 use Rattle.edit.specs.Plan.{State, Plan, once, nothing, cutting, swapping}
 use Rattle.edit.specs.Calls.{Lent, textOf, checked, editCall}
 use Rattle.edit.proofs.Tests.{own-passed}
@@ -53,7 +53,7 @@ pub record Planned (R : Repertoire) (F : Format) (l : Lent) (o : Outcome State) 
   pub is : o ≡ editCall R F l own plan
   pub suits : checked R F l own ≡ 0 → PlanSuits R (textOf l) plan
 
-module _ (R : Repertoire) (law : Lawful R) (space : R .member 0x20 ≡ true) (F : Format) (l : Lent) (v : isText R (textOf l) ≡ true) (i : In (textOf l) (l .line .cursor) (l .line .cursor)) (len : l .line .len ≡ length (textOf l)) where
+module _ (R : Repertoire) (law : Lawful R) (F : Format) (l : Lent) (v : isText R (textOf l) ≡ true) (i : In (textOf l) (l .line .cursor) (l .line .cursor)) (len : l .line .len ≡ length (textOf l)) where
   abbrev t : List ℕ
   t = textOf l
 
@@ -160,7 +160,7 @@ module _ (R : Repertoire) (law : Lawful R) (space : R .member 0x20 ≡ true) (F 
         by-plan (indentTests R t pos mvt amount dedent) (indentPlan R amount dedent pos (touched R t pos mvt .start) (lines mvt))
         (λ q.
         let s = whole mvt dedent (q .split) in
-        (indent-suits R space amount t pos v (i .2) (i .1) mvt dedent s, plan-cursor R space amount t pos v (i .2) (i .1) mvt dedent s))
+        (indent-suits R (law .space) amount t pos v (i .2) (i .1) mvt dedent s, plan-cursor R (law .space) amount t pos v (i .2) (i .1) mvt dedent s))
 
     -- by its codes
     indented-by : (dedent : Bool) (c : MovementCode) → Planned R F l (indentBy R F l amount dedent c)

@@ -6,7 +6,8 @@ use Rattle.unicode.specs.Repertoire.{catalogue}
 use Rattle.checks.specs.declared.Line.{Line}
 use Rattle.checks.specs.Outcome.{Outcome, leaves}
 use Rattle.journal.specs.Change.{Change}
-use Rattle.journal.specs.Layout.{narrow, encodeRecords, encodeTexts}
+use Rattle.formats.specs.Formats.{formatFor, logFormat}
+use Rattle.journal.specs.Layout.{encodeRecords, encodeTexts}
 use Rattle.changeset.specs.Calls.{row, logOf, truncateCall}
 use Rattle.edit.specs.Plan.{State}
 use Rattle.edit.specs.Calls.{Lent, lent, logLent}
@@ -28,8 +29,8 @@ buffer n s = s ++ replicate (n - length s) 0
 -- the bytes of a state, in a text buffer of C bytes and 32 bytes each for the log
 abbrev pub lendingIn : ℕ → State → Lent
 lendingIn C s =
-    lent (buffer C (s .text)) (buffer 32 (encodeRecords narrow (row narrow (s .log)))) (buffer 32 (encodeTexts (row narrow (s .log))))
-    (at (length (s .text)) (s .cursor)) (logOf narrow (s .log))
+    lent (buffer C (s .text)) (buffer 32 (encodeRecords logFormat (row logFormat (s .log)))) (buffer 32 (encodeTexts (row logFormat (s .log))))
+    (at (length (s .text)) (s .cursor)) (logOf logFormat (s .log))
 
 abbrev pub lending : State → Lent
 lending s = lendingIn 16 s
@@ -39,7 +40,7 @@ abbrev pub Doing : Type 0
 Doing = Lent → Outcome State
 
 abbrev pub asking : Asked → Doing
-asking a l = outcomeOf catalogue narrow l a
+asking a l = outcomeOf catalogue logFormat l a
 
 -- a character typed, and the log's calls
 abbrev pub typing : ℕ → Doing
@@ -62,7 +63,7 @@ cancelling mark = asking (calls.cancel mark)
 
 -- truncate is no call of demand 3's list
 abbrev pub truncating : ℕ → Doing
-truncating len l = loggedBy catalogue narrow l (truncateCall catalogue narrow (logLent l) len)
+truncating len l = loggedBy catalogue logFormat l (truncateCall catalogue logFormat (logLent l) len)
 
 -- what they leave
 abbrev pub played : List Doing → State → State

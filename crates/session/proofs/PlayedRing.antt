@@ -4,7 +4,7 @@ use mathlib.Core.List.{List, [], _∷_, _++_}
 use lib.ListN.{length}
 use Rattle.unicode.specs.Repertoire.{catalogue}
 use Rattle.checks.specs.Outcome.{Outcome, leaves}
-use Rattle.journal.specs.Layout.{le}
+use Rattle.numbers.specs.Numbers.{le}
 use Rattle.kill_ring.specs.Ring.{KillRing, empty}
 use Rattle.kill_ring.specs.Calls.{Lent, lent, ringOf, resetCall, killCall}
 use Rattle.session.proofs.Played.{buffer}

@@ -17,7 +17,7 @@ use Rattle.unicode.specs.Text.{isText}
 use Rattle.unicode.proofs.Text.{text-append, text-cut, text-nil}
 use Rattle.checks.specs.Outcome.{leaves}
 use Rattle.journal.specs.Change.{Edit, insert, delete, replace, Change, begin, end, edit, place, old, new}
-use Rattle.journal.specs.Layout.{Format}
+use Rattle.formats.specs.declared.Format.{Format}
 use Rattle.journal.specs.Recording.{Joined, apart, joined, joinIf, join, onJoined, note}
 use Rattle.journal.specs.Undo.{Sizes, allSmall, fits}
 use Rattle.edit.specs.Plan.{Piece, typed, pasted, cutting, swapping, Plan, State, Suits, AllSuit, splice, made, recorded, blank, notedOr, textAfter, listAfter, redoAfter, tooLong, planned, edited}

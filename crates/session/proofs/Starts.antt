@@ -12,14 +12,14 @@ use Rattle.checks.specs.Checks.{both, ownTests}
 use Rattle.checks.proofs.Fit.{Fit, Passed, fit}
 use Rattle.journal.specs.Change.{Change, turn}
 use Rattle.journal.specs.Groups as groups
-use Rattle.journal.specs.Layout.{Format}
+use Rattle.formats.specs.declared.Format.{Format}
 use Rattle.journal.specs.Undo.{allSmall}
 use Rattle.journal.proofs.Decode.{decode-encode}
 use Rattle.changeset.specs.Logs.{overSizes, logTests}
 use Rattle.changeset.specs.Calls as logs
 use Rattle.changeset.specs.declared.Log.{Log}
 use Rattle.changeset.proofs.Passed.{sized}
-use Rattle.edit.specs.Calls.{Lent, textOf, logLent, stateOf}
+use Rattle.edit.specs.Calls.{Lent, textOf, logLent, stateOf, checked}
 use Rattle.session.specs.Runs.{Sized, buffersOf}
 use Rattle.session.specs.Demand3.{Starts}
 use Rattle.session.proofs.Invariant.{Inv, no-redo}
@@ -43,10 +43,10 @@ module _ (R : Repertoire) (F : Format) where
   log-none rb tb = ap₂ (λ (u r : List Change). record { undo = reverse u; redo = map turn r; level = 0 }) (undos-none rb tb) (redos-none rb tb)
 
   -- the first state
-  pub start-keeps : (l : Lent) → Starts R F l → Inv R F (Short (length (l .text))) (textOf l) (stateOf R F l) []
+  pub start-keeps : (l : Lent) → Starts R l → checked R F l (ownTests false false false) ≡ 0 → Inv R F (Short (length (l .text))) (textOf l) (stateOf R F l) []
   unfolding allSmall
-  start-keeps l z =
-      let f = fit R (l .text) (l .line) (both (logTests R F (l .log) (l .records) (l .texts)) (ownTests false false false)) (z .passes) .0 in
+  start-keeps l z passes =
+      let f = fit R F (l .text) (l .line) (both (logTests R F (l .log) (l .records) (l .texts)) (ownTests false false false)) passes .0 in
       let e : logs.valueOf R F (logLent l) ≡ groups.empty = ap (λ (g : Log). logs.valueOf R F (logs.lent (l .records) (l .texts) g)) (z .log) ∙ log-none (l .records) (l .texts) in
       let n = length-take-le (l .line .len) (l .text) (f .used) in
       let h = f .within in
@@ -55,14 +55,14 @@ module _ (R : Repertoire) (F : Format) where
       (record { chain = refl; text = f .text; allowed = omega (arith, n, f .used); groups = record { opened = refl; marks = refl } })
       (omega arith, omega arith, f .edge, f .edge) refl)
 
-module _ (R : Repertoire) (F : Format) (l : Lent) (z : Starts R F l) where
-  abbrev passed : Fit R (l .text) (l .line) × Passed (both (logTests R F (l .log) (l .records) (l .texts)) (ownTests false false false))
-  passed = fit R (l .text) (l .line) (both (logTests R F (l .log) (l .records) (l .texts)) (ownTests false false false)) (z .passes)
+module _ (R : Repertoire) (F : Format) (l : Lent) (z : Starts R l) (passes : checked R F l (ownTests false false false) ≡ 0) where
+  abbrev passed : Fit R F (l .text) (l .line) × Passed (both (logTests R F (l .log) (l .records) (l .texts)) (ownTests false false false))
+  passed = fit R F (l .text) (l .line) (both (logTests R F (l .log) (l .records) (l .texts)) (ownTests false false false)) passes
 
   -- check 2 passes the first buffers
-  pub start-sized : Sized (buffersOf l)
+  pub start-sized : Sized F (buffersOf l)
   start-sized =
-      let d = sized (logLent l) (or-none (overSizes (l .log) (l .records) (l .texts)) false (passed .1 .sizes) .0) in
+      let d = sized F (logLent l) (or-none (overSizes F (l .log) (l .records) (l .texts)) false (passed .1 .sizes) .0) in
       record { text = passed .0 .small; records = d .records; texts = d .texts }
 
   -- the first state stands in what is lent first

@@ -9,7 +9,7 @@ use Rattle.unicode.specs.Repertoire.{Repertoire, Lawful}
 use Rattle.checks.specs.Checks.{both, lineTests, ownTests}
 use Rattle.checks.specs.Outcome.{Outcome, called, leaves}
 use Rattle.journal.specs.Change.{Change, begin as Change·begin, end as Change·end, edit as Change·edit}
-use Rattle.journal.specs.Layout.{Format}
+use Rattle.formats.specs.declared.Format.{Format}
 use Rattle.changeset.specs.Logs.{logTests}
 use Rattle.edit.specs.Plan.{Piece, made, State}
 use Rattle.edit.specs.Calls.{Lent, textOf, sizesOf, checked, stateOf}
@@ -66,26 +66,26 @@ module _ (R : Repertoire) (Q Q′ : List ℕ → Type 0) (more : (t : List ℕ) 
       }
 
 -- ---- a call
-module _ (R : Repertoire) (law : Lawful R) (space : R .member 0x20 ≡ true) (F : Format) (Q : List ℕ → Type 0) (t₀ : List ℕ) where
+module _ (R : Repertoire) (law : Lawful R) (F : Format) (Q : List ℕ → Type 0) (t₀ : List ℕ) where
   module _ (l : Lent) (s : State) (g : List ℕ) (is : stateOf R F l ≡ s) (len : l .line .len ≡ length (textOf l)) (v : Inv R F Q t₀ s g) where
     held : Inv R F Q t₀ (stateOf R F l) g
     held = subst (λ (x : State). Inv R F Q t₀ x g) (sym is) v
 
     -- the plan of an edit
     pub planOf : (x : EditCall) → Planned R F l (editOutcome R F l x)
-    planOf x = planned R law space F l (held .here .text) (held .cursor) len x
+    planOf x = planned R law F l (held .here .text) (held .cursor) len x
 
     -- an edit, where the texts that it leads to are of Q
     edit-keeps : (x : EditCall) → New Q (length (l .text)) (planOf x .plan .pieces) (textOf l) → Keeps R F Q t₀ (edit x) (outcomeOf R F l (edit x)) s g
     edit-keeps x n =
         let p = planOf x in
         subst (λ (o : Outcome State). Keeps R F Q t₀ (edit x) o s g) (sym (p .is))
-        (by-checks R F Q t₀ l s g is v (edit x) (checked R F l (p .own)) _ (not-one (both (lineTests R (l .text) (l .line)) (both (logTests R F (l .log) (l .records) (l .texts)) (p .own))))
+        (by-checks R F Q t₀ l s g is v (edit x) (checked R F l (p .own)) _ (not-one (both (lineTests R F (l .text) (l .line)) (both (logTests R F (l .log) (l .records) (l .texts)) (p .own))))
         (λ e. plan-keeps R F Q t₀ (sizesOf l) (length (l .text)) (p .plan) (stateOf R F l) g n (p .suits e .0) (p .suits e .1) held))
 
     -- a call of the log that is lent the text too
     log-keeps : (a : Asked) (f : State → Outcome State) → Keeps R F Q t₀ a (f (stateOf R F l)) (stateOf R F l) g → Keeps R F Q t₀ a (called (checked R F l (ownTests false false false)) (f (stateOf R F l))) s g
-    log-keeps a f k = by-checks R F Q t₀ l s g is v a (checked R F l (ownTests false false false)) (f (stateOf R F l)) (not-one (both (lineTests R (l .text) (l .line)) (both (logTests R F (l .log) (l .records) (l .texts)) (ownTests false false false)))) (λ e. k)
+    log-keeps a f k = by-checks R F Q t₀ l s g is v a (checked R F l (ownTests false false false)) (f (stateOf R F l)) (not-one (both (lineTests R F (l .text) (l .line)) (both (logTests R F (l .log) (l .records) (l .texts)) (ownTests false false false)))) (λ e. k)
 
     -- each call, where the texts that an edit leads to are of Q
     pub keeps : Bound Q (length (l .text)) → ((x : EditCall) → New Q (length (l .text)) (planOf x .plan .pieces) (textOf l)) → (a : Asked) → Allowed a g → Keeps R F Q t₀ a (outcomeOf R F l a) s g
@@ -111,12 +111,12 @@ new-short : (C : ℕ) (xs : List Piece) (t : List ℕ) → New (Short C) C xs t
 new-short C [] t = tt
 new-short C (x ∷ xs) t = ((λ h. h), new-short C xs (made x t))
 
-pub step-keeps : (R : Repertoire) → Lawful R → R .member 0x20 ≡ true → (F : Format) (t₀ : List ℕ) (b b′ : Buffers) (a : Asked) (s : State) (g : List ℕ) → Handed F b s b′ → Allowed a g → Inv R F (Short (length (b .text))) t₀ s g
+pub step-keeps : (R : Repertoire) → Lawful R → (F : Format) (t₀ : List ℕ) (b b′ : Buffers) (a : Asked) (s : State) (g : List ℕ) → Handed F b s b′ → Allowed a g → Inv R F (Short (length (b .text))) t₀ s g
     → Inv R F (Short (length (b′ .text))) t₀ (leaves (outcomeOf R F (lentFor F s b′) a) s) (openAfter a (outcomeOf R F (lentFor F s b′) a) g)
-step-keeps R law space F t₀ b b′ a s g h q v =
+step-keeps R law F t₀ b b′ a s g h q v =
     let C = length (b′ .text) in
     let l = lentFor F s b′ in
     let w = inv-more R (Short (length (b .text))) (Short C) (λ t k. omega (arith, h .noSmaller .text)) F t₀ s g v in
     let is = found R F (Short C) t₀ b s g w b′ h in
     let len = ap length (sym (h .stored .text)) in
-    keeps R law space F (Short C) t₀ l s g is len w (λ t k. k) (λ x. new-short C (planOf R law space F (Short C) t₀ l s g is len w x .plan .pieces) (textOf l)) a q
+    keeps R law F (Short C) t₀ l s g is len w (λ t k. k) (λ x. new-short C (planOf R law F (Short C) t₀ l s g is len w x .plan .pieces) (textOf l)) a q

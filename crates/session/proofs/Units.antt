@@ -11,7 +11,7 @@ use Rattle.utf8.specs.Chars.{In}
 use Rattle.unicode.specs.Repertoire.{Repertoire}
 use Rattle.checks.specs.Outcome.{Outcome, refused, answered, numberIn, leaves}
 use Rattle.journal.specs.Change.{Change, begin, end, edit}
-use Rattle.journal.specs.Layout.{Format}
+use Rattle.formats.specs.declared.Format.{Format}
 use Rattle.edit.specs.Plan.{State}
 use Rattle.undo.specs.Undo.{owed, Walked, walk, numberOf, trailOf, undoneState, undoWalk, undoOut, redoWalk, redoneState, behindNumber, redoOut}
 use Rattle.session.proofs.Values.{Units, SameTextAndLog}

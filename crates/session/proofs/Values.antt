@@ -6,7 +6,7 @@ use mathlib.Core.List.{List, [], _∷_}
 use lib.Dec.{eqb, leb}
 use lib.ListN.{length}
 use Rattle.checks.specs.Outcome.{Outcome, refused, answered, numberIn, leaves}
-use Rattle.journal.specs.Layout.{Format}
+use Rattle.formats.specs.declared.Format.{Format}
 use Rattle.changeset.specs.Calls.{logOf}
 use Rattle.edit.specs.Plan.{State}
 use Rattle.edit.specs.Calls.{Lent, lent, Stored}
@@ -19,7 +19,7 @@ use Rattle.session.specs.Runs.{NoSmaller, Sized, below}
 pub record Handed (F : Format) (before : Buffers) (s : State) (b : Buffers) : Type 0 where
   pub stored : Stored F s (b .text) (b .records) (b .texts)
   pub noSmaller : NoSmaller before b
-  pub sized : Sized b
+  pub sized : Sized F b
 
 -- with the line and the log's state that the last call answered
 abbrev pub lentFor : Format → State → Buffers → Lent

@@ -13,7 +13,8 @@ use Rattle.utf8.specs.Chars.{In}
 use Rattle.unicode.specs.Repertoire.{Repertoire}
 use Rattle.unicode.specs.Text.{isText}
 use Rattle.journal.specs.Change.{insert, delete, replace, Change, begin, end, edit, place, old, flipped, turn}
-use Rattle.journal.specs.Layout.{Format, top}
+use Rattle.numbers.specs.Numbers.{top}
+use Rattle.formats.specs.declared.Format.{Format}
 use Rattle.journal.specs.Undo.{small, allSmall}
 use Rattle.journal.proofs.Newest.{turn-turn}
 use Rattle.retrace.specs.Retrace.{Trail, Tried, done, stops, undoing}

@@ -8,9 +8,9 @@ use lib.Dec.{eqb, leb}
 use lib.ListN.{length, take}
 use Rattle.unicode.specs.Repertoire.{Repertoire}
 use Rattle.checks.specs.declared.Line.{Line}
-use Rattle.journal.specs.Layout.{Format}
+use Rattle.formats.specs.declared.Format.{Format}
 use Rattle.changeset.specs.declared.Log.{Log}
-use Rattle.edit.specs.Calls.{Lent, lent, textOf}
+use Rattle.edit.specs.Calls.{Lent, lent, formatOf, textOf}
 use Rattle.calls.specs.Calls.{Asked, edit, move, log, begin, end, lastInsert, undo, redo, cancel}
 use Rattle.calls.specs.Contracts.{Buffers, AnswerTo, Meets}
 
@@ -22,10 +22,10 @@ pub record NoSmaller (a b : Buffers) : Type 0 where
   pub texts : length (a .texts) ≤ length (b .texts)
 
 -- check 2 passes their sizes
-pub record Sized (b : Buffers) : Type 0 where
-  pub text : length (b .text) ≤ 4096
-  pub records : length (b .records) ≤ 32768
-  pub texts : length (b .texts) ≤ 65535
+pub record Sized (F : Format) (b : Buffers) : Type 0 where
+  pub text : length (b .text) ≤ F .text
+  pub records : length (b .records) ≤ F .records
+  pub texts : length (b .texts) ≤ F .texts
 
 abbrev pub buffersOf : Lent → Buffers
 buffersOf l = record { text = l .text; records = l .records; texts = l .texts }
@@ -93,12 +93,12 @@ pub record HandedOn (a b : Lent) : Type 0 where
   pub text : SameText a b
   pub log : SameLog a b
   pub noSmaller : NoSmaller (buffersOf a) (buffersOf b)
-  pub sized : Sized (buffersOf b)
+  pub sized : Sized (formatOf b) (buffersOf b)
 
 -- calls one after the other from what is left at first: each is handed what the one before left, and meets the contract of its entry
-unfoldable pub Run : Repertoire → Format → Lent → List AnyStep → Type 0
-Run R F l [] = Unit {0}
-Run R F l (x ∷ xs) = HandedOn l (x .1 .lent) × Meets R F (x .0) (x .1 .lent) (x .1 .answer) (x .1 .after) × Run R F (left (x .0) (x .1)) xs
+unfoldable pub Run : Repertoire → Lent → List AnyStep → Type 0
+Run R l [] = Unit {0}
+Run R l (x ∷ xs) = HandedOn l (x .1 .lent) × Meets R (x .0) (x .1 .lent) (x .1 .answer) (x .1 .after) × Run R (left (x .0) (x .1)) xs
 
 -- what the last of them leaves
 unfoldable pub leftBy : Lent → List AnyStep → Lent

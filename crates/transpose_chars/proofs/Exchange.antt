@@ -8,7 +8,7 @@ use Rattle.lists.specs.Lists.{part}
 use Rattle.utf8.specs.Chars.{In}
 use Rattle.unicode.specs.Repertoire.{catalogue}
 use Rattle.unicode.proofs.Text.{text-valid}
-use Rattle.journal.specs.Layout.{narrow}
+use Rattle.formats.specs.declared.Format.{Format}
 use Rattle.edit.specs.declared.EditAnswer.{EditAnswer}
 use Rattle.edit.specs.Plan.{Piece, cutting, pasted, textAfter, AllSuit, edited}
 use Rattle.edit.specs.Calls.{Lent, textOf, sizesOf, stateOf, says, Edited, Ready}
@@ -20,7 +20,7 @@ use Rattle.transpose_chars.specs.TransposeChars.{transposed, exchange}
 use Rattle.places.proofs.Stays.{back-place}
 use Rattle.transpose_chars.proofs.Suits.{cut-in, exchange-suits}
 
-module _ (l : Lent) (h : Ready narrow l) (p : ℕ) (i : In (textOf l) p p) where
+module _ (F : Format) (l : Lent) (h : Ready F l) (p : ℕ) (i : In (textOf l) p p) where
   -- the two places are in the text, on both sides of p
   pub reaches : (q : ℕ) → q ≡ onFrom catalogue (textOf l) p → In (textOf l) p q
   reaches q e = subst (In (textOf l) p) (sym e) (cut-in catalogue (textOf l) (h .text) p i)
@@ -28,7 +28,7 @@ module _ (l : Lent) (h : Ready narrow l) (p : ℕ) (i : In (textOf l) p p) where
   pub goes-back : (o : ℕ) → o ≡ backFrom catalogue (textOf l) p → o ≤ p
   goes-back o e = let b = back-place catalogue (textOf l) (text-valid catalogue (textOf l) (h .text)) p (i .2) (i .1) in let c = b .0 in omega arith
 
-module _ (l : Lent) (h : Ready narrow l) (p : ℕ) (i : In (textOf l) p p) (q o : ℕ) (eq : q ≡ onFrom catalogue (textOf l) p) (eo : o ≡ backFrom catalogue (textOf l) p) (c : List ℕ) (ec : c ≡ part (textOf l) p q) where
+module _ (F : Format) (l : Lent) (h : Ready F l) (p : ℕ) (i : In (textOf l) p p) (q o : ℕ) (eq : q ≡ onFrom catalogue (textOf l) p) (eo : o ≡ backFrom catalogue (textOf l) p) (c : List ℕ) (ec : c ≡ part (textOf l) p q) where
   abbrev t : List ℕ
   t = textOf l
 
@@ -44,25 +44,25 @@ module _ (l : Lent) (h : Ready narrow l) (p : ℕ) (i : In (textOf l) p p) (q o 
   cut-length : length (part t p (onFrom catalogue t p)) ≡ q - p
   cut-length = part-length catalogue t p (onFrom catalogue t p) (cut-in catalogue t (h .text) p i) ∙ ap (λ (a : ℕ). a - p) (sym eq)
 
-  module _ (r : EditAnswer) (t′ rb tb : List ℕ) (k : Edited narrow l (edited catalogue narrow (sizesOf l) (length (l .text)) (record { pieces = pieces; cursor = o + (q - p); number = 0; from = 0; to = 0 }) (stateOf catalogue narrow l)) r t′ rb tb) where
-    there : Edited narrow l (edited catalogue narrow (sizesOf l) (length (l .text)) (record { pieces = exchange catalogue t p .pieces; cursor = o + (q - p); number = 0; from = 0; to = 0 }) (stateOf catalogue narrow l)) r t′ rb tb
-    there = subst (λ (xs : List Piece). Edited narrow l (edited catalogue narrow (sizesOf l) (length (l .text)) (record { pieces = xs; cursor = o + (q - p); number = 0; from = 0; to = 0 }) (stateOf catalogue narrow l)) r t′ rb tb) same k
+  module _ (r : EditAnswer) (t′ rb tb : List ℕ) (k : Edited F l (edited catalogue F (sizesOf l) (length (l .text)) (record { pieces = pieces; cursor = o + (q - p); number = 0; from = 0; to = 0 }) (stateOf catalogue F l)) r t′ rb tb) where
+    there : Edited F l (edited catalogue F (sizesOf l) (length (l .text)) (record { pieces = exchange catalogue t p .pieces; cursor = o + (q - p); number = 0; from = 0; to = 0 }) (stateOf catalogue F l)) r t′ rb tb
+    there = subst (λ (xs : List Piece). Edited F l (edited catalogue F (sizesOf l) (length (l .text)) (record { pieces = xs; cursor = o + (q - p); number = 0; from = 0; to = 0 }) (stateOf catalogue F l)) r t′ rb tb) same k
 
-    pub not-exchanged : (r .number ≡ 0 → ⊥) → Edited narrow l (edited catalogue narrow (sizesOf l) (length (l .text)) (exchange catalogue t p) (stateOf catalogue narrow l)) r t′ rb tb
-    not-exchanged = cursor-kept catalogue narrow l (sizesOf l) (length (l .text)) (exchange catalogue t p .pieces) (stateOf catalogue narrow l) (o + (q - p)) (exchange catalogue t p .cursor) r t′ rb tb there
+    pub not-exchanged : (r .number ≡ 0 → ⊥) → Edited F l (edited catalogue F (sizesOf l) (length (l .text)) (exchange catalogue t p) (stateOf catalogue F l)) r t′ rb tb
+    not-exchanged = cursor-kept catalogue F l (sizesOf l) (length (l .text)) (exchange catalogue t p .pieces) (stateOf catalogue F l) (o + (q - p)) (exchange catalogue t p .cursor) r t′ rb tb there
 
     pub used-is : r .number ≡ 0 → r .line .len ≤ length t′
-    used-is e = used-there catalogue narrow l (sizesOf l) (length (l .text)) (exchange catalogue t p .pieces) (stateOf catalogue narrow l) (o + (q - p)) (exchange catalogue t p .cursor) r t′ rb tb there e
+    used-is e = used-there catalogue F l (sizesOf l) (length (l .text)) (exchange catalogue t p .pieces) (stateOf catalogue F l) (o + (q - p)) (exchange catalogue t p .cursor) r t′ rb tb there e
 
     -- the text that the cursor goes through
     text-is : r .number ≡ 0 → take (r .line .len) t′ ≡ transposed catalogue t p
     unfolding textAfter
-    text-is e = text-there catalogue narrow l (sizesOf l) (length (l .text)) (exchange catalogue t p .pieces) (stateOf catalogue narrow l) (o + (q - p)) (exchange catalogue t p .cursor) r t′ rb tb there e
+    text-is e = text-there catalogue F l (sizesOf l) (length (l .text)) (exchange catalogue t p .pieces) (stateOf catalogue F l) (o + (q - p)) (exchange catalogue t p .cursor) r t′ rb tb there e
 
     pub exchanged : r .number ≡ 0 → (n : ℕ) (r′ : EditAnswer) → n ≡ onFrom catalogue (take (r .line .len) t′) (o + (q - p)) → r′ ≡ says 0 (record { len = r .line .len; cursor = n }) (r .log)
-        → Edited narrow l (edited catalogue narrow (sizesOf l) (length (l .text)) (exchange catalogue t p) (stateOf catalogue narrow l)) r′ t′ rb tb
+        → Edited F l (edited catalogue F (sizesOf l) (length (l .text)) (exchange catalogue t p) (stateOf catalogue F l)) r′ t′ rb tb
     exchanged e n r′ en er =
         let at : n ≡ exchange catalogue t p .cursor =
         en ∙ ap₂ (λ (x : List ℕ) (a : ℕ). onFrom catalogue x (a + (q - p))) (text-is e) eo ∙ ap (λ (a : ℕ). onFrom catalogue (transposed catalogue t p) (backFrom catalogue t p + a)) (sym cut-length) in
-        edited-as narrow l _ r′ _ t′ rb tb (er ∙ ap (λ (a : ℕ). says 0 (record { len = r .line .len; cursor = a }) (r .log)) at)
-        (cursor-moved catalogue narrow l (sizesOf l) (length (l .text)) (exchange catalogue t p .pieces) (stateOf catalogue narrow l) (o + (q - p)) (exchange catalogue t p .cursor) r t′ rb tb there e)
+        edited-as F l _ r′ _ t′ rb tb (er ∙ ap (λ (a : ℕ). says 0 (record { len = r .line .len; cursor = a }) (r .log)) at)
+        (cursor-moved catalogue F l (sizesOf l) (length (l .text)) (exchange catalogue t p .pieces) (stateOf catalogue F l) (o + (q - p)) (exchange catalogue t p .cursor) r t′ rb tb there e)

@@ -12,7 +12,7 @@ use Rattle.motion.specs.declared.Found.the-variants.{At, Nothing}
 use Rattle.places.specs.Places.{onFrom, backFrom}
 use Rattle.checks.specs.Checks.{ownTests}
 use Rattle.checks.specs.Outcome.{Outcome}
-use Rattle.journal.specs.Layout.{Format}
+use Rattle.formats.specs.declared.Format.{Format}
 use Rattle.edit.specs.Plan.{State, splice, pasted, cutting, Plan, nothing}
 use Rattle.edit.specs.Calls.{Lent, textOf, editCall}
 

@@ -8,9 +8,8 @@ ghost use lib.ListN.{length, take};
 ghost use Rattle.utf8.specs.Chars.{valid, boundary, In};
 ghost use Rattle.unicode.specs.Repertoire.{catalogue};
 ghost use Rattle.cluster.specs.Clusters.{clustersOf};
-ghost use Rattle.journal.specs.Layout.{narrow};
 ghost use Rattle.edit.specs.Plan.{edited};
-ghost use Rattle.edit.specs.Calls.{lent, sizesOf, stateOf, Edited, Ready};
+ghost use Rattle.edit.specs.Calls.{lent, formatOf, sizesOf, stateOf, Edited, Ready};
 ghost use Rattle.transpose_chars.specs.TransposeChars.{startsAt, exchange, transposeCharsCall};
 use buffer::insert_bytes;
 use changeset::Log;
@@ -20,11 +19,13 @@ use edit::EditAnswer;
 use edit::Own;
 use edit::refusal;
 use edit::says;
+use formats::Format;
+use formats::TEXT_MAX;
+use formats::format_for;
 use motion::Found;
 use pair_edits::cut_and_put;
 use places::back_from;
 use places::on_from;
-use records::NARROW;
 
 // Has a text fewer than two clusters?
 fn under_two(s: &[u8]) -> bool
@@ -50,6 +51,7 @@ fn starts_at(s: &[u8], pos: usize) -> Found
 
 // The cluster from a place on and the one before it, exchanged.
 fn exchange_at(
+    f: Format,
     text: &mut [u8],
     records: &mut [u8],
     texts: &mut [u8],
@@ -57,11 +59,11 @@ fn exchange_at(
     log: Log,
     p: usize,
 ) -> EditAnswer
-    requires { ⌜ Ready narrow (lent (now text) (now records) (now texts) line log) ⌝ }
+    requires { ⌜ Ready f (lent (now text) (now records) (now texts) line log) ⌝ }
     requires { ⌜ In (take (line .len) (now text)) p p ⌝ }
-    ensures { λ r. ⌜ Edited narrow (lent (now (text .entry)) (now (records .entry)) (now (texts .entry)) line log)
-        (edited catalogue narrow (sizesOf (lent (now (text .entry)) (now (records .entry)) (now (texts .entry)) line log)) (length (now (text .entry))) (exchange catalogue (take (line .len) (now (text .entry))) p)
-        (stateOf catalogue narrow (lent (now (text .entry)) (now (records .entry)) (now (texts .entry)) line log)))
+    ensures { λ r. ⌜ Edited f (lent (now (text .entry)) (now (records .entry)) (now (texts .entry)) line log)
+        (edited catalogue f (sizesOf (lent (now (text .entry)) (now (records .entry)) (now (texts .entry)) line log)) (length (now (text .entry))) (exchange catalogue (take (line .len) (now (text .entry))) p)
+        (stateOf catalogue f (lent (now (text .entry)) (now (records .entry)) (now (texts .entry)) line log)))
         r (now (text .exit)) (now (records .exit)) (now (texts .exit)) ⌝ }
 {
     let len = line.len;
@@ -69,10 +71,10 @@ fn exchange_at(
     let o = back_from(&text[..len], p);
     let n = q - p;
     let behind = o + n;
-    let mut cut = [0u8; 4096];
+    let mut cut = [0u8; TEXT_MAX];
     insert_bytes(&mut cut, 0, 0, &text[p..q]);
     let a = cut_and_put(
-        NARROW,
+        f,
         text,
         records,
         texts,
@@ -106,19 +108,20 @@ pub fn transpose_chars(
     line: Line,
     log: Log,
 ) -> EditAnswer
-    ensures { λ r. ⌜ Edited narrow (lent (now (text .entry)) (now (records .entry)) (now (texts .entry)) line log)
-        (transposeCharsCall catalogue narrow (lent (now (text .entry)) (now (records .entry)) (now (texts .entry)) line log))
+    ensures { λ r. ⌜ Edited (formatOf (lent (now (text .entry)) (now (records .entry)) (now (texts .entry)) line log)) (lent (now (text .entry)) (now (records .entry)) (now (texts .entry)) line log)
+        (transposeCharsCall catalogue (formatOf (lent (now (text .entry)) (now (records .entry)) (now (texts .entry)) line log)) (lent (now (text .entry)) (now (records .entry)) (now (texts .entry)) line log))
         r (now (text .exit)) (now (records .exit)) (now (texts .exit)) ⌝ }
 {
-    let k = refusal(NARROW, text, records, texts, line, log, Own::none());
+    let f = format_for(text.len());
+    let k = refusal(f, text, records, texts, line, log, Own::none());
     if k != 0 {
         return says(k, line, log);
     }
     let len = line.len;
     let cursor = line.cursor;
-    let f = starts_at(&text[..len], cursor);
-    match f {
-        Found::At(p) => exchange_at(text, records, texts, line, log, p),
+    let found = starts_at(&text[..len], cursor);
+    match found {
+        Found::At(p) => exchange_at(f, text, records, texts, line, log, p),
         Found::Nothing => says(1, line, log),
     }
 }

@@ -6,7 +6,7 @@ use lib.Dec.{eqb, ltb}
 use Rattle.unicode.specs.Repertoire.{Repertoire}
 use Rattle.checks.specs.Checks.{ownTests}
 use Rattle.checks.specs.Outcome.{Outcome}
-use Rattle.journal.specs.Layout.{Format}
+use Rattle.formats.specs.declared.Format.{Format}
 use Rattle.edit.specs.Plan.{State, Plan, nothing}
 use Rattle.edit.specs.Calls.{Lent, textOf, editCall}
 use Rattle.word_pairs.specs.declared.Words.{Words}

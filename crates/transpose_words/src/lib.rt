@@ -2,9 +2,8 @@
 // unfit is turned away by a number of document 01.
 ghost use lib.ListN.{length, take};
 ghost use Rattle.unicode.specs.Repertoire.{catalogue};
-ghost use Rattle.journal.specs.Layout.{narrow};
 ghost use Rattle.edit.specs.Plan.{edited};
-ghost use Rattle.edit.specs.Calls.{lent, sizesOf, stateOf, Edited, Ready};
+ghost use Rattle.edit.specs.Calls.{lent, formatOf, sizesOf, stateOf, Edited, Ready};
 ghost use Rattle.word_pairs.specs.WordPairs.{wordsPlan, Apart};
 ghost use Rattle.transpose_words.specs.TransposeWords.{transposeWordsCall};
 use buffer::insert_bytes;
@@ -14,8 +13,10 @@ use edit::EditAnswer;
 use edit::Own;
 use edit::refusal;
 use edit::says;
+use formats::Format;
+use formats::TEXT_MAX;
+use formats::format_for;
 use keymap::RepeatCount;
-use records::NARROW;
 use word_pairs::Words;
 use word_pairs::put_words;
 use word_pairs::words_around;
@@ -23,6 +24,7 @@ use word_pairs::words_fit;
 
 // The two words put in for each other: 9 and 10 are decided over all four changes before a byte changes.
 fn exchange_words(
+    f: Format,
     text: &mut [u8],
     records: &mut [u8],
     texts: &mut [u8],
@@ -30,11 +32,11 @@ fn exchange_words(
     log: Log,
     w: Words,
 ) -> EditAnswer
-    requires { ⌜ Ready narrow (lent (now text) (now records) (now texts) line log) ⌝ }
+    requires { ⌜ Ready f (lent (now text) (now records) (now texts) line log) ⌝ }
     requires { ⌜ Apart (take (line .len) (now text)) w ⌝ }
-    ensures { λ r. ⌜ Edited narrow (lent (now (text .entry)) (now (records .entry)) (now (texts .entry)) line log)
-        (edited catalogue narrow (sizesOf (lent (now (text .entry)) (now (records .entry)) (now (texts .entry)) line log)) (length (now (text .entry))) (wordsPlan (take (line .len) (now (text .entry))) w)
-        (stateOf catalogue narrow (lent (now (text .entry)) (now (records .entry)) (now (texts .entry)) line log)))
+    ensures { λ r. ⌜ Edited f (lent (now (text .entry)) (now (records .entry)) (now (texts .entry)) line log)
+        (edited catalogue f (sizesOf (lent (now (text .entry)) (now (records .entry)) (now (texts .entry)) line log)) (length (now (text .entry))) (wordsPlan (take (line .len) (now (text .entry))) w)
+        (stateOf catalogue f (lent (now (text .entry)) (now (records .entry)) (now (texts .entry)) line log)))
         r (now (text .exit)) (now (records .exit)) (now (texts .exit)) ⌝ }
 {
     let a = w.beg1;
@@ -47,14 +49,15 @@ fn exchange_words(
     if text.len() - left < n1 {
         return says(9, line, log);
     }
-    if !words_fit(text, records, texts, line, log, w) {
+    if !words_fit(f, text, records, texts, line, log, w) {
         return says(10, line, log);
     }
-    let mut first = [0u8; 4096];
+    let mut first = [0u8; TEXT_MAX];
     insert_bytes(&mut first, 0, 0, &text[a..b]);
-    let mut second = [0u8; 4096];
+    let mut second = [0u8; TEXT_MAX];
     insert_bytes(&mut second, 0, 0, &text[c..d]);
     put_words(
+        f,
         text,
         records,
         texts,
@@ -75,11 +78,12 @@ pub fn transpose_words(
     log: Log,
     n: RepeatCount,
 ) -> EditAnswer
-    ensures { λ r. ⌜ Edited narrow (lent (now (text .entry)) (now (records .entry)) (now (texts .entry)) line log)
-        (transposeWordsCall catalogue narrow (lent (now (text .entry)) (now (records .entry)) (now (texts .entry)) line log) n)
+    ensures { λ r. ⌜ Edited (formatOf (lent (now (text .entry)) (now (records .entry)) (now (texts .entry)) line log)) (lent (now (text .entry)) (now (records .entry)) (now (texts .entry)) line log)
+        (transposeWordsCall catalogue (formatOf (lent (now (text .entry)) (now (records .entry)) (now (texts .entry)) line log)) (lent (now (text .entry)) (now (records .entry)) (now (texts .entry)) line log) n)
         r (now (text .exit)) (now (records .exit)) (now (texts .exit)) ⌝ }
 {
-    let k = refusal(NARROW, text, records, texts, line, log, Own::none());
+    let f = format_for(text.len());
+    let k = refusal(f, text, records, texts, line, log, Own::none());
     if k != 0 {
         return says(k, line, log);
     }
@@ -96,5 +100,5 @@ pub fn transpose_words(
             log,
         );
     }
-    exchange_words(text, records, texts, line, log, w)
+    exchange_words(f, text, records, texts, line, log, w)
 }

@@ -14,7 +14,8 @@ use Rattle.unicode.proofs.Text.{text-valid}
 use Rattle.utf8.specs.Chars.{boundary, In}
 use Rattle.journal.proofs.Newest.{turn-turn}
 use Rattle.journal.specs.Change.{insert, delete, replace, Change, begin, end, edit, place, old, new, turn}
-use Rattle.journal.specs.Layout.{Format, okChange, Good, AllGood}
+use Rattle.formats.specs.declared.Format.{Format}
+use Rattle.journal.specs.Layout.{okChange, Good, AllGood}
 use Rattle.journal.specs.Groups as groups
 use Rattle.journal.proofs.Holds.{good-right}
 use Rattle.recording.proofs.Numbers.{ok-texts}
@@ -147,7 +148,7 @@ module _ (F : Format) (l : Lent) (b : Bool) (x : Change) (w : groups.Log) (q : S
       go : (a : Tried) → tried ≡ a → Numbered a → Fits catalogue a → Leaves F l a w q g t → Went F l b x w q g t
       go (done p) i m f r =
           let s = r .2 in
-          let c = state-ready F (stateAt p w) t (l .records) (l .texts) s (n .undo) (n .redo) (omega (arith, h .small)) (h .log .records) (h .log .texts) (h .log .wide) (omega (arith, v, h .log .level)) (f .0) (f .1) in
+          let c = state-ready F (stateAt p w) t (l .records) (l .texts) s (n .undo) (n .redo) (omega (arith, h .small)) (h .log .records) (h .log .texts) (h .log .fit) (omega (arith, v, h .log .level)) (f .0) (f .1) in
           let d = state-held catalogue F (stateAt p w) t (l .records) (l .texts) s (n .undo) (n .redo) in
           record {
             trail = p;

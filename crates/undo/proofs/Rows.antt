@@ -6,7 +6,8 @@ use mathlib.Core.List.{List, _∷_, _++_, append-assoc}
 use lib.ListN.{length, getD, take, drop, length-append, take-append-drop}
 use Rattle.unicode.specs.Repertoire.{Repertoire}
 use Rattle.journal.specs.Change.{Change}
-use Rattle.journal.specs.Layout.{Format, recordOf, textsOf, encodeRecords, encodeTexts, Small, AllGood, sizeOf}
+use Rattle.formats.specs.declared.Format.{Format}
+use Rattle.journal.specs.Layout.{recordOf, textsOf, encodeRecords, encodeTexts, Small, AllGood, sizeOf}
 use Rattle.journal.specs.Hold.{Holds}
 use Rattle.journal.proofs.Decode.{Reads, reads, record-pos, text-at}
 use Rattle.journal.proofs.Holds.{records-append, texts-append, good-right}

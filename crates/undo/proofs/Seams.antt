@@ -5,9 +5,11 @@ use mathlib.Core.Path.{_≡_, refl, sym, ap, subst, _∙_}
 use mathlib.Core.Bool.{Bool, true, false}
 use mathlib.Core.List.{List, [], _∷_, _++_, map, reverse, reverse-cons, append-assoc}
 use lib.ListN.{length, getD, length-append}
+use Rattle.numbers.proofs.Read.{top-max}
 use Rattle.unicode.specs.Repertoire.{catalogue}
 use Rattle.journal.specs.Change.{Change, turn}
-use Rattle.journal.specs.Layout.{Format, recordOf, textsOf, encodeRecords, encodeTexts}
+use Rattle.formats.specs.declared.Format.{Format}
+use Rattle.journal.specs.Layout.{recordOf, textsOf, encodeRecords, encodeTexts}
 use Rattle.journal.specs.Groups as groups
 use Rattle.journal.specs.Hold.{Holds}
 use Rattle.journal.specs.Undo.{undoRecords, undoTexts}
@@ -55,6 +57,10 @@ module _ {F : Format} {l : Lent} (h : Ready F l) where
   -- the lists that the bytes hold, in the buffers
   pub held : Holds catalogue F (l .records) (l .texts) ur ut rr rt (reverse (v .undo)) (map turn (v .redo))
   held = hold F l h
+
+  -- the log's texts are no more than a number says
+  pub texts-below : length (l .texts) < 4294967296
+  texts-below = omega (arith, h .log .texts, h .log .fit .lengths, top-max (F .width) (h .log .fit .width))
 
   -- the seam between two lists that make the same row
   seam : (u r : List Change) → reverse (v .undo) ++ map turn (v .redo) ≡ reverse u ++ map turn r → {at t : ℕ} → at ≡ length (encodeRecords F (reverse u)) → t ≡ length (encodeTexts (reverse u))

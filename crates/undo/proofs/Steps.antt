@@ -7,7 +7,8 @@ use mathlib.Core.List.{List, _∷_}
 use lib.ListN.{length, getD}
 use Rattle.unicode.specs.Repertoire.{catalogue}
 use Rattle.journal.specs.Change.{Change}
-use Rattle.journal.specs.Layout.{Format, textsOf, sizeOf}
+use Rattle.formats.specs.declared.Format.{Format}
+use Rattle.journal.specs.Layout.{textsOf, sizeOf}
 use Rattle.journal.specs.Groups as groups
 use Rattle.journal.specs.Undo.{undoRecords, undoTexts}
 use Rattle.changeset.specs.declared.Log.{Log}

@@ -7,7 +7,8 @@ use mathlib.Core.List.{List, [], _∷_}
 use lib.ListN.{length}
 use Rattle.unicode.specs.Repertoire.{catalogue}
 use Rattle.journal.specs.Change.{Change, turn}
-use Rattle.journal.specs.Layout.{Format}
+use Rattle.formats.specs.declared.Format.{Format}
+use Rattle.formats.specs.Formats.{recordsMax}
 use Rattle.changeset.specs.declared.Log.{Log}
 use Rattle.edit.specs.Plan.{State}
 use Rattle.edit.specs.Calls.{Lent, lent, stateOf, says, Ready}
@@ -26,16 +27,16 @@ pub record Walking (F : Format) (l₀ : Lent) (back : Bool) (W : Walked) (t : Li
   pub waiting : Waiting
   pub come : Come F l₀ back t s g
   pub waits : Waits waiting ends begins
-  pub few : ends + begins + usedOf back g ≤ 32768
+  pub few : ends + begins + usedOf back g ≤ recordsMax
   pub same :
       walk (length (l₀ .text)) n waiting (fromOf back (stateOf catalogue F (lent t (l₀ .records) (l₀ .texts) (lineOf s) g) .log)) (toOf back (stateOf catalogue F (lent t (l₀ .records) (l₀ .texts) (lineOf s) g) .log))
       (trailBy (stateOf catalogue F (lent t (l₀ .records) (l₀ .texts) (lineOf s) g)) (s .undone))
       ≡ W
 
 -- the list that is walked over is no longer than its buffer
-used-few : (back : Bool) {F : Format} {l : Lent} → Ready F l → usedOf back (l .log) ≤ 32768
-used-few true h = omega (arith, h .log .hold .room, h .log .records)
-used-few false h = omega (arith, h .log .hold .room, h .log .records)
+used-few : (back : Bool) {F : Format} {l : Lent} → Ready F l → usedOf back (l .log) ≤ recordsMax
+used-few true h = omega (arith, h .log .hold .room, h .log .records, h .log .fit .records)
+used-few false h = omega (arith, h .log .hold .room, h .log .records, h .log .fit .records)
 
 -- at its beginning nothing was passed
 pub walking-first : (back : Bool) (n : ℕ) {F : Format} {l₀ : Lent} → Ready F l₀
@@ -93,7 +94,7 @@ module _ {F : Format} {l₀ : Lent} {back : Bool} {W : Walked} {t : List ℕ} {s
 
       module _ (ends′ begins′ : ℕ) (c : Waits passed ends′ begins′) (m : ends′ + begins′ ≤ ends + begins + 1) where
         -- at most one End or Begin more, and a byte less
-        fewer : ends′ + begins′ + usedOf back (p .log) ≤ 32768
+        fewer : ends′ + begins′ + usedOf back (p .log) ≤ recordsMax
         fewer = omega (arith, k .few, falls back (k .come) e p t′ o i z)
 
         -- the unit goes on

@@ -7,7 +7,7 @@ use Rattle.unicode.specs.Repertoire.{catalogue}
 use Rattle.checks.specs.declared.Line.{Line}
 use Rattle.checks.specs.Outcome.{answered}
 use Rattle.journal.specs.Change.{Change, turn}
-use Rattle.journal.specs.Layout.{Format}
+use Rattle.formats.specs.declared.Format.{Format}
 use Rattle.journal.specs.Groups as groups
 use Rattle.changeset.specs.declared.Log.{Log}
 use Rattle.changeset.specs.Calls.{logOf}

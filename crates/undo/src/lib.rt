@@ -7,9 +7,8 @@ ghost use Prim.Native.Nat.{_≤_, _<_};
 ghost use lib.Dec.{eqb};
 ghost use lib.ListN.{length};
 ghost use Rattle.unicode.specs.Repertoire.{catalogue};
-ghost use Rattle.journal.specs.Layout.{narrow};
-ghost use Rattle.records.specs.Formats.{asFormat, Fit};
-ghost use Rattle.edit.specs.Calls.{lent, stateOf, Edited, Ready};
+ghost use Rattle.formats.specs.Formats.{Fit};
+ghost use Rattle.edit.specs.Calls.{lent, formatOf, stateOf, Edited, Ready};
 ghost use Rattle.retrace.specs.Records.{SizesOf};
 ghost use Rattle.undo.specs.Undo.{numberOf, undoOut, undoCall};
 ghost use Rattle.undo.specs.Steps.{lineOf, lentBy, PassesOne};
@@ -19,9 +18,10 @@ use edit::EditAnswer;
 use edit::Own;
 use edit::refusal;
 use edit::says;
+use formats::Format;
+use formats::RECORDS_MAX;
+use formats::format_for;
 use keymap::RepeatCount;
-use records::Format;
-use records::NARROW;
 use retrace::Step;
 use retrace::note_sizes;
 use retrace::read_record;
@@ -45,10 +45,10 @@ pub fn undo_record(
     log: Log,
 ) -> Passed
     requires { ⌜ Fit f ⌝ }
-    requires { ⌜ Ready (asFormat f) (lentBy (now text) (now records) (now texts) s log) ⌝ }
+    requires { ⌜ Ready f (lentBy (now text) (now records) (now texts) s log) ⌝ }
     requires { ⌜ (s .number ≡ 0) × (0 < log .undo .records) × (log .undo .records ≤ length (now sizes)) ⌝ }
-    requires { ⌜ SizesOf (asFormat f) (now sizes) (stateOf catalogue (asFormat f) (lentBy (now text) (now records) (now texts) s log) .log .undo) ⌝ }
-    ensures { λ q. ⌜ PassesOne (asFormat f) (lentBy (now (text .entry)) (now (records .entry)) (now (texts .entry)) s log) true (s .undone) q (now (text .exit)) ⌝ }
+    requires { ⌜ SizesOf f (now sizes) (stateOf catalogue f (lentBy (now text) (now records) (now texts) s log) .log .undo) ⌝ }
+    ensures { λ q. ⌜ PassesOne f (lentBy (now (text .entry)) (now (records .entry)) (now (texts .entry)) s log) true (s .undone) q (now (text .exit)) ⌝ }
 {
     let u = log.undo;
     let at = u.records;
@@ -103,11 +103,11 @@ fn undo_noted(
     n: usize,
 ) -> EditAnswer
     requires { ⌜ Fit f ⌝ }
-    requires { ⌜ Ready (asFormat f) (lent (now text) (now records) (now texts) line log) ⌝ }
+    requires { ⌜ Ready f (lent (now text) (now records) (now texts) line log) ⌝ }
     requires { ⌜ log .undo .records ≤ length (now sizes) ⌝ }
-    requires { ⌜ SizesOf (asFormat f) (now sizes) (stateOf catalogue (asFormat f) (lent (now text) (now records) (now texts) line log) .log .undo) ⌝ }
-    ensures outcome { λ r. ⌜ Edited (asFormat f) (lent (now (text .entry)) (now (records .entry)) (now (texts .entry)) line log)
-        (undoOut (length (now (text .entry))) n (stateOf catalogue (asFormat f) (lent (now (text .entry)) (now (records .entry)) (now (texts .entry)) line log)))
+    requires { ⌜ SizesOf f (now sizes) (stateOf catalogue f (lent (now text) (now records) (now texts) line log) .log .undo) ⌝ }
+    ensures outcome { λ r. ⌜ Edited f (lent (now (text .entry)) (now (records .entry)) (now (texts .entry)) line log)
+        (undoOut (length (now (text .entry))) n (stateOf catalogue f (lent (now (text .entry)) (now (records .entry)) (now (texts .entry)) line log)))
         r (now (text .exit)) (now (records .entry)) (now (texts .entry)) ⌝ }
     ensures still { λ r. ⌜ (r .log ≡ log → now (text .exit) ≡ now (text .entry)) ⌝ }
 {
@@ -156,9 +156,9 @@ fn undo_units(
     n: usize,
 ) -> EditAnswer
     requires { ⌜ Fit f ⌝ }
-    requires { ⌜ Ready (asFormat f) (lent (now text) (now records) (now texts) line log) ⌝ }
-    ensures outcome { λ r. ⌜ Edited (asFormat f) (lent (now (text .entry)) (now (records .entry)) (now (texts .entry)) line log)
-        (undoOut (length (now (text .entry))) n (stateOf catalogue (asFormat f) (lent (now (text .entry)) (now (records .entry)) (now (texts .entry)) line log)))
+    requires { ⌜ Ready f (lent (now text) (now records) (now texts) line log) ⌝ }
+    ensures outcome { λ r. ⌜ Edited f (lent (now (text .entry)) (now (records .entry)) (now (texts .entry)) line log)
+        (undoOut (length (now (text .entry))) n (stateOf catalogue f (lent (now (text .entry)) (now (records .entry)) (now (texts .entry)) line log)))
         r (now (text .exit)) (now (records .entry)) (now (texts .entry)) ⌝ }
     ensures still { λ r. ⌜ (r .log ≡ log → now (text .exit) ≡ now (text .entry)) ⌝ }
 {
@@ -169,7 +169,7 @@ fn undo_units(
         note_sizes(f, &records[..ur], &mut few);
         return undo_noted(f, text, records, texts, &few, line, log, n);
     }
-    let mut sizes = [0u8; 32768];
+    let mut sizes = [0u8; RECORDS_MAX];
     note_sizes(f, &records[..ur], &mut sizes);
     undo_noted(f, text, records, texts, &sizes, line, log, n)
 }
@@ -184,14 +184,15 @@ pub fn undo(
     log: Log,
     n: RepeatCount,
 ) -> EditAnswer
-    ensures outcome { λ r. ⌜ Edited narrow (lent (now (text .entry)) (now (records .entry)) (now (texts .entry)) line log)
-        (undoCall catalogue narrow (lent (now (text .entry)) (now (records .entry)) (now (texts .entry)) line log) n)
+    ensures outcome { λ r. ⌜ Edited (formatOf (lent (now (text .entry)) (now (records .entry)) (now (texts .entry)) line log)) (lent (now (text .entry)) (now (records .entry)) (now (texts .entry)) line log)
+        (undoCall catalogue (formatOf (lent (now (text .entry)) (now (records .entry)) (now (texts .entry)) line log)) (lent (now (text .entry)) (now (records .entry)) (now (texts .entry)) line log) n)
         r (now (text .exit)) (now (records .entry)) (now (texts .entry)) ⌝ }
     ensures still { λ r. ⌜ (r .log ≡ log → now (text .exit) ≡ now (text .entry)) ⌝ }
 {
-    let k = refusal(NARROW, text, records, texts, line, log, Own::none());
+    let f = format_for(text.len());
+    let k = refusal(f, text, records, texts, line, log, Own::none());
     if k != 0 {
         return says(k, line, log);
     }
-    undo_units(NARROW, text, records, texts, line, log, n as usize)
+    undo_units(f, text, records, texts, line, log, n as usize)
 }

@@ -22,8 +22,9 @@ use Rattle.unicode.specs.Text.{isText}
 use Rattle.unicode.proofs.Text.{text-members}
 
 -- no mapping is longer in bytes than its character, and each has a form in UTF-8
-abbrev pub Shrinks : Repertoire → Type 0
-Shrinks R = (k : Case) (c : ℕ) → scalar c ≡ true → (length (encodeAll (caseOf R k c)) ≤ size c) × (all scalar (caseOf R k c) ≡ true)
+pub case-sizes : (R : Repertoire) → Lawful R → (k : Case) (c : ℕ) → scalar c ≡ true → (length (encodeAll (caseOf R k c)) ≤ size c) × (all scalar (caseOf R k c) ≡ true)
+case-sizes R law Upper = law .upperSizes
+case-sizes R law Lower = law .lowerSizes
 
 module _ (R : Repertoire) (k : Case) where
   -- ---- one character at a time
@@ -37,14 +38,14 @@ module _ (R : Repertoire) (k : Case) where
   case-none t e = ap (λ (l : List ℕ). encodeAll (caseAll R k l)) (chars-bad t e)
 
   -- the bytes do not get more
-  pub case-le : Shrinks R → (s : List ℕ) → length (cased R k s) ≤ length s
-  case-le ok =
+  pub case-le : Lawful R → (s : List ℕ) → length (cased R k s) ≤ length s
+  case-le law =
       by-chars (λ (s : List ℕ). length (cased R k s) ≤ length s) (λ t e. rw (case-none t e) (omega arith))
       (λ t c n e h.
       let w = first-within t c n e in
       let a = w .fits in
       let b = w .sized in
-      let m = ok k c (first-scalar t c n e) .0 in
+      let m = case-sizes R law k c (first-scalar t c n e) .0 in
       rw (case-step t c n e, length-append (encodeAll (caseOf R k c)) (cased R k (drop n t))) (omega (arith, length-drop n t)))
 
 -- ---- a text stays a text

@@ -1,10 +1,10 @@
 -- Laws of document 01's repertoire: where its members lie, and what its case mappings are. Assumes nothing.
 use mathlib.Core.Path.{_≡_, refl, ap, _∙_}
-use mathlib.Core.Bool.{Bool, true, false, _&&_, _||_, not}
+use mathlib.Core.Bool.{Bool, true, false, cond, _&&_, _||_, not}
 use mathlib.Core.List.{List, [], _∷_}
 use Prim.Native.Nat.{ℕ, _+_, _-_, _<_, _≤_}
 use native.Mathlib.Omega.{arith}
-use borrow.Author.Tests.{eq-eqb, ne-eqb, leb-true}
+use borrow.Author.Tests.{eq-eqb, ne-eqb, leb-true, not-true}
 use lib.Dec.{T, leb}
 use lib.ListN.{length}
 use Rattle.lists.specs.Lists.{all}
@@ -14,12 +14,12 @@ use Rattle.utf8.specs.Utf8.{within}
 use Rattle.utf8.specs.Encode.{scalar, size, encode, encodeAll}
 use Rattle.utf8.proofs.Forms.{within-below, within-above}
 use Rattle.utf8.proofs.Encode.{scalar-low, size-encode, encode-single}
-use Rattle.unicode.specs.Repertoire.{Lawful, catalogue, isMember, isSmall, isCapital, upperOf, lowerOf}
+use Rattle.unicode.specs.Repertoire.{Lawful, catalogue, isMember, isMark, isAlnum, isWhite, isSmall, isCapital, upperOf, lowerOf, widthOf}
 use Rattle.unicode.specs.declared.Case.{Case}
 use Rattle.unicode.specs.declared.Case.the-variants.{Upper, Lower}
 use Rattle.unicode.specs.Case.{caseOf, cased}
 use Rattle.unicode.proofs.Plain.{not-or}
-use Rattle.unicode.proofs.Cased.{Shrinks, case-le}
+use Rattle.unicode.proofs.Cased.{case-le}
 
 pub member-below : (c : ℕ) → catalogue .member c ≡ true → c < 0x400
 unfolding isMember
@@ -104,9 +104,6 @@ lower-within : (c : ℕ) → isMember c ≡ true → all isMember (lowerOf c) �
 unfolding case-test
 lower-within c e = not-or (isMember c) (all isMember (lowerOf c)) (at-each (case-test Lower) 0x400 tt c (member-below c e)) e
 
-pub catalogue-lawful : Lawful catalogue
-catalogue-lawful = record { scalars = λ c e. scalar-low c (let h = member-below c e in omega arith); uppers = upper-within; lowers = lower-within }
-
 -- ---- no mapping is longer than its character
 shrink-test : Case → ℕ → Bool
 unfolding upperOf lowerOf isSmall isCapital within encodeAll encode size scalar
@@ -121,14 +118,59 @@ unfolding shrink-test
 shrink-below Upper c h = true-of (shrink-test Upper c) (at-each (shrink-test Upper) 0x400 tt c h)
 shrink-below Lower c h = true-of (shrink-test Lower c) (at-each (shrink-test Lower) 0x400 tt c h)
 
-pub catalogue-shrinks : Shrinks catalogue
+case-shrinks : (k : Case) (c : ℕ) → scalar c ≡ true → (length (encodeAll (caseOf catalogue k c)) ≤ size c) × (all scalar (caseOf catalogue k c) ≡ true)
 unfolding shrink-test
-catalogue-shrinks k c e =
+case-shrinks k c e =
     by-less _ c 0x400
     (λ h.
     let p = and-both (leb (length (encodeAll (caseOf catalogue k c))) (size c)) (all scalar (caseOf catalogue k c)) (shrink-below k c h) in
     (leb-true _ _ (p .0), p .1))
     (λ h. rw (← same-above k c h) (omega (arith, ap length (encode-single c) ∙ size-encode c), rw e))
 
+-- ---- U+0020 is a member, and white space is not alphanumeric
+space-member : isMember 0x20 ≡ true
+unfolding isMember within
+space-member = refl
+
+white-low : (c : ℕ) → isWhite c ≡ true → c ≤ 160
+unfolding isWhite
+white-low c e =
+    by-less _ 160 c
+    (λ h.
+    never _ (isWhite c) e (simp (within-above 0x09 0x0A c (omega arith), ne-eqb c 0x0D (λ q. omega arith), ne-eqb c 0x20 (λ q. omega arith), ne-eqb c 0xA0 (λ q. omega arith))))
+    (λ h. h)
+
+white-test : ℕ → Bool
+unfolding isWhite isAlnum within
+white-test c = not (isWhite c) || not (isAlnum c)
+
+white-other : (c : ℕ) → isWhite c ≡ true → isAlnum c ≡ false
+unfolding white-test
+white-other c e =
+    let h = white-low c e in
+    not-true (isAlnum c) (not-or (isWhite c) (not (isAlnum c)) (at-each white-test 161 tt c (omega arith)) e)
+
+-- ---- marks take no column, all others one
+column : (b : Bool) → cond b 0 1 ≤ 1
+column true = omega arith
+column false = omega arith
+
+width-le : (c : ℕ) → widthOf c ≤ 1
+unfolding widthOf
+width-le c = column (isMark c)
+
+pub catalogue-lawful : Lawful catalogue
+catalogue-lawful =
+    record {
+      scalars = λ c e. scalar-low c (let h = member-below c e in omega arith);
+      uppers = upper-within;
+      lowers = lower-within;
+      upperSizes = case-shrinks Upper;
+      lowerSizes = case-shrinks Lower;
+      space = space-member;
+      whites = white-other;
+      columns = width-le;
+    }
+
 pub cased-le : (k : Case) (s : List ℕ) → length (cased catalogue k s) ≤ length s
-cased-le k s = case-le catalogue k catalogue-shrinks s
+cased-le k s = case-le catalogue k catalogue-lawful s

@@ -12,13 +12,13 @@ use Rattle.lists.proofs.Stores.{sets-append}
 use Rattle.utf8.specs.Utf8.{char, bad, first}
 use Rattle.utf8.specs.Encode.{scalar, size, encode, encodeAll, fitting, EncodedAt}
 use Rattle.utf8.proofs.Encode.{size-encode, encode-single, first-scalar}
-use Rattle.unicode.specs.Repertoire.{Repertoire, catalogue}
+use Rattle.unicode.specs.Repertoire.{Repertoire, Lawful, catalogue}
 use Rattle.unicode.specs.declared.Case.{Case}
 use Rattle.unicode.specs.declared.Mapped.{Mapped}
 use Rattle.unicode.specs.declared.Mapped.the-variants.{One, Two}
 use Rattle.unicode.specs.Case.{caseOf, asChars, cased, casedInto, MappedFits, MappedAt, CasedInto}
 use Rattle.unicode.proofs.Text.{within-at}
-use Rattle.unicode.proofs.Cased.{Shrinks, case-step, case-none}
+use Rattle.unicode.proofs.Cased.{case-sizes, case-step, case-none}
 
 -- ---- a mapping
 -- a character that has a form and for which there is room is written whole
@@ -92,18 +92,18 @@ module _ (R : Repertoire) (k : Case) (before s : List ℕ) where
   pub writing-start : length s ≤ length before → Writing R k before s before 0 0
   writing-start h = record { done = []; bytes = refl; counted = refl; rest = refl; under = omega arith; within = omega arith; room = h }
 
-  module _ (ok : Shrinks R) (after : List ℕ) (i n c len : ℕ) (m : Mapped) (w : Writing R k before s after i n) (f : first (drop i s) ≡ char c len)
+  module _ (law : Lawful R) (after : List ℕ) (i n c len : ℕ) (m : Mapped) (w : Writing R k before s after i n) (f : first (drop i s) ≡ char c len)
       (e : asChars m ≡ caseOf R k c) where
     -- the character c at i has a mapping that fits
     pub writing-fits : MappedFits (length after) n m
     writing-fits =
-        let o = ok k c (first-scalar (drop i s) c len f) in
+        let o = case-sizes R law k c (first-scalar (drop i s) c len f) in
         let p = within-at s i c len (w .within) f in
         record { forms = rw e (o .1); room = rw e (omega (arith, o .0, p .1, p .2, writing-length w)) }
 
     pub writing-step : (out : List ℕ) (r : ℕ) → MappedAt after n m out r → Writing R k before s out (i + len) (n + r)
     writing-step out r a =
-        let o = ok k c (first-scalar (drop i s) c len f) in
+        let o = case-sizes R law k c (first-scalar (drop i s) c len f) in
         let p = within-at s i c len (w .within) f in
         let x = encodeAll (caseOf R k c) in
         let b : out ≡ sets after n x = a .bytes ∙ ap (λ (l : List ℕ). sets after n (encodeAll l)) e in

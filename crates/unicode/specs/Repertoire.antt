@@ -1,12 +1,13 @@
 -- A repertoire: which code points a text may hold, and what the rules on text ask of each. Everything above takes it as a parameter.
-use Prim.Native.Nat.{ℕ, _+_, _-_}
+use Prim.Native.Nat.{ℕ, _+_, _-_, _≤_}
 use mathlib.Core.Path.{_≡_}
-use mathlib.Core.Bool.{Bool, true, cond, _||_}
+use mathlib.Core.Bool.{Bool, true, false, cond, _||_}
 use mathlib.Core.List.{List, [], _∷_}
 use lib.Dec.{eqb}
+use lib.ListN.{length}
 use Rattle.lists.specs.Lists.{all}
 use Rattle.utf8.specs.Utf8.{within}
-use Rattle.utf8.specs.Encode.{scalar}
+use Rattle.utf8.specs.Encode.{scalar, size, encodeAll}
 
 pub record Repertoire : Type 0 where
   pub member : ℕ → Bool
@@ -22,11 +23,21 @@ pub record Repertoire : Type 0 where
   -- columns on a terminal
   pub width : ℕ → ℕ
 
--- what the laws ask of a repertoire: its members have a form in UTF-8, and case stays within it
+-- what the laws ask of a repertoire
 pub record Lawful (R : Repertoire) : Type 0 where
+  -- its members have a form in UTF-8, and case stays within it
   pub scalars : (c : ℕ) → R .member c ≡ true → scalar c ≡ true
   pub uppers : (c : ℕ) → R .member c ≡ true → all (R .member) (R .upper c) ≡ true
   pub lowers : (c : ℕ) → R .member c ≡ true → all (R .member) (R .lower c) ≡ true
+  -- no mapping is longer in bytes than its character, and each has a form in UTF-8
+  pub upperSizes : (c : ℕ) → scalar c ≡ true → (length (encodeAll (R .upper c)) ≤ size c) × (all scalar (R .upper c) ≡ true)
+  pub lowerSizes : (c : ℕ) → scalar c ≡ true → (length (encodeAll (R .lower c)) ≤ size c) × (all scalar (R .lower c) ≡ true)
+  -- U+0020, which indent puts in, is a member
+  pub space : R .member 0x20 ≡ true
+  -- white space, which dedent cuts, is not alphanumeric
+  pub whites : (c : ℕ) → R .white c ≡ true → R .alnum c ≡ false
+  -- no character takes more than a column
+  pub columns : (c : ℕ) → R .width c ≤ 1
 
 -- document 01, "Repertoire and clusters"
 

@@ -6,7 +6,6 @@ ghost use lib.ListN.{length, take};
 ghost use Rattle.lists.specs.Lists.{part};
 ghost use Rattle.utf8.specs.Chars.{valid, boundary};
 ghost use Rattle.unicode.specs.Repertoire.{catalogue};
-ghost use Rattle.journal.specs.Layout.{narrow};
 ghost use Rattle.journal.specs.Undo.{fits};
 ghost use Rattle.edit.specs.Plan.{listAfter, tooLong, edited};
 ghost use Rattle.edit.specs.Calls.{lent, sizesOf, stateOf, Edited, Ready};
@@ -21,10 +20,10 @@ use edit::room_cut;
 use edit::room_now;
 use edit::room_put;
 use edit::says;
+use formats::Format;
 use keymap::RepeatCount;
 use places::words_back;
 use places::words_on;
-use records::NARROW;
 
 // Two words of a text, by their places.
 pub struct Words {
@@ -52,12 +51,20 @@ pub fn words_around(s: &[u8], pos: usize, n: RepeatCount) -> Words
 }
 
 // Has the log room for the two words put in for each other?
-pub fn words_fit(text: &[u8], records: &[u8], texts: &[u8], line: Line, log: Log, w: Words) -> bool
-    requires { ⌜ Ready narrow (lent (now text) (now records) (now texts) line log) ⌝ }
+pub fn words_fit(
+    f: Format,
+    text: &[u8],
+    records: &[u8],
+    texts: &[u8],
+    line: Line,
+    log: Log,
+    w: Words,
+) -> bool
+    requires { ⌜ Ready f (lent (now text) (now records) (now texts) line log) ⌝ }
     requires { ⌜ Apart (take (line .len) (now text)) w ⌝ }
     requires { ⌜ tooLong (length (now text)) (wordsPlan (take (line .len) (now text)) w .pieces) (take (line .len) (now text)) ≡ false ⌝ }
-    ensures { λ r. ⌜ r ≡ fits narrow (sizesOf (lent (now (text .entry)) (now (records .entry)) (now (texts .entry)) line log))
-        (listAfter catalogue (wordsPlan (take (line .len) (now (text .entry))) w .pieces) (take (line .len) (now (text .entry))) (stateOf catalogue narrow (lent (now (text .entry)) (now (records .entry)) (now (texts .entry)) line log) .log .undo)) ⌝ }
+    ensures { λ r. ⌜ r ≡ fits f (sizesOf (lent (now (text .entry)) (now (records .entry)) (now (texts .entry)) line log))
+        (listAfter catalogue (wordsPlan (take (line .len) (now (text .entry))) w .pieces) (take (line .len) (now (text .entry))) (stateOf catalogue f (lent (now (text .entry)) (now (records .entry)) (now (texts .entry)) line log) .log .undo)) ⌝ }
 {
     let a = w.beg1;
     let b = w.end1;
@@ -65,16 +72,17 @@ pub fn words_fit(text: &[u8], records: &[u8], texts: &[u8], line: Line, log: Log
     let d = w.end2;
     let second = is_single(&text[c..d]);
     let first = is_single(&text[a..b]);
-    let r0 = room_now(NARROW, records, texts, log);
-    let r1 = room_cut(NARROW, records, texts, r0, second, c, d);
-    let r2 = room_put(NARROW, records, texts, r1, c, b - a);
-    let r3 = room_cut(NARROW, records, texts, r2, first, a, b);
-    let r4 = room_put(NARROW, records, texts, r3, a, d - c);
+    let r0 = room_now(f, records, texts, log);
+    let r1 = room_cut(f, records, texts, r0, second, c, d);
+    let r2 = room_put(f, records, texts, r1, c, b - a);
+    let r3 = room_cut(f, records, texts, r2, first, a, b);
+    let r4 = room_put(f, records, texts, r3, a, d - c);
     r4.fits
 }
 
 // The two words put in for each other, where there is room for all four changes.
 pub fn put_words(
+    f: Format,
     text: &mut [u8],
     records: &mut [u8],
     texts: &mut [u8],
@@ -84,32 +92,32 @@ pub fn put_words(
     first: &[u8],
     second: &[u8],
 ) -> EditAnswer
-    requires { ⌜ Ready narrow (lent (now text) (now records) (now texts) line log) ⌝ }
+    requires { ⌜ Ready f (lent (now text) (now records) (now texts) line log) ⌝ }
     requires { ⌜ Apart (take (line .len) (now text)) w ⌝ }
     requires { ⌜ now first ≡ part (take (line .len) (now text)) (w .beg1) (w .end1) ⌝ }
     requires { ⌜ now second ≡ part (take (line .len) (now text)) (w .beg2) (w .end2) ⌝ }
     requires { ⌜ tooLong (length (now text)) (wordsPlan (take (line .len) (now text)) w .pieces) (take (line .len) (now text)) ≡ false ⌝ }
-    requires { ⌜ fits narrow (sizesOf (lent (now text) (now records) (now texts) line log))
-        (listAfter catalogue (wordsPlan (take (line .len) (now text)) w .pieces) (take (line .len) (now text)) (stateOf catalogue narrow (lent (now text) (now records) (now texts) line log) .log .undo)) ≡ true ⌝ }
-    ensures { λ r. ⌜ Edited narrow (lent (now (text .entry)) (now (records .entry)) (now (texts .entry)) line log)
-        (edited catalogue narrow (sizesOf (lent (now (text .entry)) (now (records .entry)) (now (texts .entry)) line log)) (length (now (text .entry))) (wordsPlan (take (line .len) (now (text .entry))) w)
-        (stateOf catalogue narrow (lent (now (text .entry)) (now (records .entry)) (now (texts .entry)) line log)))
+    requires { ⌜ fits f (sizesOf (lent (now text) (now records) (now texts) line log))
+        (listAfter catalogue (wordsPlan (take (line .len) (now text)) w .pieces) (take (line .len) (now text)) (stateOf catalogue f (lent (now text) (now records) (now texts) line log) .log .undo)) ≡ true ⌝ }
+    ensures { λ r. ⌜ Edited f (lent (now (text .entry)) (now (records .entry)) (now (texts .entry)) line log)
+        (edited catalogue f (sizesOf (lent (now (text .entry)) (now (records .entry)) (now (texts .entry)) line log)) (length (now (text .entry))) (wordsPlan (take (line .len) (now (text .entry))) w)
+        (stateOf catalogue f (lent (now (text .entry)) (now (records .entry)) (now (texts .entry)) line log)))
         r (now (text .exit)) (now (records .exit)) (now (texts .exit)) ⌝ }
 {
     let a = w.beg1;
     let b = w.end1;
     let c = w.beg2;
     let d = w.end2;
-    let r1 = cut_out(NARROW, text, records, texts, line, log, c, d);
+    let r1 = cut_out(f, text, records, texts, line, log, c, d);
     let line1 = r1.line;
     let log1 = r1.log;
-    let r2 = put_in(NARROW, text, records, texts, line1, log1, c, first, c);
+    let r2 = put_in(f, text, records, texts, line1, log1, c, first, c);
     let line2 = r2.line;
     let log2 = r2.log;
-    let r3 = cut_out(NARROW, text, records, texts, line2, log2, a, b);
+    let r3 = cut_out(f, text, records, texts, line2, log2, a, b);
     let line3 = r3.line;
     let log3 = r3.log;
-    let r4 = put_in(NARROW, text, records, texts, line3, log3, a, second, a);
+    let r4 = put_in(f, text, records, texts, line3, log3, a, second, a);
     let line4 = r4.line;
     let log4 = r4.log;
     let last = Line {

@@ -22,7 +22,7 @@ note-and-cancel-requires-2 : tie.Need-note-and-cancel-requires-2
 note-and-cancel-requires-2 c κs =
     let s = c .before .before .before .before .before .before .before .before in
     let h = s .pre .1 in
-    (s .pre .0, (h, omega (arith, h .log .hold .room, h .log .records)))
+    (s .pre .0, (h, omega (arith, h .log .hold .room, h .log .records, h .log .fit .records)))
 
 same-length-2 : tie.Need-same-length-2
 same-length-2 c = search needs

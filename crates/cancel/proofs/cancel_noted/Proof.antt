@@ -3,7 +3,6 @@ use native.Mathlib.Omega.{arith}
 use mathlib.Core.Path.{ap, _∙_}
 use denote.Ref.{now}
 use Rattle.unicode.specs.Repertoire.{catalogue}
-use Rattle.records.specs.Formats.{asFormat}
 use Rattle.edit.specs.Calls.{says, stateOf}
 use Rattle.retrace.specs.Records.{SizesOf}
 use Rattle.undo.specs.Steps.{lineOf, lentBy}
@@ -15,7 +14,8 @@ use Rattle.cancel.proofs.cancel_noted.Tie as tie
 
 abbrev Inv-loop : tie.InvT-loop
 Inv-loop f text₀ records texts sizes count mark begins s₀ g₀ left₀ text s g left =
-    Cancelling (asFormat f) (lentBy text₀ records texts s₀ g₀) mark text s g left × SizesOf (asFormat f) sizes (stateOf catalogue (asFormat f) (lentBy text records texts s g) .log .undo)
+    Cancelling f (lentBy text₀ records texts s₀ g₀) mark text s g left × SizesOf f sizes
+    ((stateOf catalogue f (lentBy text records texts s g)) .log .undo)
 
 abbrev μ-loop : tie.MeasureT-loop
 μ-loop f text₀ records texts sizes count mark begins s₀ g₀ left₀ text s g left = left
@@ -35,11 +35,11 @@ loop-holds c =
 undo-record-requires : tie.Need-undo-record-requires Inv-loop μ-loop
 undo-record-requires c κs =
     let s = c .before .before .before .before .before .before .before in
-    let b = c .before .before .loop in
-    let k = b .inv .0 in
-    let h = c .before .loop-test .taken in
-    let n = cancel-more k h .2 in
-    (s .pre .0, (k .come .ready, ((k .come .number, newest-some (k .come .ready) n, omega (arith, s .pre .1 .1 .0, k .come .unmoved .fewer)), b .inv .1)))
+    let b = c.before.before.loop in
+    let k = b.inv.0 in
+    let h = c.before.loop-test.taken in
+    let n = (cancel-more k h) .2 in
+    (s.pre.0, (k.come.ready, ((k.come.number, newest-some k.come.ready n, omega (arith, s.pre.1.1.0, k.come.unmoved.fewer)), b.inv.1)))
 
 answer-requires : tie.Need-answer-requires Inv-loop μ-loop
 answer-requires c κs = search needs
@@ -96,11 +96,11 @@ same-length-2 c = search needs
 
 returns-2 : tie.Need-returns-2 Inv-loop μ-loop
 returns-2 c =
-    let s = c .before .before .before .before .before .before .before .before .before in
-    let g = s .pre .1 .1 .1 .1 in
-    let b = c .before .before .before .before .loop in
-    let k = b .inv .0 in
-    cancel-ended k (g .1 .0) (c .before .before .before .loop-test .left) (g .1 .1) (c .says .ensures ∙ ap (says 0 (lineOf (b .s))) (c .before .cancel .ensures))
+    let s = c .before .before .before .before .before .before .before .before in
+    let g = s.pre.1.1.1.1 in
+    let b = c .before .before .before .loop in
+    let k = b.inv.0 in
+    cancel-ended k g.1.0 c.before.before.loop-test.left g.1.1 (c.says.ensures ∙ ap (says 0 (lineOf b.s)) c.before.cancel.ensures)
 
 pub cancel-noted-spec : {M : Type 1} → statement M
 cancel-noted-spec =

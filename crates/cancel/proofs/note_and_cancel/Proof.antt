@@ -5,7 +5,6 @@ use lib.ListN.{length-reverse}
 use lib.Seq.{length-take-le}
 use denote.Ref.{now}
 use Rattle.unicode.specs.Repertoire.{catalogue}
-use Rattle.records.specs.Formats.{asFormat}
 use Rattle.changeset.specs.Calls.{undos}
 use Rattle.changeset.proofs.Recorded.{lays, listed}
 use Rattle.edit.specs.Calls.{lent, logLent, stateOf}
@@ -27,7 +26,7 @@ note-sizes-requires c κs =
     let h = s .pre .1 .0 in
     let l = lent (now (a .text)) (now (a .records)) (now (a .texts)) (a .line) (a .log) in
     let e = length-take-le (a .log .undo .records) (now (a .records)) (omega (arith, h .log .hold .room)) in
-    (s .pre .0, (listed (asFormat (a .f)) (logLent l) (h .log), omega (arith, e, s .pre .1 .1)))
+    (s .pre .0, (listed (a .f) (logLent l) (h .log), omega (arith, e, s .pre .1 .1)))
 
 slice-aggregate-open-begins : tie.Need-slice-aggregate-open-begins
 slice-aggregate-open-begins c =
@@ -44,8 +43,8 @@ open-begins-requires c κs =
     let l = lent (now (a .text)) (now (a .records)) (now (a .texts)) (a .line) (a .log) in
     let e = length-take-le (a .log .undo .records) (now (a .records)) (omega (arith, h .log .hold .room)) in
     let n = c .before .before .before .before .note-sizes in (
-      record { format = asFormat (a .f); listed = listed (asFormat (a .f)) (logLent l) (h .log); noted = n .ensures },
-      (omega (arith, e, n .kept .1 .1 .0, s .pre .1 .1), omega (arith, e, h .log .hold .room, h .log .records)),
+      record { format = (a .f); listed = listed (a .f) (logLent l) (h .log); noted = n .ensures },
+      (omega (arith, e, n .kept .1 .1 .0, s .pre .1 .1), omega (arith, e, h .log .hold .room, h .log .records, h .log .fit .records)),
     )
 
 says-requires : tie.Need-says-requires
@@ -60,33 +59,35 @@ returns c =
     let a = s .args in
     let h = s .pre .1 .0 in
     let l = lent (now (a .text)) (now (a .records)) (now (a .texts)) (a .line) (a .log) in
-    let u = stateOf catalogue (asFormat (a .f)) l .log .undo in
-    let d = lays (asFormat (a .f)) (logLent l) (h .log) in
+    let u = stateOf catalogue (a .f) l .log .undo in
+    let d = lays (a .f) (logLent l) (h .log) in
     let n = c .before .before .before .before .before .before .before .note-sizes in
-    let o = c .before .before .open-begins .ensures (asFormat (a .f)) (n .ensures) _ _ d in
+    let o = c .before .before .open-begins .ensures (a .f) (n .ensures) _ _ d in
     (cancels-nothing h (a .mark) (not-open (a .mark) u o (c .before .if1 .taken)) (c .says .ensures), λ e. refl)
 
 cancel-noted-requires : tie.Need-cancel-noted-requires
 cancel-noted-requires c κs =
-    let s = c .before .before .before .before .before .before .before .before .before .before .before .before .before .before .before .before in
-    let a = s .args in
-    let h = s .pre .1 .0 in
-    let l = lent (now (a .text)) (now (a .records)) (now (a .texts)) (a .line) (a .log) in
-    let u = stateOf catalogue (asFormat (a .f)) l .log .undo in
-    let d = lays (asFormat (a .f)) (logLent l) (h .log) in
+    let after-open-begins = c .before .before .before in
+    let s = c .before .before .before .before .before .before .before .before .before .before .before .before .before .before
+    .before .before in
+    let a = s.args in
+    let h = s.pre.1.0 in
+    let l = lent (now a.text) (now a.records) (now a.texts) a.line a.log in
+    let u = (stateOf catalogue a.f l) .log .undo in
+    let d = lays a.f (logLent l) h.log in
     let n = c .before .before .before .before .before .before .before .before .note-sizes in
-    let o = c .before .before .before .open-begins .ensures (asFormat (a .f)) (n .ensures) _ _ d in
-    let i = n .ensures _ _ d in (
-      s .pre .0,
+    let o = after-open-begins.open-begins.ensures a.f n.ensures _ _ d in
+    let i = n.ensures _ _ d in (
+      s.pre.0,
       (
         h,
         (
-          omega (arith, n .kept .1 .1 .0, s .pre .1 .1),
+          omega (arith, n.kept.1.1.0, s.pre.1.1),
           (
-            i .1,
+            i.1,
             (
-              i .0 ∙ sym (length-reverse (undos catalogue (asFormat (a .f)) (logLent l))),
-              (is-open (a .mark) u o (c .before .before .if1 .left), its-begins (a .mark) u o (c .before .before .if1 .left)),
+              i.0 ∙ sym (length-reverse (undos catalogue a.f (logLent l))),
+              (is-open a.mark u o c.before.before.if1.left, its-begins a.mark u o c.before.before.if1.left),
             ),
           ),
         ),

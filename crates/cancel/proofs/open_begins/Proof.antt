@@ -5,7 +5,8 @@ use mathlib.Core.Path.{refl}
 use lib.ListN.{getD}
 use denote.Ref.{now}
 use Rattle.unicode.specs.Repertoire.{catalogue}
-use Rattle.journal.specs.Layout.{Format}
+use Rattle.formats.specs.declared.Format.{Format}
+use Rattle.formats.specs.Formats.{recordsMax}
 use Rattle.retrace.specs.Records.{Noted}
 use Rattle.cancel.proofs.Opens.{Downs, down-first, down-ended, last, down-end, down-found, down-on}
 use Rattle.cancel.proofs.open_begins.Statement.{statement}
@@ -13,7 +14,8 @@ use Rattle.cancel.proofs.open_begins.Tie as tie
 
 abbrev Inv-loop : tie.InvT-loop
 Inv-loop records sizes count mark at₀ left₀ begins₀ at left begins =
-    (begins + at ≤ 32768) × ((F : Format) → Noted catalogue F records count sizes → Downs catalogue F records sizes mark at left begins)
+    (begins + at ≤ recordsMax) ×
+    ((F : Format) → Noted catalogue F records count sizes → Downs catalogue F records sizes mark at left begins)
 
 abbrev μ-loop : tie.MeasureT-loop
 μ-loop records sizes count mark at₀ left₀ begins₀ at left begins = at

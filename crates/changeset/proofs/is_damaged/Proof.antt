@@ -4,7 +4,6 @@ use native.Mathlib.Omega.{arith}
 use borrow.Author.Tests.{lt-ltb, le-ltb, not-true, not-false}
 use lib.Seq.{length-take-le}
 use Rattle.unicode.specs.Repertoire.{catalogue}
-use Rattle.records.specs.Formats.{asFormat}
 use Rattle.changeset.specs.Logs.{damaged}
 use Rattle.changeset.proofs.Sums.{list-behind}
 use borrow.Author.Needs.{needs}
@@ -59,7 +58,7 @@ returns-3 : tie.Need-returns-3
 unfolding damaged
 returns-3 c = let g = c .before .before .before .before .before .before .before .before .before .before .before .before .before .before .before .args .log in
     simp (le-ltb _ _ (c .before .before .before .before .before .before .before .before .before .before .before .if1 .left), sym (c .before .before .before .before .before .before .check-list .ensures) ∙ not-false _ (c .before .before .before .before .before .if2 .left))
-    (ap not (list-behind catalogue (asFormat (c .before .before .before .before .before .before .before .before .before .before .before .before .before .before .before .args .f)) (c .before .before .before .before .before .before .before .before .before .before .before .before .before .before .before .args .records .now) (c .before .before .before .before .before .before .before .before .before .before .before .before .before .before .before .args .texts .now) (g .undo .records) (g .redo .records) (g .undo .texts) (g .redo .texts) _ (c .check-list2 .ensures)))
+    (ap not (list-behind catalogue (c .before .before .before .before .before .before .before .before .before .before .before .before .before .before .before .args .f) (c .before .before .before .before .before .before .before .before .before .before .before .before .before .before .before .args .records .now) (c .before .before .before .before .before .before .before .before .before .before .before .before .before .before .before .args .texts .now) (g .undo .records) (g .redo .records) (g .undo .texts) (g .redo .texts) _ (c .check-list2 .ensures)))
 
 pub is-damaged-spec : {M : Type 1} → statement M
 is-damaged-spec =

@@ -1,5 +1,6 @@
 use mathlib.Core.Path.{sym, ap, _∙_}
-use Rattle.checks.specs.Answers.{movedTo}
+use Rattle.motion.specs.declared.Found.{Found}
+use Rattle.checks.specs.Answers.{lineAnswer, movedTo}
 use borrow.Author.Needs.{needs}
 use Rattle.checks.proofs.moved_to.Statement.{statement}
 use Rattle.checks.proofs.moved_to.Tie as tie
@@ -17,10 +18,10 @@ says-requires-2 : tie.Need-says-requires-2
 says-requires-2 c κs = search needs
 
 returns : tie.Need-returns
-returns c = c .says .ensures ∙ sym (ap (movedTo (c .before .before .before .before .args .line)) (c .before .before .f .given .1))
+returns c = c .says .ensures ∙ sym (ap (λ (f : Found). lineAnswer (c .before .before .before .before .args .line) (movedTo (c .before .before .before .before .args .line) f)) (c .before .before .f .given .1))
 
 returns-2 : tie.Need-returns-2
-returns-2 c = c .says2 .ensures ∙ sym (ap (movedTo (c .before .before .before .args .line)) (c .before .enum-told .given .1))
+returns-2 c = c .says2 .ensures ∙ sym (ap (λ (f : Found). lineAnswer (c .before .before .before .args .line) (movedTo (c .before .before .before .args .line) f)) (c .before .enum-told .given .1))
 
 pub moved-to-spec : {M : Type 1} → statement M
 moved-to-spec =

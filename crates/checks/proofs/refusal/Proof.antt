@@ -1,71 +1,27 @@
-use mathlib.Core.Path.{sym, _∙_}
-use borrow.Author.Tests.{lt-ltb, le-ltb, not-true, not-false}
-use lib.Seq.{length-take-le}
+use mathlib.Core.Path.{ap, _∙_}
+use denote.Ref.{now}
+use Prim.Native.Nat.{ℕ}
+use Rattle.formats.specs.declared.Format.{Format}
 use Rattle.unicode.specs.Repertoire.{catalogue}
-use Rattle.unicode.proofs.Text.{text-valid}
-use Rattle.checks.specs.Checks.{refusal}
+use Rattle.checks.specs.Checks as Checks
 use borrow.Author.Needs.{needs}
 use Rattle.checks.proofs.refusal.Statement.{statement}
 use Rattle.checks.proofs.refusal.Tie as tie
 
+format-for-requires : tie.Need-format-for-requires
+format-for-requires c κs = search needs
+
+refusal-in-requires : tie.Need-refusal-in-requires
+refusal-in-requires c κs = search needs
+
 returns : tie.Need-returns
-unfolding refusal
-returns c = simp (lt-ltb _ _ (c .if1 .taken))
-
-returns-2 : tie.Need-returns-2
-unfolding refusal
-returns-2 c = simp (le-ltb _ _ (c .before .if1 .left), lt-ltb _ _ (c .if2 .taken))
-
-returns-3 : tie.Need-returns-3
-unfolding refusal
-returns-3 c = simp (le-ltb _ _ (c .before .before .if1 .left), le-ltb _ _ (c .before .if2 .left), c .if3 .taken)
-
-slice-aggregate-lent : tie.Need-slice-aggregate-lent
-slice-aggregate-lent c = sym (length-take-le _ _ (c .before .before .if2 .left))
-
-check-text-requires : tie.Need-check-text-requires
-check-text-requires c κs = search needs
-
-returns-4 : tie.Need-returns-4
-unfolding refusal
-returns-4 c = simp (le-ltb _ _ (c .before .before .before .before .before .if1 .left), le-ltb _ _ (c .before .before .before .before .if2 .left), c .before .before .before .if3 .left, sym (c .before .check-text .ensures) ∙ not-true _ (c .if4 .taken))
-
-returns-5 : tie.Need-returns-5
-unfolding refusal
-returns-5 c = simp (le-ltb _ _ (c .before .before .before .before .before .before .if1 .left), le-ltb _ _ (c .before .before .before .before .before .if2 .left), c .before .before .before .before .if3 .left, (sym (c .before .before .check-text .ensures) ∙ not-false _ (c .before .if4 .left)), c .if5 .taken)
-
-returns-6 : tie.Need-returns-6
-unfolding refusal
-returns-6 c = simp (le-ltb _ _ (c .before .before .before .before .before .before .before .if1 .left), le-ltb _ _ (c .before .before .before .before .before .before .if2 .left), c .before .before .before .before .before .if3 .left, (sym (c .before .before .before .check-text .ensures) ∙ not-false _ (c .before .before .if4 .left)), c .before .if5 .left, lt-ltb _ _ (c .if6 .taken))
-
-returns-7 : tie.Need-returns-7
-unfolding refusal
-returns-7 c = simp (le-ltb _ _ (c .before .before .before .before .before .before .before .before .if1 .left), le-ltb _ _ (c .before .before .before .before .before .before .before .if2 .left), c .before .before .before .before .before .before .if3 .left, (sym (c .before .before .before .before .check-text .ensures) ∙ not-false _ (c .before .before .before .if4 .left)), c .before .before .if5 .left, le-ltb _ _ (c .before .if6 .left), c .if7 .taken)
-
-is-boundary-requires : tie.Need-is-boundary-requires
-is-boundary-requires c κs = search needs
-
-returns-8 : tie.Need-returns-8
-unfolding refusal
-returns-8 c = simp (le-ltb _ _ (c .before .before .before .before .before .before .before .before .before .before .if1 .left), le-ltb _ _ (c .before .before .before .before .before .before .before .before .before .if2 .left), c .before .before .before .before .before .before .before .before .if3 .left, (sym (c .before .before .before .before .before .before .check-text .ensures) ∙ not-false _ (c .before .before .before .before .before .if4 .left)), c .before .before .before .before .if5 .left, le-ltb _ _ (c .before .before .before .if6 .left), c .before .before .if7 .left, sym (c .before .is-boundary .ensures .1 (text-valid catalogue _ (sym (c .before .before .before .before .before .before .check-text .ensures) ∙ not-false _ (c .before .before .before .before .before .if4 .left)))) ∙ c .if8 .taken)
-
-returns-9 : tie.Need-returns-9
-unfolding refusal
-returns-9 c = simp (le-ltb _ _ (c .before .before .before .before .before .before .before .before .before .before .if1 .left), le-ltb _ _ (c .before .before .before .before .before .before .before .before .before .if2 .left), c .before .before .before .before .before .before .before .before .if3 .left, (sym (c .before .before .before .before .before .before .check-text .ensures) ∙ not-false _ (c .before .before .before .before .before .if4 .left)), c .before .before .before .before .if5 .left, le-ltb _ _ (c .before .before .before .if6 .left), c .before .before .if7 .left, sym (c .before .is-boundary .ensures .1 (text-valid catalogue _ (sym (c .before .before .before .before .before .before .check-text .ensures) ∙ not-false _ (c .before .before .before .before .before .if4 .left)))) ∙ c .if8 .left)
+returns c =
+    let entry = c .before .before .before in
+    c .refusal-in .ensures
+    ∙ ap
+    (λ (F : Format). Checks.refusal
+    (Checks.both (Checks.lineTests catalogue F (now entry.args.text) entry.args.line) (Checks.ownTests entry.args.code entry.args.foreign entry.args.place)))
+    (c .before .format-for .ensures)
 
 pub refusal-spec : {M : Type 1} → statement M
-refusal-spec =
-    tie.close
-    (tie.spec
-    returns
-    returns-2
-    returns-3
-    slice-aggregate-lent
-    check-text-requires
-    returns-4
-    returns-5
-    returns-6
-    returns-7
-    is-boundary-requires
-    returns-8
-    returns-9)
+refusal-spec = tie.close (tie.spec format-for-requires refusal-in-requires returns)

@@ -3,6 +3,7 @@ use mathlib.Core.Bool.{false}
 use Rattle.unicode.specs.Repertoire.{catalogue}
 use Rattle.movement.proofs.Called.{unnamed-refused}
 use Rattle.copies.specs.Copy.{copyBy}
+use Rattle.checks.specs.Answers.{lineAnswer}
 use borrow.Author.Needs.{needs}
 use Rattle.copies.proofs.copy.Statement.{statement}
 use Rattle.copies.proofs.copy.Tie as tie
@@ -23,13 +24,26 @@ says-requires : tie.Need-says-requires
 says-requires c κs = search needs
 
 returns : tie.Need-returns
-returns c = unnamed-refused catalogue (c .before .before .before .before .before .before .args .text .now) (c .before .before .before .before .before .before .args .line) false false _ _ _ (c .before .refusal .ensures) (c .says .ensures) ∙ sym (ap (copyBy catalogue (c .before .before .before .before .before .before .args .text .now) (c .before .before .before .before .before .before .args .line)) (sym (c .before .before .before .before .from-codes .ensures) ∙ c .before .before .enum-told .given .1))
+returns c =
+    let after-from-codes = c .before .before .before .before in
+    let entry = after-from-codes.before.before in
+    unnamed-refused catalogue entry.args.text.now entry.args.line false false _ _ _ c.before.refusal.ensures c.says.ensures
+    ∙ sym
+    (ap (lineAnswer entry.args.line)
+    (ap (copyBy catalogue entry.args.text.now entry.args.line)
+    (sym after-from-codes.from-codes.ensures ∙ c.before.before.enum-told.given.1)))
 
 copy-movement-requires : tie.Need-copy-movement-requires
 copy-movement-requires c κs = search needs
 
 returns-2 : tie.Need-returns-2
-returns-2 c = c .copy-movement .ensures ∙ sym (ap (copyBy catalogue (c .before .before .before .before .before .before .args .text .now) (c .before .before .before .before .before .before .args .line)) (sym (c .before .before .before .before .from-codes .ensures) ∙ c .before .before .code .given .1))
+returns-2 c =
+    let after-from-codes = c .before .before .before .before in
+    let entry = after-from-codes.before.before in
+    c.copy-movement.ensures
+    ∙ sym
+    (ap (lineAnswer entry.args.line)
+    (ap (copyBy catalogue entry.args.text.now entry.args.line) (sym after-from-codes.from-codes.ensures ∙ c.before.before.code.given.1)))
 
 pub copy-spec : {M : Type 1} → statement M
 copy-spec =

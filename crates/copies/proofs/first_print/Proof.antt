@@ -16,7 +16,9 @@ back-to-requires : tie.Need-back-to-requires
 back-to-requires c κs = search needs
 
 returns-2 : tie.Need-returns-2
-returns-2 c = c .back-to .ensures ∙ ap (backTo (c .before .before .before .before .args .pos) 0) (c .before .next-word-pos .ensures) ∙ simp (ne-eqb _ _ (c .before .before .if1 .left))
+returns-2 c =
+    let entry = c .before .before .before .before in
+    c.back-to.ensures ∙ ap (backTo entry.args.pos 0) c.before.next-word-pos.ensures ∙ simp (ne-eqb _ _ c.before.before.if1.left)
 
 pub first-print-spec : {M : Type 1} → statement M
 first-print-spec = tie.close (tie.spec returns next-word-pos-requires back-to-requires returns-2)

@@ -21,7 +21,9 @@ check-char-requires : tie.Need-check-char-requires
 check-char-requires c κs = search needs
 
 returns-2 : tie.Need-returns-2
-returns-2 c = ap not (c .check-char .ensures ∙ ap (isChar catalogue) (c .before .char-of .ensures)) ∙ sym (ap (isForeign catalogue) (c .before .before .before .m .given .1))
+returns-2 c =
+    let after-m = c .before .before .before in
+    ap not (c.check-char.ensures ∙ ap (isChar catalogue) c.before.char-of.ensures) ∙ sym (ap (isForeign catalogue) after-m.m.given.1)
 
 pub is-foreign-spec : {M : Type 1} → statement M
 is-foreign-spec =

@@ -20,16 +20,30 @@ char-size-requires : tie.Need-char-size-requires
 char-size-requires c κs = search needs
 
 add-t9 : tie.Need-add-t9
-add-t9 c = omega (arith, forward-stands catalogue (c .before .before .before .before .before .before .args .s .now) (c .before .before .before .before .before .before .args .pos) (c .before .before .before .before .before .before .args .c) (c .before .before .before .before .before .before .args .n) (c .before .before .f .given .0 .0) (c .before .before .before .before .before .before .pre .0) (c .before .before .before .before .before .before .pre .1) (c .before .before .before .before .before .before .pre .2) (sym (c .before .before .before .before .match-forward .ensures) ∙ c .before .before .f .given .1) .1 .fits, c .char-size .ensures)
+add-t9 c =
+    let after-match-forward = c .before .before .before .before in
+    let entry = after-match-forward.before.before in
+    omega (
+      arith,
+      (forward-stands catalogue entry.args.s.now entry.args.pos entry.args.c entry.args.n c.before.before.f.given.0.0 entry.pre.0
+          entry.pre.1 entry.pre.2 (sym after-match-forward.match-forward.ensures ∙ c.before.before.f.given.1)) .1 .fits,
+      c.char-size.ensures,
+    )
 
 enum-told : tie.Need-enum-told
 enum-told c = search needs
 
 returns : tie.Need-returns
-returns c = ap (λ (x : ℕ). Places (c .before .before .before .before .before .before .args .pos) (c .before .before .f .given .0 .0 + x)) (c .char-size .ensures) ∙ sym (ap (upTo (c .before .before .before .before .before .before .args .pos) (size (c .before .before .before .before .before .before .args .c))) (sym (c .before .before .before .before .match-forward .ensures) ∙ c .before .before .f .given .1))
+returns c =
+    let after-match-forward = c .before .before .before .before in
+    let entry = after-match-forward.before.before in
+    ap (λ (x : ℕ). Places entry.args.pos (c.before.before.f.given.0.0 + x)) c.char-size.ensures
+    ∙ sym (ap (upTo entry.args.pos (size entry.args.c)) (sym after-match-forward.match-forward.ensures ∙ c.before.before.f.given.1))
 
 returns-2 : tie.Need-returns-2
-returns-2 c = sym (ap (upTo (c .before .before .before .before .args .pos) (size (c .before .before .before .before .args .c))) (sym (c .before .before .match-forward .ensures) ∙ c .enum-told .given .1))
+returns-2 c =
+    let entry = c .before .before .before .before in
+    sym (ap (upTo entry.args.pos (size entry.args.c)) (sym c.before.before.match-forward.ensures ∙ c.enum-told.given.1))
 
 pub past-match-spec : {M : Type 1} → statement M
 past-match-spec =

@@ -1,5 +1,6 @@
 use mathlib.Core.Path.{sym, ap, _∙_}
 use Rattle.copies.specs.Copy.{ranged}
+use Rattle.checks.specs.Answers.{lineAnswer}
 use borrow.Author.Needs.{needs}
 use Rattle.copies.proofs.ranged.Statement.{statement}
 use Rattle.copies.proofs.ranged.Tie as tie
@@ -14,10 +15,14 @@ says-requires : tie.Need-says-requires
 says-requires c κs = search needs
 
 returns : tie.Need-returns
-returns c = sym (ap (ranged (c .before .before .before .args .line)) (c .before .f .given .1))
+returns c =
+    let entry = c .before .before .before in
+    sym (ap (lineAnswer entry.args.line) (ap (ranged entry.args.line) c.before.f.given.1))
 
 returns-2 : tie.Need-returns-2
-returns-2 c = c .says .ensures ∙ sym (ap (ranged (c .before .before .before .args .line)) (c .before .enum-told .given .1))
+returns-2 c =
+    let entry = c .before .before .before in
+    c.says.ensures ∙ sym (ap (lineAnswer entry.args.line) (ap (ranged entry.args.line) c.before.enum-told.given.1))
 
 pub ranged-spec : {M : Type 1} → statement M
 ranged-spec = tie.close (tie.spec enum-known-f enum-told says-requires returns returns-2)

@@ -11,10 +11,14 @@ end-of-line-requires : tie.Need-end-of-line-requires
 end-of-line-requires c κs = search needs
 
 returns : tie.Need-returns
-returns c = line-empty catalogue _ _ (c .before .before .start-of-line .result) _ (c .before .before .start-of-line .ensures .0) (c .before .end-of-line .ensures .0) (c .if1 .taken)
+returns c =
+    line-empty catalogue _ _ c.before.before.start-of-line.result _ c.before.before.start-of-line.ensures.0 c.before.end-of-line.ensures.0
+    c.if1.taken
 
 returns-2 : tie.Need-returns-2
-returns-2 c = line-full catalogue _ _ (c .before .before .start-of-line .result) _ (c .before .before .start-of-line .ensures .0) (c .before .end-of-line .ensures .0) (c .if1 .left)
+returns-2 c =
+    line-full catalogue _ _ c.before.before.start-of-line.result _ c.before.before.start-of-line.ensures.0 c.before.end-of-line.ensures.0
+    c.if1.left
 
 pub whole-line-spec : {M : Type 1} → statement M
 whole-line-spec =

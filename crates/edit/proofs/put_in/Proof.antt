@@ -5,7 +5,6 @@ use Prim.Native.Nat.{ℕ, _-_}
 use lib.Seq.{length-take-le}
 use denote.Ref.{now}
 use Rattle.unicode.specs.Repertoire.{catalogue}
-use Rattle.records.specs.Formats.{asFormat}
 use Rattle.edit.specs.Calls.{lent, sizesOf, stateOf}
 use Rattle.edit.proofs.Made.{outcome-as}
 use Rattle.edit.proofs.Once.{once-paste}
@@ -26,7 +25,7 @@ same-length-3 : tie.Need-same-length-3
 same-length-3 c = search needs
 
 returns : tie.Need-returns
-returns c = outcome-as (asFormat (c .before .before .before .before .before .before .before .before .before .before .before .before .before .before .args .f)) (lent (now (c .before .before .before .before .before .before .before .before .before .before .before .before .before .before .args .text)) (now (c .before .before .before .before .before .before .before .before .before .before .before .before .before .before .args .records)) (now (c .before .before .before .before .before .before .before .before .before .before .before .before .before .before .args .texts)) (c .before .before .before .before .before .before .before .before .before .before .before .before .before .before .args .line) (c .before .before .before .before .before .before .before .before .before .before .before .before .before .before .args .log)) _ _ _ _ _ _ (once-paste catalogue (asFormat (c .before .before .before .before .before .before .before .before .before .before .before .before .before .before .args .f)) (sizesOf (lent (now (c .before .before .before .before .before .before .before .before .before .before .before .before .before .before .args .text)) (now (c .before .before .before .before .before .before .before .before .before .before .before .before .before .before .args .records)) (now (c .before .before .before .before .before .before .before .before .before .before .before .before .before .before .args .texts)) (c .before .before .before .before .before .before .before .before .before .before .before .before .before .before .args .line) (c .before .before .before .before .before .before .before .before .before .before .before .before .before .before .args .log))) (length (now (c .before .before .before .before .before .before .before .before .before .before .before .before .before .before .args .text))) (c .before .before .before .before .before .before .before .before .before .before .before .before .before .before .args .cursor) (stateOf catalogue (asFormat (c .before .before .before .before .before .before .before .before .before .before .before .before .before .before .args .f)) (lent (now (c .before .before .before .before .before .before .before .before .before .before .before .before .before .before .args .text)) (now (c .before .before .before .before .before .before .before .before .before .before .before .before .before .before .args .records)) (now (c .before .before .before .before .before .before .before .before .before .before .before .before .before .before .args .texts)) (c .before .before .before .before .before .before .before .before .before .before .before .before .before .before .args .line) (c .before .before .before .before .before .before .before .before .before .before .before .before .before .before .args .log))) (c .before .before .before .before .before .before .before .before .before .before .before .before .before .before .args .at) (now (c .before .before .before .before .before .before .before .before .before .before .before .before .before .before .args .new))) (c .before .before .before .before .before .before .change .ensures)
+returns c = outcome-as (c .before .before .before .before .before .before .before .before .before .before .before .before .before .before .args .f) (lent (now (c .before .before .before .before .before .before .before .before .before .before .before .before .before .before .args .text)) (now (c .before .before .before .before .before .before .before .before .before .before .before .before .before .before .args .records)) (now (c .before .before .before .before .before .before .before .before .before .before .before .before .before .before .args .texts)) (c .before .before .before .before .before .before .before .before .before .before .before .before .before .before .args .line) (c .before .before .before .before .before .before .before .before .before .before .before .before .before .before .args .log)) _ _ _ _ _ _ (once-paste catalogue (c .before .before .before .before .before .before .before .before .before .before .before .before .before .before .args .f) (sizesOf (lent (now (c .before .before .before .before .before .before .before .before .before .before .before .before .before .before .args .text)) (now (c .before .before .before .before .before .before .before .before .before .before .before .before .before .before .args .records)) (now (c .before .before .before .before .before .before .before .before .before .before .before .before .before .before .args .texts)) (c .before .before .before .before .before .before .before .before .before .before .before .before .before .before .args .line) (c .before .before .before .before .before .before .before .before .before .before .before .before .before .before .args .log))) (length (now (c .before .before .before .before .before .before .before .before .before .before .before .before .before .before .args .text))) (c .before .before .before .before .before .before .before .before .before .before .before .before .before .before .args .cursor) (stateOf catalogue (c .before .before .before .before .before .before .before .before .before .before .before .before .before .before .args .f) (lent (now (c .before .before .before .before .before .before .before .before .before .before .before .before .before .before .args .text)) (now (c .before .before .before .before .before .before .before .before .before .before .before .before .before .before .args .records)) (now (c .before .before .before .before .before .before .before .before .before .before .before .before .before .before .args .texts)) (c .before .before .before .before .before .before .before .before .before .before .before .before .before .before .args .line) (c .before .before .before .before .before .before .before .before .before .before .before .before .before .before .args .log))) (c .before .before .before .before .before .before .before .before .before .before .before .before .before .before .args .at) (now (c .before .before .before .before .before .before .before .before .before .before .before .before .before .before .args .new))) (c .before .before .before .before .before .before .change .ensures)
 
 pub put-in-spec : {M : Type 1} → statement M
 put-in-spec = tie.close (tie.spec change-requires same-length same-length-2 same-length-3 returns)

@@ -20,7 +20,9 @@ same-length : tie.Need-same-length
 same-length c = search needs
 
 returns : tie.Need-returns
-returns c = case-back (c .before .before .before .before .before .before .args .case) (now (c .before .before .before .before .before .before .args .out)) (now (c .before .before .before .before .before .before .args .s)) (c .before .before .before .before .before .before .args .at) _ _ (c .before .before .before .before .before .before .pre) (c .before .before .change-case .ensures)
+returns c =
+    let entry = c .before .before .before .before .before .before in
+    case-back entry.args.case (now entry.args.out) (now entry.args.s) entry.args.at _ _ entry.pre c.before.before.change-case.ensures
 
 pub case-at-spec : {M : Type 1} → statement M
 case-at-spec =

@@ -26,19 +26,29 @@ same-length : tie.Need-same-length
 same-length c = search needs
 
 returns : tie.Need-returns
-returns c = by-action _ _ _ _ _ (c .before .before .before .before .enum-told .given .1) (c .before .before .capitalize .ensures)
+returns c =
+    let after-enum-told = c .before .before .before .before in
+    by-action _ _ _ _ _ after-enum-told.enum-told.given.1 c.before.before.capitalize.ensures
 
 same-length-2 : tie.Need-same-length-2
 same-length-2 c = search needs
 
 returns-2 : tie.Need-returns-2
-returns-2 c = by-action _ _ _ _ _ (c .before .before .before .before .enum-told2 .given .1) (lower-written (now (c .before .before .before .before .before .before .before .before .args .s)) (now (c .before .before .before .before .before .before .before .before .args .out)) _ _ (c .before .before .before .before .before .before .before .before .pre .0) (c .before .before .case-at .ensures))
+returns-2 c =
+    let after-enum-told2 = c .before .before .before .before in
+    let entry = after-enum-told2 .before .before .before .before in
+    by-action _ _ _ _ _ after-enum-told2.enum-told2.given.1
+    (lower-written (now entry.args.s) (now entry.args.out) _ _ entry.pre.0 c.before.before.case-at.ensures)
 
 same-length-3 : tie.Need-same-length-3
 same-length-3 c = search needs
 
 returns-3 : tie.Need-returns-3
-returns-3 c = by-action _ _ _ _ _ (c .before .before .before .before .enum-told3 .given .1) (upper-written (now (c .before .before .before .before .before .before .before .before .args .s)) (now (c .before .before .before .before .before .before .before .before .args .out)) _ _ (c .before .before .before .before .before .before .before .before .pre .0) (c .before .before .case-at2 .ensures))
+returns-3 c =
+    let after-enum-told3 = c .before .before .before .before in
+    let entry = after-enum-told3 .before .before .before .before in
+    by-action _ _ _ _ _ after-enum-told3.enum-told3.given.1
+    (upper-written (now entry.args.s) (now entry.args.out) _ _ entry.pre.0 c.before.before.case-at2.ensures)
 
 pub write-case-spec : {M : Type 1} → statement M
 write-case-spec =

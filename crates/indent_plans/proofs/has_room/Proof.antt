@@ -1,10 +1,19 @@
-use Rattle.indent_plans.proofs.Rooms.{both-fit}
+use native.Mathlib.Omega.{arith}
+use Rattle.indent_plans.proofs.Rooms.{both-fit, size-fits}
 use borrow.Author.Needs.{needs}
 use Rattle.indent_plans.proofs.has_room.Statement.{statement}
 use Rattle.indent_plans.proofs.has_room.Tie as tie
 
+add-result : tie.Need-add-result
+add-result c = search needs
+
+add-result-2 : tie.Need-add-result-2
+add-result-2 c = search needs
+
 mul-result : tie.Need-mul-result
-mul-result c = search needs
+mul-result c =
+    let entry = c .before .before .before in
+    omega (arith, size-fits entry.pre.0 entry.pre.1.2)
 
 sub-result : tie.Need-sub-result
 sub-result c = search needs
@@ -13,7 +22,9 @@ sub-result-2 : tie.Need-sub-result-2
 sub-result-2 c = search needs
 
 returns : tie.Need-returns
-returns c = both-fit _ _ _ _ _ _ (c .before .before .before .pre .0) (c .before .before .before .pre .1)
+returns c =
+    let entry = c .before .before .before .before .before in
+    both-fit _ _ _ _ _ _ entry.pre.1.0 entry.pre.1.1
 
 pub has-room-spec : {M : Type 1} → statement M
-has-room-spec = tie.close (tie.spec mul-result sub-result sub-result-2 returns)
+has-room-spec = tie.close (tie.spec add-result add-result-2 mul-result sub-result sub-result-2 returns)

@@ -8,41 +8,76 @@ use Rattle.indents.proofs.is_split.Statement.{statement}
 use Rattle.indents.proofs.is_split.Tie as tie
 
 returns : tie.Need-returns
-returns c = λ z. untried (now (c .before .before .args .text)) (c .before .before .args .line) (c .before .before .args .m) (c .before .before .args .amount) (c .before .before .args .dedent) (not-true (c .before .before .args .dedent) (c .if1 .taken))
+returns c =
+    let entry = c.before.before in
+    λ z. untried entry.args.f (now entry.args.text) entry.args.line entry.args.m entry.args.amount entry.args.dedent
+    (not-true entry.args.dedent c.if1.taken)
 
-refusal-requires : tie.Need-refusal-requires
-refusal-requires c κs = search needs
+refusal-in-requires : tie.Need-refusal-in-requires
+refusal-in-requires c κs = search needs
 
 returns-2 : tie.Need-returns-2
-returns-2 c = λ z. absurd (c .if2 .taken (c .before .refusal .ensures ∙ z))
+returns-2 c = λ z. absurd (c .if2 .taken (c .before .refusal-in .ensures ∙ z))
 
 slice-aggregate-touched : tie.Need-slice-aggregate-touched
-slice-aggregate-touched c = sym (length-take-le _ _ (text-used (now (c .before .before .before .before .before .args .text)) (c .before .before .before .before .before .args .line) (c .before .before .before .before .before .args .m) (c .before .before .before .before .before .args .amount) (sym (c .before .before .refusal .ensures) ∙ c .before .if2 .left)))
+slice-aggregate-touched c =
+    let entry = c .before .before .before .before .before in
+    sym
+    (length-take-le _ _
+    (text-used entry.args.f (now entry.args.text) entry.args.line entry.args.m entry.args.amount
+    c.before.before.refusal-in.ensures c.before.if2.left))
 
 touched-requires : tie.Need-touched-requires
-touched-requires c κs = text-fit (now (c .before .before .before .before .before .args .text)) (c .before .before .before .before .before .args .line) (c .before .before .before .before .before .args .m) (c .before .before .before .before .before .args .amount) (sym (c .before .before .refusal .ensures) ∙ c .before .if2 .left)
+touched-requires c κs =
+    let entry = c .before .before .before .before .before in
+    text-fit entry.args.f (now entry.args.text) entry.args.line entry.args.m entry.args.amount
+    c.before.before.refusal-in.ensures c.before.if2.left
 
 sub-splits : tie.Need-sub-splits
-sub-splits c = lines-in (now (c .before .before .before .before .before .before .args .text)) (c .before .before .before .before .before .before .args .line) (c .before .before .before .before .before .before .args .m) (c .before .before .before .before .before .before .args .amount) (sym (c .before .before .before .refusal .ensures) ∙ c .before .before .if2 .left) (c .touched .result) (c .touched .ensures) .0
+sub-splits c =
+    let after-refusal-in = c .before .before .before in
+    let entry = after-refusal-in .before .before .before in
+    (lines-in entry.args.f (now entry.args.text) entry.args.line entry.args.m entry.args.amount
+    after-refusal-in.refusal-in.ensures c.before.before.if2.left c.touched.result c.touched.ensures) .0
 
 part-splits-start : tie.Need-part-splits-start
-part-splits-start c = lines-in (now (c .before .before .before .before .before .before .args .text)) (c .before .before .before .before .before .before .args .line) (c .before .before .before .before .before .before .args .m) (c .before .before .before .before .before .before .args .amount) (sym (c .before .before .before .refusal .ensures) ∙ c .before .before .if2 .left) (c .touched .result) (c .touched .ensures) .0
+part-splits-start c =
+    let after-refusal-in = c .before .before .before in
+    let entry = after-refusal-in .before .before .before in
+    (lines-in entry.args.f (now entry.args.text) entry.args.line entry.args.m entry.args.amount
+    after-refusal-in.refusal-in.ensures c.before.before.if2.left c.touched.result c.touched.ensures) .0
 
 part-splits-end : tie.Need-part-splits-end
-part-splits-end c = lines-end (now (c .before .before .before .before .before .before .args .text)) (c .before .before .before .before .before .before .args .line) (c .before .before .before .before .before .before .args .m) (c .before .before .before .before .before .before .args .amount) (sym (c .before .before .before .refusal .ensures) ∙ c .before .before .if2 .left) (c .touched .result) (c .touched .ensures)
+part-splits-end c =
+    let after-refusal-in = c .before .before .before in
+    let entry = after-refusal-in .before .before .before in
+    lines-end entry.args.f (now entry.args.text) entry.args.line entry.args.m entry.args.amount
+    after-refusal-in.refusal-in.ensures c.before.before.if2.left c.touched.result c.touched.ensures
 
 splits-requires : tie.Need-splits-requires
-splits-requires c κs = raw-valid (now (c .before .before .before .before .before .before .before .args .text)) (c .before .before .before .before .before .before .before .args .line) (c .before .before .before .before .before .before .before .args .m) (c .before .before .before .before .before .before .before .args .amount) (sym (c .before .before .before .before .refusal .ensures) ∙ c .before .before .before .if2 .left) (c .before .touched .result) (c .before .touched .ensures)
+splits-requires c κs =
+    let else2 = c .before .before .before in
+    let after-refusal-in = else2.before in
+    let entry = after-refusal-in .before .before .before in
+    raw-valid entry.args.f (now entry.args.text) entry.args.line entry.args.m entry.args.amount
+    after-refusal-in.refusal-in.ensures else2.if2.left c.before.touched.result c.before.touched.ensures
 
 returns-3 : tie.Need-returns-3
-returns-3 c = λ z. tried (now (c .before .before .before .before .before .before .before .before .args .text)) (c .before .before .before .before .before .before .before .before .args .line) (c .before .before .before .before .before .before .before .before .args .m) (c .before .before .before .before .before .before .before .before .args .amount) (sym (c .before .before .before .before .before .refusal .ensures) ∙ c .before .before .before .before .if2 .left) (c .before .before .touched .result) (c .before .before .touched .ensures) (c .splits .result) (c .before .before .before .before .before .before .before .before .args .dedent) (not-false (c .before .before .before .before .before .before .before .before .args .dedent) (c .before .before .before .before .before .before .if1 .left)) (c .splits .ensures)
+returns-3 c =
+    let else2 = c .before .before .before .before in
+    let after-refusal-in = else2.before in
+    let else1 = after-refusal-in.before in
+    let entry = else1.before.before in
+    λ z. tried entry.args.f (now entry.args.text) entry.args.line entry.args.m entry.args.amount
+    after-refusal-in.refusal-in.ensures else2.if2.left c.before.before.touched.result c.before.before.touched.ensures
+    c.splits.result entry.args.dedent (not-false entry.args.dedent else1.if1.left) c.splits.ensures
 
 pub is-split-spec : {M : Type 1} → statement M
 is-split-spec =
     tie.close
     (tie.spec
     returns
-    refusal-requires
+    refusal-in-requires
     returns-2
     slice-aggregate-touched
     touched-requires

@@ -1,3 +1,7 @@
+use Rattle.formats.specs.declared.Format.{Format}
+use Rattle.formats.proofs.Formats.{fit-for}
+use Rattle.edit.proofs.Formats.{in-format}
+use Rattle.inserts.specs.Inserts.{insertCall}
 use native.Mathlib.Omega.{arith}
 use mathlib.Core.Path.{sym, ap, _∙_}
 use lib.ListN.{length, take}
@@ -16,8 +20,13 @@ use Rattle.inserts.proofs.insert.Tie as tie
 check-char-requires : tie.Need-check-char-requires
 check-char-requires c κs = search needs
 
+format-for-requires : tie.Need-format-for-requires
+format-for-requires c κs = search needs
+
 refusal-requires : tie.Need-refusal-requires
-refusal-requires c κs = search needs
+refusal-requires c κs =
+    let after-format-for = c .before .before .before in
+    fit-for _ after-format-for.format-for.ensures
 
 says-requires : tie.Need-says-requires
 says-requires c κs = search needs
@@ -32,7 +41,15 @@ same-length-3 : tie.Need-same-length-3
 same-length-3 c = search needs
 
 returns : tie.Need-returns
-returns c = insert-refused (lent (now (c .before .before .before .before .before .before .before .before .before .before .args .text)) (now (c .before .before .before .before .before .before .before .before .before .before .args .records)) (now (c .before .before .before .before .before .before .before .before .before .before .args .texts)) (c .before .before .before .before .before .before .before .before .before .before .args .line) (c .before .before .before .before .before .before .before .before .before .before .args .log)) (c .before .before .before .before .before .before .before .before .before .before .args .ch) (c .before .before .before .before .before .before .before .before .before .before .args .n) (c .before .before .refusal .result) (c .before .before .before .before .before .before .check-char .result) (c .before .before .refusal .ensures .0) (c .before .before .before .before .before .before .check-char .ensures) (c .before .if1 .taken) _ (c .says .ensures)
+returns c =
+    let after-format-for = c .before .before .before .before .before .before in
+    let after-check-char = after-format-for.before in
+    let entry = after-check-char .before .before .before .before in
+    let l = lent (now entry.args.text) (now entry.args.records) (now entry.args.texts) entry.args.line entry.args.log in
+    in-format l (λ (F : Format). insertCall catalogue F l entry.args.ch entry.args.n) after-format-for.format-for.ensures
+    (insert-refused after-format-for.format-for.result l entry.args.ch entry.args.n c.before.before.refusal.result
+    after-check-char.check-char.result c.before.before.refusal.ensures.0 after-check-char.check-char.ensures c.before.if1.taken _
+    c.says.ensures)
 
 slice-aggregate-encode-at : tie.Need-slice-aggregate-encode-at
 slice-aggregate-encode-at c = search needs
@@ -41,13 +58,52 @@ encode-at-requires : tie.Need-encode-at-requires
 encode-at-requires c κs = search needs
 
 array-share-prefix-buf : tie.Need-array-share-prefix-buf
-array-share-prefix-buf c = typed-within (c .before .before .before .before .before .before .before .before .before .before .before .before .args .ch) (insert-char (lent (now (c .before .before .before .before .before .before .before .before .before .before .before .before .args .text)) (now (c .before .before .before .before .before .before .before .before .before .before .before .before .args .records)) (now (c .before .before .before .before .before .before .before .before .before .before .before .before .args .texts)) (c .before .before .before .before .before .before .before .before .before .before .before .before .args .line) (c .before .before .before .before .before .before .before .before .before .before .before .before .args .log)) (c .before .before .before .before .before .before .before .before .before .before .before .before .args .ch) (c .before .before .before .before .before .before .before .before .before .before .before .before .args .n) (c .before .before .before .before .refusal .result) (c .before .before .before .before .before .before .before .before .check-char .result) (c .before .before .before .before .refusal .ensures .0) (c .before .before .before .before .before .before .before .before .check-char .ensures) (c .before .before .before .if1 .left)) _ (c .before .encode-at .last .0) (c .before .encode-at .result) (omega arith) (c .before .encode-at .ensures)
+array-share-prefix-buf c =
+    let else1 = c .before .before .before in
+    let after-refusal = else1.before in
+    let after-format-for = after-refusal .before .before .before .before in
+    let after-check-char = after-format-for.before in
+    let entry = after-check-char .before .before .before .before in
+    typed-within entry.args.ch
+    (insert-char after-format-for.format-for.result
+    (lent (now entry.args.text) (now entry.args.records) (now entry.args.texts) entry.args.line entry.args.log) entry.args.ch entry.args.n
+    after-refusal.refusal.result after-check-char.check-char.result after-refusal.refusal.ensures.0 after-check-char.check-char.ensures
+    else1.if1.left) _ c.before.encode-at.last.0 c.before.encode-at.result (omega arith) c.before.encode-at.ensures
 
 slice-aggregate-s : tie.Need-slice-aggregate-s
-slice-aggregate-s c = sym (length-take-le _ _ (typed-within (c .before .before .before .before .before .before .before .before .before .before .before .before .before .args .ch) (insert-char (lent (now (c .before .before .before .before .before .before .before .before .before .before .before .before .before .args .text)) (now (c .before .before .before .before .before .before .before .before .before .before .before .before .before .args .records)) (now (c .before .before .before .before .before .before .before .before .before .before .before .before .before .args .texts)) (c .before .before .before .before .before .before .before .before .before .before .before .before .before .args .line) (c .before .before .before .before .before .before .before .before .before .before .before .before .before .args .log)) (c .before .before .before .before .before .before .before .before .before .before .before .before .before .args .ch) (c .before .before .before .before .before .before .before .before .before .before .before .before .before .args .n) (c .before .before .before .before .before .refusal .result) (c .before .before .before .before .before .before .before .before .before .check-char .result) (c .before .before .before .before .before .refusal .ensures .0) (c .before .before .before .before .before .before .before .before .before .check-char .ensures) (c .before .before .before .before .if1 .left)) _ (c .before .before .encode-at .last .0) (c .before .before .encode-at .result) (omega arith) (c .before .before .encode-at .ensures)))
+slice-aggregate-s c =
+    let else1 = c .before .before .before .before in
+    let after-refusal = else1.before in
+    let after-format-for = after-refusal .before .before .before .before in
+    let after-check-char = after-format-for.before in
+    let entry = after-check-char .before .before .before .before in
+    sym
+    (length-take-le _ _
+    (typed-within entry.args.ch
+    (insert-char after-format-for.format-for.result
+    (lent (now entry.args.text) (now entry.args.records) (now entry.args.texts) entry.args.line entry.args.log) entry.args.ch entry.args.n
+    after-refusal.refusal.result after-check-char.check-char.result after-refusal.refusal.ensures.0 after-check-char.check-char.ensures
+    else1.if1.left) _ c.before.before.encode-at.last.0 c.before.before.encode-at.result (omega arith) c.before.before.encode-at.ensures))
 
 type-char-requires : tie.Need-type-char-requires
-type-char-requires c κs = (c .before .before .before .before .before .before .before .before .before .refusal .ensures .1 (c .before .before .before .before .before .before .before .before .if1 .left), ((insert-char (lent (now (c .before .before .before .before .before .before .before .before .before .before .before .before .before .before .before .before .before .args .text)) (now (c .before .before .before .before .before .before .before .before .before .before .before .before .before .before .before .before .before .args .records)) (now (c .before .before .before .before .before .before .before .before .before .before .before .before .before .before .before .before .before .args .texts)) (c .before .before .before .before .before .before .before .before .before .before .before .before .before .before .before .before .before .args .line) (c .before .before .before .before .before .before .before .before .before .before .before .before .before .before .before .before .before .args .log)) (c .before .before .before .before .before .before .before .before .before .before .before .before .before .before .before .before .before .args .ch) (c .before .before .before .before .before .before .before .before .before .before .before .before .before .before .before .before .before .args .n) (c .before .before .before .before .before .before .before .before .before .refusal .result) (c .before .before .before .before .before .before .before .before .before .before .before .before .before .check-char .result) (c .before .before .before .before .before .before .before .before .before .refusal .ensures .0) (c .before .before .before .before .before .before .before .before .before .before .before .before .before .check-char .ensures) (c .before .before .before .before .before .before .before .before .if1 .left)), typed-bytes (c .before .before .before .before .before .before .before .before .before .before .before .before .before .before .before .before .before .args .ch) (insert-char (lent (now (c .before .before .before .before .before .before .before .before .before .before .before .before .before .before .before .before .before .args .text)) (now (c .before .before .before .before .before .before .before .before .before .before .before .before .before .before .before .before .before .args .records)) (now (c .before .before .before .before .before .before .before .before .before .before .before .before .before .before .before .before .before .args .texts)) (c .before .before .before .before .before .before .before .before .before .before .before .before .before .before .before .before .before .args .line) (c .before .before .before .before .before .before .before .before .before .before .before .before .before .before .before .before .before .args .log)) (c .before .before .before .before .before .before .before .before .before .before .before .before .before .before .before .before .before .args .ch) (c .before .before .before .before .before .before .before .before .before .before .before .before .before .before .before .before .before .args .n) (c .before .before .before .before .before .before .before .before .before .refusal .result) (c .before .before .before .before .before .before .before .before .before .before .before .before .before .check-char .result) (c .before .before .before .before .before .before .before .before .before .refusal .ensures .0) (c .before .before .before .before .before .before .before .before .before .before .before .before .before .check-char .ensures) (c .before .before .before .before .before .before .before .before .if1 .left)) _ (c .before .before .before .before .before .before .encode-at .last .0) (c .before .before .before .before .before .before .encode-at .result) (omega arith) (c .before .before .before .before .before .before .encode-at .ensures)))
+type-char-requires c κs =
+    let after-encode-at = c .before .before .before .before .before .before in
+    let else1 = after-encode-at.before.before in
+    let after-refusal = else1.before in
+    let after-format-for = after-refusal .before .before .before .before in
+    let after-check-char = after-format-for.before in
+    let entry = after-check-char .before .before .before .before in
+    let insert-char1 = insert-char after-format-for.format-for.result
+    (lent (now entry.args.text) (now entry.args.records) (now entry.args.texts) entry.args.line entry.args.log) entry.args.ch entry.args.n
+    after-refusal.refusal.result after-check-char.check-char.result after-refusal.refusal.ensures.0 after-check-char.check-char.ensures
+    else1.if1.left in (
+      after-refusal.refusal.ensures.1 else1.if1.left,
+      (
+        insert-char1,
+        typed-bytes entry.args.ch insert-char1 _ after-encode-at.encode-at.last.0 after-encode-at.encode-at.result (omega arith)
+            after-encode-at.encode-at.ensures,
+      ),
+    )
 
 same-length-4 : tie.Need-same-length-4
 same-length-4 c = search needs
@@ -59,10 +115,40 @@ same-length-6 : tie.Need-same-length-6
 same-length-6 c = search needs
 
 returns-2 : tie.Need-returns-2
-returns-2 c = insert-one (lent (now (c .before .before .before .before .before .before .before .before .before .before .before .before .before .before .before .before .before .before .before .before .before .before .before .before .args .text)) (now (c .before .before .before .before .before .before .before .before .before .before .before .before .before .before .before .before .before .before .before .before .before .before .before .before .args .records)) (now (c .before .before .before .before .before .before .before .before .before .before .before .before .before .before .before .before .before .before .before .before .before .before .before .before .args .texts)) (c .before .before .before .before .before .before .before .before .before .before .before .before .before .before .before .before .before .before .before .before .before .before .before .before .args .line) (c .before .before .before .before .before .before .before .before .before .before .before .before .before .before .before .before .before .before .before .before .before .before .before .before .args .log)) (c .before .before .before .before .before .before .before .before .before .before .before .before .before .before .before .before .before .before .before .before .before .before .before .before .args .ch) (c .before .before .before .before .before .before .before .before .before .before .before .before .before .before .before .before .before .before .before .before .before .before .before .before .args .n) (c .before .before .before .before .before .before .before .before .before .before .before .before .before .before .before .before .refusal .result) (c .before .before .before .before .before .before .before .before .before .before .before .before .before .before .before .before .before .before .before .before .check-char .result) (c .before .before .before .before .before .before .before .before .before .before .before .before .before .before .before .before .refusal .ensures .0) (c .before .before .before .before .before .before .before .before .before .before .before .before .before .before .before .before .before .before .before .before .check-char .ensures) (c .before .before .before .before .before .before .before .before .before .before .before .before .before .before .before .if1 .left) _ _ _ _ (c .before .before .before .before .before .before .before .before .before .before .if2 .taken) (c .before .before .before .before .before .before .type-char .ensures)
+returns-2 c =
+    let after-type-char = c .before .before .before .before .before .before in
+    let then2 = after-type-char .before .before .before .before in
+    let else1 = then2 .before .before .before .before .before in
+    let after-refusal = else1.before in
+    let after-format-for = after-refusal .before .before .before .before in
+    let after-check-char = after-format-for.before in
+    let entry = after-check-char .before .before .before .before in
+    let l = lent (now entry.args.text) (now entry.args.records) (now entry.args.texts) entry.args.line entry.args.log in
+    in-format l (λ (F : Format). insertCall catalogue F l entry.args.ch entry.args.n) after-format-for.format-for.ensures
+    (insert-one after-format-for.format-for.result l entry.args.ch entry.args.n after-refusal.refusal.result
+    after-check-char.check-char.result after-refusal.refusal.ensures.0 after-check-char.check-char.ensures else1.if1.left _ _ _ _
+    then2.if2.taken after-type-char.type-char.ensures)
 
 put-copies-requires : tie.Need-put-copies-requires
-put-copies-requires c κs = (c .before .before .before .before .before .before .before .before .before .refusal .ensures .1 (c .before .before .before .before .before .before .before .before .if1 .left), (ap (isText catalogue) (typed-bytes (c .before .before .before .before .before .before .before .before .before .before .before .before .before .before .before .before .before .args .ch) (insert-char (lent (now (c .before .before .before .before .before .before .before .before .before .before .before .before .before .before .before .before .before .args .text)) (now (c .before .before .before .before .before .before .before .before .before .before .before .before .before .before .before .before .before .args .records)) (now (c .before .before .before .before .before .before .before .before .before .before .before .before .before .before .before .before .before .args .texts)) (c .before .before .before .before .before .before .before .before .before .before .before .before .before .before .before .before .before .args .line) (c .before .before .before .before .before .before .before .before .before .before .before .before .before .before .before .before .before .args .log)) (c .before .before .before .before .before .before .before .before .before .before .before .before .before .before .before .before .before .args .ch) (c .before .before .before .before .before .before .before .before .before .before .before .before .before .before .before .before .before .args .n) (c .before .before .before .before .before .before .before .before .before .refusal .result) (c .before .before .before .before .before .before .before .before .before .before .before .before .before .check-char .result) (c .before .before .before .before .before .before .before .before .before .refusal .ensures .0) (c .before .before .before .before .before .before .before .before .before .before .before .before .before .check-char .ensures) (c .before .before .before .before .before .before .before .before .if1 .left)) _ (c .before .before .before .before .before .before .encode-at .last .0) (c .before .before .before .before .before .before .encode-at .result) (omega arith) (c .before .before .before .before .before .before .encode-at .ensures)) ∙ typed-text (c .before .before .before .before .before .before .before .before .before .before .before .before .before .before .before .before .before .args .ch) (insert-char (lent (now (c .before .before .before .before .before .before .before .before .before .before .before .before .before .before .before .before .before .args .text)) (now (c .before .before .before .before .before .before .before .before .before .before .before .before .before .before .before .before .before .args .records)) (now (c .before .before .before .before .before .before .before .before .before .before .before .before .before .before .before .before .before .args .texts)) (c .before .before .before .before .before .before .before .before .before .before .before .before .before .before .before .before .before .args .line) (c .before .before .before .before .before .before .before .before .before .before .before .before .before .before .before .before .before .args .log)) (c .before .before .before .before .before .before .before .before .before .before .before .before .before .before .before .before .before .args .ch) (c .before .before .before .before .before .before .before .before .before .before .before .before .before .before .before .before .before .args .n) (c .before .before .before .before .before .before .before .before .before .refusal .result) (c .before .before .before .before .before .before .before .before .before .before .before .before .before .check-char .result) (c .before .before .before .before .before .before .before .before .before .refusal .ensures .0) (c .before .before .before .before .before .before .before .before .before .before .before .before .before .check-char .ensures) (c .before .before .before .before .before .before .before .before .if1 .left)), (omega (arith, ap length (typed-bytes (c .before .before .before .before .before .before .before .before .before .before .before .before .before .before .before .before .before .args .ch) (insert-char (lent (now (c .before .before .before .before .before .before .before .before .before .before .before .before .before .before .before .before .before .args .text)) (now (c .before .before .before .before .before .before .before .before .before .before .before .before .before .before .before .before .before .args .records)) (now (c .before .before .before .before .before .before .before .before .before .before .before .before .before .before .before .before .before .args .texts)) (c .before .before .before .before .before .before .before .before .before .before .before .before .before .before .before .before .before .args .line) (c .before .before .before .before .before .before .before .before .before .before .before .before .before .before .before .before .before .args .log)) (c .before .before .before .before .before .before .before .before .before .before .before .before .before .before .before .before .before .args .ch) (c .before .before .before .before .before .before .before .before .before .before .before .before .before .before .before .before .before .args .n) (c .before .before .before .before .before .before .before .before .before .refusal .result) (c .before .before .before .before .before .before .before .before .before .before .before .before .before .check-char .result) (c .before .before .before .before .before .before .before .before .before .refusal .ensures .0) (c .before .before .before .before .before .before .before .before .before .before .before .before .before .check-char .ensures) (c .before .before .before .before .before .before .before .before .if1 .left)) _ (c .before .before .before .before .before .before .encode-at .last .0) (c .before .before .before .before .before .before .encode-at .result) (omega arith) (c .before .before .before .before .before .before .encode-at .ensures)), encode-max (c .before .before .before .before .before .before .before .before .before .before .before .before .before .before .before .before .before .args .ch)), omega arith)))
+put-copies-requires c κs =
+    let after-encode-at = c .before .before .before .before .before .before in
+    let else1 = after-encode-at.before.before in
+    let after-refusal = else1.before in
+    let after-format-for = after-refusal .before .before .before .before in
+    let after-check-char = after-format-for.before in
+    let entry = after-check-char .before .before .before .before in
+    let insert-char1 = insert-char after-format-for.format-for.result
+    (lent (now entry.args.text) (now entry.args.records) (now entry.args.texts) entry.args.line entry.args.log) entry.args.ch entry.args.n
+    after-refusal.refusal.result after-check-char.check-char.result after-refusal.refusal.ensures.0 after-check-char.check-char.ensures
+    else1.if1.left in
+    let typed-bytes1 = typed-bytes entry.args.ch insert-char1 _ after-encode-at.encode-at.last.0 after-encode-at.encode-at.result
+    (omega arith) after-encode-at.encode-at.ensures in (
+      after-refusal.refusal.ensures.1 else1.if1.left,
+      (
+        ap (isText catalogue) typed-bytes1 ∙ typed-text entry.args.ch insert-char1,
+        (omega (arith, ap length typed-bytes1, encode-max entry.args.ch), omega arith),
+      ),
+    )
 
 same-length-7 : tie.Need-same-length-7
 same-length-7 c = search needs
@@ -74,13 +160,32 @@ same-length-9 : tie.Need-same-length-9
 same-length-9 c = search needs
 
 returns-3 : tie.Need-returns-3
-returns-3 c = insert-many (lent (now (c .before .before .before .before .before .before .before .before .before .before .before .before .before .before .before .before .before .before .before .before .before .before .before .before .args .text)) (now (c .before .before .before .before .before .before .before .before .before .before .before .before .before .before .before .before .before .before .before .before .before .before .before .before .args .records)) (now (c .before .before .before .before .before .before .before .before .before .before .before .before .before .before .before .before .before .before .before .before .before .before .before .before .args .texts)) (c .before .before .before .before .before .before .before .before .before .before .before .before .before .before .before .before .before .before .before .before .before .before .before .before .args .line) (c .before .before .before .before .before .before .before .before .before .before .before .before .before .before .before .before .before .before .before .before .before .before .before .before .args .log)) (c .before .before .before .before .before .before .before .before .before .before .before .before .before .before .before .before .before .before .before .before .before .before .before .before .args .ch) (c .before .before .before .before .before .before .before .before .before .before .before .before .before .before .before .before .before .before .before .before .before .before .before .before .args .n) (c .before .before .before .before .before .before .before .before .before .before .before .before .before .before .before .before .refusal .result) (c .before .before .before .before .before .before .before .before .before .before .before .before .before .before .before .before .before .before .before .before .check-char .result) (c .before .before .before .before .before .before .before .before .before .before .before .before .before .before .before .before .refusal .ensures .0) (c .before .before .before .before .before .before .before .before .before .before .before .before .before .before .before .before .before .before .before .before .check-char .ensures) (c .before .before .before .before .before .before .before .before .before .before .before .before .before .before .before .if1 .left) _ _ _ _ (c .before .before .before .before .before .before .before .before .before .before .if2 .left) (take (c .before .before .before .before .before .before .before .before .before .before .before .before .before .encode-at .result) (c .before .before .before .before .before .before .before .before .before .before .before .before .before .encode-at .last .0)) (typed-bytes (c .before .before .before .before .before .before .before .before .before .before .before .before .before .before .before .before .before .before .before .before .before .before .before .before .args .ch) (insert-char (lent (now (c .before .before .before .before .before .before .before .before .before .before .before .before .before .before .before .before .before .before .before .before .before .before .before .before .args .text)) (now (c .before .before .before .before .before .before .before .before .before .before .before .before .before .before .before .before .before .before .before .before .before .before .before .before .args .records)) (now (c .before .before .before .before .before .before .before .before .before .before .before .before .before .before .before .before .before .before .before .before .before .before .before .before .args .texts)) (c .before .before .before .before .before .before .before .before .before .before .before .before .before .before .before .before .before .before .before .before .before .before .before .before .args .line) (c .before .before .before .before .before .before .before .before .before .before .before .before .before .before .before .before .before .before .before .before .before .before .before .before .args .log)) (c .before .before .before .before .before .before .before .before .before .before .before .before .before .before .before .before .before .before .before .before .before .before .before .before .args .ch) (c .before .before .before .before .before .before .before .before .before .before .before .before .before .before .before .before .before .before .before .before .before .before .before .before .args .n) (c .before .before .before .before .before .before .before .before .before .before .before .before .before .before .before .before .refusal .result) (c .before .before .before .before .before .before .before .before .before .before .before .before .before .before .before .before .before .before .before .before .check-char .result) (c .before .before .before .before .before .before .before .before .before .before .before .before .before .before .before .before .refusal .ensures .0) (c .before .before .before .before .before .before .before .before .before .before .before .before .before .before .before .before .before .before .before .before .check-char .ensures) (c .before .before .before .before .before .before .before .before .before .before .before .before .before .before .before .if1 .left)) _ (c .before .before .before .before .before .before .before .before .before .before .before .before .before .encode-at .last .0) (c .before .before .before .before .before .before .before .before .before .before .before .before .before .encode-at .result) (omega arith) (c .before .before .before .before .before .before .before .before .before .before .before .before .before .encode-at .ensures)) (c .before .before .before .before .before .before .put-copies .ensures)
+returns-3 c =
+    let after-put-copies = c .before .before .before .before .before .before in
+    let else2 = after-put-copies .before .before .before .before in
+    let after-encode-at = else2 .before .before .before in
+    let else1 = after-encode-at.before.before in
+    let after-refusal = else1.before in
+    let after-format-for = after-refusal .before .before .before .before in
+    let after-check-char = after-format-for.before in
+    let entry = after-check-char .before .before .before .before in
+    let l = lent (now entry.args.text) (now entry.args.records) (now entry.args.texts) entry.args.line entry.args.log in
+    in-format l (λ (F : Format). insertCall catalogue F l entry.args.ch entry.args.n) after-format-for.format-for.ensures
+    (insert-many after-format-for.format-for.result l entry.args.ch entry.args.n after-refusal.refusal.result
+    after-check-char.check-char.result after-refusal.refusal.ensures.0 after-check-char.check-char.ensures else1.if1.left _ _ _ _
+    else2.if2.left (take after-encode-at.encode-at.result after-encode-at.encode-at.last.0)
+    (typed-bytes entry.args.ch
+    (insert-char after-format-for.format-for.result l entry.args.ch entry.args.n after-refusal.refusal.result
+    after-check-char.check-char.result after-refusal.refusal.ensures.0 after-check-char.check-char.ensures else1.if1.left) _
+    after-encode-at.encode-at.last.0 after-encode-at.encode-at.result (omega arith) after-encode-at.encode-at.ensures)
+    after-put-copies.put-copies.ensures)
 
 pub insert-spec : {M : Type 1} → statement M
 insert-spec =
     tie.close
     (tie.spec
     check-char-requires
+    format-for-requires
     refusal-requires
     says-requires
     same-length

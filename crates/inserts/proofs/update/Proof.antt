@@ -1,6 +1,10 @@
+use Rattle.unicode.specs.Repertoire.{catalogue}
+use Rattle.formats.specs.declared.Format.{Format}
+use Rattle.formats.proofs.Formats.{fit-for}
+use Rattle.edit.proofs.Formats.{in-format}
+use Rattle.inserts.specs.Inserts.{updateCall}
 use denote.Ref.{now}
 use Rattle.edit.specs.Calls.{lent}
-use Rattle.records.proofs.Formats.{narrow-fit}
 use Rattle.inserts.proofs.Twice.{update-refused, new-suits, update-done}
 use borrow.Author.Needs.{needs}
 use Rattle.inserts.proofs.update.Statement.{statement}
@@ -12,8 +16,13 @@ check-text-requires c κs = search needs
 is-boundary-requires : tie.Need-is-boundary-requires
 is-boundary-requires c κs = search needs
 
+format-for-requires : tie.Need-format-for-requires
+format-for-requires c κs = search needs
+
 refusal-requires : tie.Need-refusal-requires
-refusal-requires c κs = search needs
+refusal-requires c κs =
+    let after-format-for = c .before .before .before in
+    fit-for _ after-format-for.format-for.ensures
 
 says-requires : tie.Need-says-requires
 says-requires c κs = search needs
@@ -28,10 +37,35 @@ same-length-3 : tie.Need-same-length-3
 same-length-3 c = search needs
 
 returns : tie.Need-returns
-returns c = update-refused (lent (now (c .before .before .before .before .before .before .before .before .before .before .before .before .args .text)) (now (c .before .before .before .before .before .before .before .before .before .before .before .before .args .records)) (now (c .before .before .before .before .before .before .before .before .before .before .before .before .args .texts)) (c .before .before .before .before .before .before .before .before .before .before .before .before .args .line) (c .before .before .before .before .before .before .before .before .before .before .before .before .args .log)) (now (c .before .before .before .before .before .before .before .before .before .before .before .before .args .buf)) (c .before .before .before .before .before .before .before .before .before .before .before .before .args .pos) (c .before .before .refusal .result) (c .before .before .before .before .before .before .before .check-text .result) (c .before .before .before .before .before .before .is-boundary .result) (c .before .before .refusal .ensures .0) (c .before .before .before .before .before .before .before .check-text .ensures) (c .before .before .before .before .before .before .is-boundary .ensures .1) (c .before .if1 .taken) _ (c .says .ensures)
+returns c =
+    let after-format-for = c .before .before .before .before .before .before in
+    let after-is-boundary = after-format-for.before in
+    let after-check-text = after-is-boundary.before in
+    let entry = after-check-text .before .before .before .before .before in
+    let l = lent (now entry.args.text) (now entry.args.records) (now entry.args.texts) entry.args.line entry.args.log in
+    in-format l (λ (F : Format). updateCall catalogue F l (now entry.args.buf) entry.args.pos) after-format-for.format-for.ensures
+    (update-refused after-format-for.format-for.result l (now entry.args.buf) entry.args.pos c.before.before.refusal.result
+    after-check-text.check-text.result after-is-boundary.is-boundary.result c.before.before.refusal.ensures.0
+    after-check-text.check-text.ensures after-is-boundary.is-boundary.ensures.1 c.before.if1.taken _ c.says.ensures)
 
 cut-and-put-requires : tie.Need-cut-and-put-requires
-cut-and-put-requires c κs = (narrow-fit, ((c .before .before .before .before .refusal .ensures .1 (c .before .before .before .if1 .left)), new-suits (lent (now (c .before .before .before .before .before .before .before .before .before .before .before .before .before .before .args .text)) (now (c .before .before .before .before .before .before .before .before .before .before .before .before .before .before .args .records)) (now (c .before .before .before .before .before .before .before .before .before .before .before .before .before .before .args .texts)) (c .before .before .before .before .before .before .before .before .before .before .before .before .before .before .args .line) (c .before .before .before .before .before .before .before .before .before .before .before .before .before .before .args .log)) (now (c .before .before .before .before .before .before .before .before .before .before .before .before .before .before .args .buf)) (c .before .before .before .before .before .before .before .before .before .before .before .before .before .before .args .pos) (c .before .before .before .before .refusal .result) (c .before .before .before .before .before .before .before .before .before .check-text .result) (c .before .before .before .before .before .before .before .before .is-boundary .result) (c .before .before .before .before .refusal .ensures .0) (c .before .before .before .before .before .before .before .before .before .check-text .ensures) (c .before .before .before .before .before .before .before .before .is-boundary .ensures .1) (c .before .before .before .if1 .left) (c .before .before .before .before .refusal .ensures .1 (c .before .before .before .if1 .left))))
+cut-and-put-requires c κs =
+    let else1 = c .before .before .before in
+    let after-refusal = else1.before in
+    let after-format-for = after-refusal .before .before .before .before in
+    let after-is-boundary = after-format-for.before in
+    let after-check-text = after-is-boundary.before in
+    let entry = after-check-text .before .before .before .before .before in (
+      fit-for _ after-format-for.format-for.ensures,
+      (
+        (after-refusal.refusal.ensures.1 else1.if1.left),
+        new-suits after-format-for.format-for.result
+            (lent (now entry.args.text) (now entry.args.records) (now entry.args.texts) entry.args.line entry.args.log)
+            (now entry.args.buf) entry.args.pos after-refusal.refusal.result after-check-text.check-text.result
+            after-is-boundary.is-boundary.result after-refusal.refusal.ensures.0 after-check-text.check-text.ensures
+            after-is-boundary.is-boundary.ensures.1 else1.if1.left (after-refusal.refusal.ensures.1 else1.if1.left),
+      ),
+    )
 
 same-length-4 : tie.Need-same-length-4
 same-length-4 c = search needs
@@ -43,7 +77,20 @@ same-length-6 : tie.Need-same-length-6
 same-length-6 c = search needs
 
 returns-2 : tie.Need-returns-2
-returns-2 c = update-done (lent (now (c .before .before .before .before .before .before .before .before .before .before .before .before .before .before .before .before .before .before .before .before .before .args .text)) (now (c .before .before .before .before .before .before .before .before .before .before .before .before .before .before .before .before .before .before .before .before .before .args .records)) (now (c .before .before .before .before .before .before .before .before .before .before .before .before .before .before .before .before .before .before .before .before .before .args .texts)) (c .before .before .before .before .before .before .before .before .before .before .before .before .before .before .before .before .before .before .before .before .before .args .line) (c .before .before .before .before .before .before .before .before .before .before .before .before .before .before .before .before .before .before .before .before .before .args .log)) (now (c .before .before .before .before .before .before .before .before .before .before .before .before .before .before .before .before .before .before .before .before .before .args .buf)) (c .before .before .before .before .before .before .before .before .before .before .before .before .before .before .before .before .before .before .before .before .before .args .pos) (c .before .before .before .before .before .before .before .before .before .before .before .refusal .result) (c .before .before .before .before .before .before .before .before .before .before .before .before .before .before .before .before .check-text .result) (c .before .before .before .before .before .before .before .before .before .before .before .before .before .before .before .is-boundary .result) (c .before .before .before .before .before .before .before .before .before .before .before .refusal .ensures .0) (c .before .before .before .before .before .before .before .before .before .before .before .before .before .before .before .before .check-text .ensures) (c .before .before .before .before .before .before .before .before .before .before .before .before .before .before .before .is-boundary .ensures .1) (c .before .before .before .before .before .before .before .before .before .before .if1 .left) (c .before .before .before .before .before .before .before .before .before .before .before .refusal .ensures .1 (c .before .before .before .before .before .before .before .before .before .before .if1 .left)) _ _ _ _ (c .before .before .before .before .before .before .cut-and-put .ensures)
+returns-2 c =
+    let after-cut-and-put = c .before .before .before .before .before .before in
+    let else1 = after-cut-and-put .before .before .before .before in
+    let after-refusal = else1.before in
+    let after-format-for = after-refusal .before .before .before .before in
+    let after-is-boundary = after-format-for.before in
+    let after-check-text = after-is-boundary.before in
+    let entry = after-check-text .before .before .before .before .before in
+    let l = lent (now entry.args.text) (now entry.args.records) (now entry.args.texts) entry.args.line entry.args.log in
+    in-format l (λ (F : Format). updateCall catalogue F l (now entry.args.buf) entry.args.pos) after-format-for.format-for.ensures
+    (update-done after-format-for.format-for.result l (now entry.args.buf) entry.args.pos after-refusal.refusal.result
+    after-check-text.check-text.result after-is-boundary.is-boundary.result after-refusal.refusal.ensures.0
+    after-check-text.check-text.ensures after-is-boundary.is-boundary.ensures.1 else1.if1.left
+    (after-refusal.refusal.ensures.1 else1.if1.left) _ _ _ _ after-cut-and-put.cut-and-put.ensures)
 
 pub update-spec : {M : Type 1} → statement M
 update-spec =
@@ -51,6 +98,7 @@ update-spec =
     (tie.spec
     check-text-requires
     is-boundary-requires
+    format-for-requires
     refusal-requires
     says-requires
     same-length

@@ -1,3 +1,8 @@
+use Rattle.unicode.specs.Repertoire.{catalogue}
+use Rattle.formats.specs.declared.Format.{Format}
+use Rattle.formats.proofs.Formats.{fit-for}
+use Rattle.edit.proofs.Formats.{in-format}
+use Rattle.inserts.specs.Inserts.{yankCall}
 use native.Mathlib.Omega.{arith}
 use mathlib.Core.Bool.{false}
 use denote.Ref.{now}
@@ -10,8 +15,13 @@ use Rattle.inserts.proofs.yank.Tie as tie
 check-text-requires : tie.Need-check-text-requires
 check-text-requires c κs = search needs
 
+format-for-requires : tie.Need-format-for-requires
+format-for-requires c κs = search needs
+
 refusal-requires : tie.Need-refusal-requires
-refusal-requires c κs = search needs
+refusal-requires c κs =
+    let after-format-for = c .before .before .before in
+    fit-for _ after-format-for.format-for.ensures
 
 says-requires : tie.Need-says-requires
 says-requires c κs = search needs
@@ -26,7 +36,16 @@ same-length-3 : tie.Need-same-length-3
 same-length-3 c = search needs
 
 returns : tie.Need-returns
-returns c = yank-refused (lent (now (c .before .before .before .before .before .before .before .before .before .before .before .args .text)) (now (c .before .before .before .before .before .before .before .before .before .before .before .args .records)) (now (c .before .before .before .before .before .before .before .before .before .before .before .args .texts)) (c .before .before .before .before .before .before .before .before .before .before .before .args .line) (c .before .before .before .before .before .before .before .before .before .before .before .args .log)) (now (c .before .before .before .before .before .before .before .before .before .before .before .args .buf)) (c .before .before .before .before .before .before .before .before .before .before .before .args .n) (c .before .before .refusal .result) (as-text (lent (now (c .before .before .before .before .before .before .before .before .before .before .before .args .text)) (now (c .before .before .before .before .before .before .before .before .before .before .before .args .records)) (now (c .before .before .before .before .before .before .before .before .before .before .before .args .texts)) (c .before .before .before .before .before .before .before .before .before .before .before .args .line) (c .before .before .before .before .before .before .before .before .before .before .before .args .log)) (now (c .before .before .before .before .before .before .before .before .before .before .before .args .buf)) false false (c .before .before .refusal .result) (c .before .before .before .before .before .before .check-text .result) (c .before .before .refusal .ensures .0) (c .before .before .before .before .before .before .check-text .ensures)) _ (c .before .if1 .taken) (c .says .ensures)
+returns c =
+    let after-format-for = c .before .before .before .before .before .before in
+    let after-check-text = after-format-for.before in
+    let entry = after-check-text .before .before .before .before .before in
+    let l = lent (now entry.args.text) (now entry.args.records) (now entry.args.texts) entry.args.line entry.args.log in
+    in-format l (λ (F : Format). yankCall catalogue F l (now entry.args.buf) entry.args.n) after-format-for.format-for.ensures
+    (yank-refused after-format-for.format-for.result l (now entry.args.buf) entry.args.n c.before.before.refusal.result
+    (as-text after-format-for.format-for.result l (now entry.args.buf) false false c.before.before.refusal.result
+    after-check-text.check-text.result c.before.before.refusal.ensures.0 after-check-text.check-text.ensures) _ c.before.if1.taken
+    c.says.ensures)
 
 says-requires-2 : tie.Need-says-requires-2
 says-requires-2 c κs = search needs
@@ -41,10 +60,43 @@ same-length-6 : tie.Need-same-length-6
 same-length-6 c = search needs
 
 returns-2 : tie.Need-returns-2
-returns-2 c = yank-none (lent (now (c .before .before .before .before .before .before .before .before .before .before .before .before .args .text)) (now (c .before .before .before .before .before .before .before .before .before .before .before .before .args .records)) (now (c .before .before .before .before .before .before .before .before .before .before .before .before .args .texts)) (c .before .before .before .before .before .before .before .before .before .before .before .before .args .line) (c .before .before .before .before .before .before .before .before .before .before .before .before .args .log)) (now (c .before .before .before .before .before .before .before .before .before .before .before .before .args .buf)) (c .before .before .before .before .before .before .before .before .before .before .before .before .args .n) (c .before .before .before .refusal .result) (as-text (lent (now (c .before .before .before .before .before .before .before .before .before .before .before .before .args .text)) (now (c .before .before .before .before .before .before .before .before .before .before .before .before .args .records)) (now (c .before .before .before .before .before .before .before .before .before .before .before .before .args .texts)) (c .before .before .before .before .before .before .before .before .before .before .before .before .args .line) (c .before .before .before .before .before .before .before .before .before .before .before .before .args .log)) (now (c .before .before .before .before .before .before .before .before .before .before .before .before .args .buf)) false false (c .before .before .before .refusal .result) (c .before .before .before .before .before .before .before .check-text .result) (c .before .before .before .refusal .ensures .0) (c .before .before .before .before .before .before .before .check-text .ensures)) _ (c .before .before .if1 .left) (c .before .before .before .refusal .ensures .1 (c .before .before .if1 .left)) (c .before .if2 .taken) (c .says2 .ensures)
+returns-2 c =
+    let after-refusal = c .before .before .before in
+    let after-format-for = after-refusal .before .before .before .before in
+    let after-check-text = after-format-for.before in
+    let entry = after-check-text .before .before .before .before .before in
+    let l = lent (now entry.args.text) (now entry.args.records) (now entry.args.texts) entry.args.line entry.args.log in
+    in-format l (λ (F : Format). yankCall catalogue F l (now entry.args.buf) entry.args.n) after-format-for.format-for.ensures
+    (yank-none after-format-for.format-for.result l (now entry.args.buf) entry.args.n after-refusal.refusal.result
+    (as-text after-format-for.format-for.result l (now entry.args.buf) false false after-refusal.refusal.result
+    after-check-text.check-text.result after-refusal.refusal.ensures.0 after-check-text.check-text.ensures) _ c.before.before.if1.left
+    (after-refusal.refusal.ensures.1 c.before.before.if1.left) c.before.if2.taken c.says2.ensures)
 
 put-copies-requires : tie.Need-put-copies-requires
-put-copies-requires c κs = (c .before .before .before .before .before .refusal .ensures .1 (c .before .before .before .before .if1 .left), (text-passed (lent (now (c .before .before .before .before .before .before .before .before .before .before .before .before .before .before .args .text)) (now (c .before .before .before .before .before .before .before .before .before .before .before .before .before .before .args .records)) (now (c .before .before .before .before .before .before .before .before .before .before .before .before .before .before .args .texts)) (c .before .before .before .before .before .before .before .before .before .before .before .before .before .before .args .line) (c .before .before .before .before .before .before .before .before .before .before .before .before .before .before .args .log)) (now (c .before .before .before .before .before .before .before .before .before .before .before .before .before .before .args .buf)) false false (c .before .before .before .before .before .refusal .result) (c .before .before .before .before .before .before .before .before .before .check-text .result) (c .before .before .before .before .before .refusal .ensures .0) (c .before .before .before .before .before .before .before .before .before .check-text .ensures) (c .before .before .before .before .if1 .left) .0, (omega (arith, text-passed (lent (now (c .before .before .before .before .before .before .before .before .before .before .before .before .before .before .args .text)) (now (c .before .before .before .before .before .before .before .before .before .before .before .before .before .before .args .records)) (now (c .before .before .before .before .before .before .before .before .before .before .before .before .before .before .args .texts)) (c .before .before .before .before .before .before .before .before .before .before .before .before .before .before .args .line) (c .before .before .before .before .before .before .before .before .before .before .before .before .before .before .args .log)) (now (c .before .before .before .before .before .before .before .before .before .before .before .before .before .before .args .buf)) false false (c .before .before .before .before .before .refusal .result) (c .before .before .before .before .before .before .before .before .before .check-text .result) (c .before .before .before .before .before .refusal .ensures .0) (c .before .before .before .before .before .before .before .before .before .check-text .ensures) (c .before .before .before .before .if1 .left) .1, c .before .before .before .before .before .refusal .ensures .1 (c .before .before .before .before .if1 .left) .small), omega arith)))
+put-copies-requires c κs =
+    let else1 = c .before .before .before .before in
+    let after-refusal = else1.before in
+    let after-format-for = after-refusal .before .before .before .before in
+    let after-check-text = after-format-for.before in
+    let entry = after-check-text .before .before .before .before .before in
+    let text-passed1 = text-passed after-format-for.format-for.result
+    (lent (now entry.args.text) (now entry.args.records) (now entry.args.texts) entry.args.line entry.args.log) (now entry.args.buf) false
+    false after-refusal.refusal.result after-check-text.check-text.result after-refusal.refusal.ensures.0
+    after-check-text.check-text.ensures else1.if1.left in (
+      after-refusal.refusal.ensures.1 else1.if1.left,
+      (
+        text-passed1.0,
+        (
+          omega (
+            arith,
+            text-passed1.1,
+            after-refusal.refusal.ensures.1 else1.if1.left .small,
+            after-refusal.refusal.ensures.1 else1.if1.left .log .fit .text,
+          ),
+          omega arith,
+        ),
+      ),
+    )
 
 same-length-7 : tie.Need-same-length-7
 same-length-7 c = search needs
@@ -56,13 +108,27 @@ same-length-9 : tie.Need-same-length-9
 same-length-9 c = search needs
 
 returns-3 : tie.Need-returns-3
-returns-3 c = yank-some (lent (now (c .before .before .before .before .before .before .before .before .before .before .before .before .before .before .before .before .before .before .before .before .before .args .text)) (now (c .before .before .before .before .before .before .before .before .before .before .before .before .before .before .before .before .before .before .before .before .before .args .records)) (now (c .before .before .before .before .before .before .before .before .before .before .before .before .before .before .before .before .before .before .before .before .before .args .texts)) (c .before .before .before .before .before .before .before .before .before .before .before .before .before .before .before .before .before .before .before .before .before .args .line) (c .before .before .before .before .before .before .before .before .before .before .before .before .before .before .before .before .before .before .before .before .before .args .log)) (now (c .before .before .before .before .before .before .before .before .before .before .before .before .before .before .before .before .before .before .before .before .before .args .buf)) (c .before .before .before .before .before .before .before .before .before .before .before .before .before .before .before .before .before .before .before .before .before .args .n) (c .before .before .before .before .before .before .before .before .before .before .before .before .refusal .result) (as-text (lent (now (c .before .before .before .before .before .before .before .before .before .before .before .before .before .before .before .before .before .before .before .before .before .args .text)) (now (c .before .before .before .before .before .before .before .before .before .before .before .before .before .before .before .before .before .before .before .before .before .args .records)) (now (c .before .before .before .before .before .before .before .before .before .before .before .before .before .before .before .before .before .before .before .before .before .args .texts)) (c .before .before .before .before .before .before .before .before .before .before .before .before .before .before .before .before .before .before .before .before .before .args .line) (c .before .before .before .before .before .before .before .before .before .before .before .before .before .before .before .before .before .before .before .before .before .args .log)) (now (c .before .before .before .before .before .before .before .before .before .before .before .before .before .before .before .before .before .before .before .before .before .args .buf)) false false (c .before .before .before .before .before .before .before .before .before .before .before .before .refusal .result) (c .before .before .before .before .before .before .before .before .before .before .before .before .before .before .before .before .check-text .result) (c .before .before .before .before .before .before .before .before .before .before .before .before .refusal .ensures .0) (c .before .before .before .before .before .before .before .before .before .before .before .before .before .before .before .before .check-text .ensures)) _ (c .before .before .before .before .before .before .before .before .before .before .before .if1 .left) (c .before .before .before .before .before .before .before .before .before .before .if2 .left) _ _ _ (c .before .before .before .before .before .before .put-copies .ensures)
+returns-3 c =
+    let after-put-copies = c .before .before .before .before .before .before in
+    let else2 = after-put-copies .before .before .before .before in
+    let else1 = else2.before in
+    let after-refusal = else1.before in
+    let after-format-for = after-refusal .before .before .before .before in
+    let after-check-text = after-format-for.before in
+    let entry = after-check-text .before .before .before .before .before in
+    let l = lent (now entry.args.text) (now entry.args.records) (now entry.args.texts) entry.args.line entry.args.log in
+    in-format l (λ (F : Format). yankCall catalogue F l (now entry.args.buf) entry.args.n) after-format-for.format-for.ensures
+    (yank-some after-format-for.format-for.result l (now entry.args.buf) entry.args.n after-refusal.refusal.result
+    (as-text after-format-for.format-for.result l (now entry.args.buf) false false after-refusal.refusal.result
+    after-check-text.check-text.result after-refusal.refusal.ensures.0 after-check-text.check-text.ensures) _ else1.if1.left else2.if2.left
+    _ _ _ after-put-copies.put-copies.ensures)
 
 pub yank-spec : {M : Type 1} → statement M
 yank-spec =
     tie.close
     (tie.spec
     check-text-requires
+    format-for-requires
     refusal-requires
     says-requires
     same-length

@@ -1,7 +1,11 @@
+use Rattle.unicode.specs.Repertoire.{catalogue}
+use Rattle.formats.specs.declared.Format.{Format}
+use Rattle.formats.proofs.Formats.{fit-for}
+use Rattle.edit.proofs.Formats.{in-format}
+use Rattle.inserts.specs.Inserts.{yankPopCall}
 use native.Mathlib.Omega.{arith}
 use denote.Ref.{now}
 use Rattle.edit.specs.Calls.{lent}
-use Rattle.records.proofs.Formats.{narrow-fit}
 use Rattle.inserts.proofs.Twice.{pop-refused, pop-short, pop-suits, pop-done}
 use borrow.Author.Needs.{needs}
 use Rattle.inserts.proofs.yank_pop.Statement.{statement}
@@ -16,8 +20,13 @@ is-split-requires c κs = search needs
 check-text-requires : tie.Need-check-text-requires
 check-text-requires c κs = search needs
 
+format-for-requires : tie.Need-format-for-requires
+format-for-requires c κs = search needs
+
 refusal-requires : tie.Need-refusal-requires
-refusal-requires c κs = search needs
+refusal-requires c κs =
+    let after-format-for = c .before .before .before in
+    fit-for _ after-format-for.format-for.ensures
 
 says-requires : tie.Need-says-requires
 says-requires c κs = search needs
@@ -32,16 +41,64 @@ same-length-3 : tie.Need-same-length-3
 same-length-3 c = search needs
 
 returns : tie.Need-returns
-returns c = pop-refused (lent (now (c .before .before .before .before .before .before .before .before .before .before .before .before .before .before .args .text)) (now (c .before .before .before .before .before .before .before .before .before .before .before .before .before .before .args .records)) (now (c .before .before .before .before .before .before .before .before .before .before .before .before .before .before .args .texts)) (c .before .before .before .before .before .before .before .before .before .before .before .before .before .before .args .line) (c .before .before .before .before .before .before .before .before .before .before .before .before .before .before .args .log)) (c .before .before .before .before .before .before .before .before .before .before .before .before .before .before .args .size) (now (c .before .before .before .before .before .before .before .before .before .before .before .before .before .before .args .buf)) (c .before .before .before .before .before .before .before .before .before .back .result) (c .before .before .refusal .result) (c .before .before .before .before .before .before .check-text .result) (c .before .before .before .before .before .before .before .is-split .result) (c .before .before .before .before .before .before .before .before .before .back .ensures) (c .before .before .refusal .ensures .0) (c .before .before .before .before .before .before .check-text .ensures) (c .before .before .before .before .before .before .before .is-split .ensures) (c .before .if1 .taken) _ (c .says .ensures)
+returns c =
+    let after-format-for = c .before .before .before .before .before .before in
+    let after-check-text = after-format-for.before in
+    let after-is-split = after-check-text.before in
+    let after-back = after-is-split.before.before in
+    let entry = after-back .before .before .before .before .before in
+    let l = lent (now entry.args.text) (now entry.args.records) (now entry.args.texts) entry.args.line entry.args.log in
+    in-format l (λ (F : Format). yankPopCall catalogue F l entry.args.size (now entry.args.buf)) after-format-for.format-for.ensures
+    (pop-refused after-format-for.format-for.result l entry.args.size (now entry.args.buf) after-back.back.result
+    c.before.before.refusal.result after-check-text.check-text.result after-is-split.is-split.result after-back.back.ensures
+    c.before.before.refusal.ensures.0 after-check-text.check-text.ensures after-is-split.is-split.ensures c.before.if1.taken _
+    c.says.ensures)
 
 empty-is-requires : tie.Need-empty-is-requires
 empty-is-requires c κs = search needs
 
 add-cut-and-put : tie.Need-add-cut-and-put
-add-cut-and-put c = omega (arith, c .before .before .before .before .before .before .before .before .before .before .before .before .back .ensures, pop-short (lent (now (c .before .before .before .before .before .before .before .before .before .before .before .before .before .before .before .before .before .args .text)) (now (c .before .before .before .before .before .before .before .before .before .before .before .before .before .before .before .before .before .args .records)) (now (c .before .before .before .before .before .before .before .before .before .before .before .before .before .before .before .before .before .args .texts)) (c .before .before .before .before .before .before .before .before .before .before .before .before .before .before .before .before .before .args .line) (c .before .before .before .before .before .before .before .before .before .before .before .before .before .before .before .before .before .args .log)) (c .before .before .before .before .before .before .before .before .before .before .before .before .before .before .before .before .before .args .size) (now (c .before .before .before .before .before .before .before .before .before .before .before .before .before .before .before .before .before .args .buf)) (c .before .before .before .before .before .before .before .before .before .before .before .before .back .result) (c .before .before .before .before .before .refusal .result) (c .before .before .before .before .before .before .before .before .before .check-text .result) (c .before .before .before .before .before .before .before .before .before .before .is-split .result) (c .before .before .before .before .before .before .before .before .before .before .before .before .back .ensures) (c .before .before .before .before .before .refusal .ensures .0) (c .before .before .before .before .before .before .before .before .before .check-text .ensures) (c .before .before .before .before .before .before .before .before .before .before .is-split .ensures) (c .before .before .before .before .if1 .left), (c .before .before .before .before .before .refusal .ensures .1 (c .before .before .before .before .if1 .left)) .small, (c .before .before .before .before .before .refusal .ensures .1 (c .before .before .before .before .if1 .left)) .used, (c .before .before .before .before .before .refusal .ensures .1 (c .before .before .before .before .if1 .left)) .within)
+add-cut-and-put c =
+    let else1 = c .before .before .before .before in
+    let after-refusal = else1.before in
+    let after-format-for = after-refusal .before .before .before .before in
+    let after-check-text = after-format-for.before in
+    let after-is-split = after-check-text.before in
+    let after-back = after-is-split.before.before in
+    let entry = after-back .before .before .before .before .before in
+    omega (
+      arith,
+      after-back.back.ensures,
+      pop-short after-format-for.format-for.result
+          (lent (now entry.args.text) (now entry.args.records) (now entry.args.texts) entry.args.line entry.args.log) entry.args.size
+          (now entry.args.buf) after-back.back.result after-refusal.refusal.result after-check-text.check-text.result
+          after-is-split.is-split.result after-back.back.ensures after-refusal.refusal.ensures.0 after-check-text.check-text.ensures
+          after-is-split.is-split.ensures else1.if1.left,
+      (after-refusal.refusal.ensures.1 else1.if1.left) .small,
+      (after-refusal.refusal.ensures.1 else1.if1.left) .log .fit .text,
+      (after-refusal.refusal.ensures.1 else1.if1.left) .used,
+      (after-refusal.refusal.ensures.1 else1.if1.left) .within,
+    )
 
 cut-and-put-requires : tie.Need-cut-and-put-requires
-cut-and-put-requires c κs = (narrow-fit, ((c .before .before .before .before .before .refusal .ensures .1 (c .before .before .before .before .if1 .left)), pop-suits (lent (now (c .before .before .before .before .before .before .before .before .before .before .before .before .before .before .before .before .before .args .text)) (now (c .before .before .before .before .before .before .before .before .before .before .before .before .before .before .before .before .before .args .records)) (now (c .before .before .before .before .before .before .before .before .before .before .before .before .before .before .before .before .before .args .texts)) (c .before .before .before .before .before .before .before .before .before .before .before .before .before .before .before .before .before .args .line) (c .before .before .before .before .before .before .before .before .before .before .before .before .before .before .before .before .before .args .log)) (c .before .before .before .before .before .before .before .before .before .before .before .before .before .before .before .before .before .args .size) (now (c .before .before .before .before .before .before .before .before .before .before .before .before .before .before .before .before .before .args .buf)) (c .before .before .before .before .before .before .before .before .before .before .before .before .back .result) (c .before .before .before .before .before .refusal .result) (c .before .before .before .before .before .before .before .before .before .check-text .result) (c .before .before .before .before .before .before .before .before .before .before .is-split .result) (c .before .before .before .before .before .before .before .before .before .before .before .before .back .ensures) (c .before .before .before .before .before .refusal .ensures .0) (c .before .before .before .before .before .before .before .before .before .check-text .ensures) (c .before .before .before .before .before .before .before .before .before .before .is-split .ensures) (c .before .before .before .before .if1 .left) (c .before .before .before .before .before .refusal .ensures .1 (c .before .before .before .before .if1 .left))))
+cut-and-put-requires c κs =
+    let else1 = c .before .before .before .before in
+    let after-refusal = else1.before in
+    let after-format-for = after-refusal .before .before .before .before in
+    let after-check-text = after-format-for.before in
+    let after-is-split = after-check-text.before in
+    let after-back = after-is-split.before.before in
+    let entry = after-back .before .before .before .before .before in (
+      fit-for _ after-format-for.format-for.ensures,
+      (
+        (after-refusal.refusal.ensures.1 else1.if1.left),
+        pop-suits after-format-for.format-for.result
+            (lent (now entry.args.text) (now entry.args.records) (now entry.args.texts) entry.args.line entry.args.log) entry.args.size
+            (now entry.args.buf) after-back.back.result after-refusal.refusal.result after-check-text.check-text.result
+            after-is-split.is-split.result after-back.back.ensures after-refusal.refusal.ensures.0 after-check-text.check-text.ensures
+            after-is-split.is-split.ensures else1.if1.left (after-refusal.refusal.ensures.1 else1.if1.left),
+      ),
+    )
 
 same-length-4 : tie.Need-same-length-4
 same-length-4 c = search needs
@@ -53,7 +110,22 @@ same-length-6 : tie.Need-same-length-6
 same-length-6 c = search needs
 
 returns-2 : tie.Need-returns-2
-returns-2 c = pop-done (lent (now (c .before .before .before .before .before .before .before .before .before .before .before .before .before .before .before .before .before .before .before .before .before .before .before .before .args .text)) (now (c .before .before .before .before .before .before .before .before .before .before .before .before .before .before .before .before .before .before .before .before .before .before .before .before .args .records)) (now (c .before .before .before .before .before .before .before .before .before .before .before .before .before .before .before .before .before .before .before .before .before .before .before .before .args .texts)) (c .before .before .before .before .before .before .before .before .before .before .before .before .before .before .before .before .before .before .before .before .before .before .before .before .args .line) (c .before .before .before .before .before .before .before .before .before .before .before .before .before .before .before .before .before .before .before .before .before .before .before .before .args .log)) (c .before .before .before .before .before .before .before .before .before .before .before .before .before .before .before .before .before .before .before .before .before .before .before .before .args .size) (now (c .before .before .before .before .before .before .before .before .before .before .before .before .before .before .before .before .before .before .before .before .before .before .before .before .args .buf)) (c .before .before .before .before .before .before .before .before .before .before .before .before .before .before .before .before .before .before .before .back .result) (c .before .before .before .before .before .before .before .before .before .before .before .before .refusal .result) (c .before .before .before .before .before .before .before .before .before .before .before .before .before .before .before .before .check-text .result) (c .before .before .before .before .before .before .before .before .before .before .before .before .before .before .before .before .before .is-split .result) (c .before .before .before .before .before .before .before .before .before .before .before .before .before .before .before .before .before .before .before .back .ensures) (c .before .before .before .before .before .before .before .before .before .before .before .before .refusal .ensures .0) (c .before .before .before .before .before .before .before .before .before .before .before .before .before .before .before .before .check-text .ensures) (c .before .before .before .before .before .before .before .before .before .before .before .before .before .before .before .before .before .is-split .ensures) (c .before .before .before .before .before .before .before .before .before .before .before .if1 .left) (c .before .before .before .before .before .before .before .before .before .before .empty-is .result) (c .before .before .before .before .before .before .before .before .before .before .empty-is .ensures) _ _ _ _ (c .before .before .before .before .before .before .cut-and-put .ensures)
+returns-2 c =
+    let after-cut-and-put = c .before .before .before .before .before .before in
+    let after-empty-is = after-cut-and-put .before .before .before .before in
+    let else1 = after-empty-is.before in
+    let after-refusal = else1.before in
+    let after-format-for = after-refusal .before .before .before .before in
+    let after-check-text = after-format-for.before in
+    let after-is-split = after-check-text.before in
+    let after-back = after-is-split.before.before in
+    let entry = after-back .before .before .before .before .before in
+    let l = lent (now entry.args.text) (now entry.args.records) (now entry.args.texts) entry.args.line entry.args.log in
+    in-format l (λ (F : Format). yankPopCall catalogue F l entry.args.size (now entry.args.buf)) after-format-for.format-for.ensures
+    (pop-done after-format-for.format-for.result l entry.args.size (now entry.args.buf) after-back.back.result after-refusal.refusal.result
+    after-check-text.check-text.result after-is-split.is-split.result after-back.back.ensures after-refusal.refusal.ensures.0
+    after-check-text.check-text.ensures after-is-split.is-split.ensures else1.if1.left after-empty-is.empty-is.result
+    after-empty-is.empty-is.ensures _ _ _ _ after-cut-and-put.cut-and-put.ensures)
 
 pub yank-pop-spec : {M : Type 1} → statement M
 yank-pop-spec =
@@ -62,6 +134,7 @@ yank-pop-spec =
     back-requires
     is-split-requires
     check-text-requires
+    format-for-requires
     refusal-requires
     says-requires
     same-length

@@ -9,14 +9,15 @@ use Rattle.unicode.proofs.Text.{text-valid}
 use Rattle.lines.specs.declared.Range.{Range}
 use Rattle.checks.specs.Checks.{ownTests}
 use Rattle.copies.specs.Copy.{isForeign}
-use Rattle.journal.specs.Layout.{narrow}
+use Rattle.formats.specs.declared.Format.{Format}
+use Rattle.formats.proofs.Formats.{fit-for}
 use Rattle.edit.specs.Plan.{edited, cutting, once, nothing}
 use Rattle.edit.specs.Calls.{lent, sizesOf, stateOf, checked}
 use Rattle.edit.proofs.Answers.{refused-by, passed-by, stays}
 use Rattle.edit.proofs.Made.{outcome-as}
-use Rattle.kills.specs.Kills.{cutPlan, killRange}
+use Rattle.edit.proofs.Formats.{in-format}
+use Rattle.kills.specs.Kills.{cutPlan, killRange, killOf}
 use Rattle.kills.proofs.Ranges.{kill-in}
-use Rattle.records.proofs.Formats.{narrow-fit}
 use borrow.Author.Needs.{needs}
 use Rattle.kills.proofs.kill_movement.Statement.{statement}
 use Rattle.kills.proofs.kill_movement.Tie as tie
@@ -24,8 +25,13 @@ use Rattle.kills.proofs.kill_movement.Tie as tie
 is-foreign-requires : tie.Need-is-foreign-requires
 is-foreign-requires c κs = search needs
 
+format-for-requires : tie.Need-format-for-requires
+format-for-requires c κs = search needs
+
 refusal-requires : tie.Need-refusal-requires
-refusal-requires c κs = search needs
+refusal-requires c κs =
+    let after-format-for = c .before .before .before in
+    fit-for _ after-format-for.format-for.ensures
 
 says-requires : tie.Need-says-requires
 says-requires c κs = search needs
@@ -40,22 +46,65 @@ same-length-3 : tie.Need-same-length-3
 same-length-3 c = search needs
 
 returns : tie.Need-returns
-returns c = refused-by narrow (lent (now (c .before .before .before .before .before .before .before .before .before .before .args .text)) (now (c .before .before .before .before .before .before .before .before .before .before .args .records)) (now (c .before .before .before .before .before .before .before .before .before .before .args .texts)) (c .before .before .before .before .before .before .before .before .before .before .args .line) (c .before .before .before .before .before .before .before .before .before .before .args .log)) (c .before .before .refusal .result) (checked catalogue narrow (lent (now (c .before .before .before .before .before .before .before .before .before .before .args .text)) (now (c .before .before .before .before .before .before .before .before .before .before .args .records)) (now (c .before .before .before .before .before .before .before .before .before .before .args .texts)) (c .before .before .before .before .before .before .before .before .before .before .args .line) (c .before .before .before .before .before .before .before .before .before .before .args .log)) (ownTests false (isForeign catalogue (c .before .before .before .before .before .before .before .before .before .before .args .m)) false)) (edited catalogue narrow (sizesOf (lent (now (c .before .before .before .before .before .before .before .before .before .before .args .text)) (now (c .before .before .before .before .before .before .before .before .before .before .args .records)) (now (c .before .before .before .before .before .before .before .before .before .before .args .texts)) (c .before .before .before .before .before .before .before .before .before .before .args .line) (c .before .before .before .before .before .before .before .before .before .before .args .log))) (length (now (c .before .before .before .before .before .before .before .before .before .before .args .text))) (cutPlan (c .before .before .before .before .before .before .before .before .before .before .args .line .cursor) (killRange catalogue (take (c .before .before .before .before .before .before .before .before .before .before .args .line .len) (now (c .before .before .before .before .before .before .before .before .before .before .args .text))) (c .before .before .before .before .before .before .before .before .before .before .args .line .cursor) (c .before .before .before .before .before .before .before .before .before .before .args .m))) (stateOf catalogue narrow (lent (now (c .before .before .before .before .before .before .before .before .before .before .args .text)) (now (c .before .before .before .before .before .before .before .before .before .before .args .records)) (now (c .before .before .before .before .before .before .before .before .before .before .args .texts)) (c .before .before .before .before .before .before .before .before .before .before .args .line) (c .before .before .before .before .before .before .before .before .before .before .args .log)))) _ (sym (c .before .before .refusal .ensures .0 ∙ ap (λ (b : Bool). checked catalogue narrow (lent (now (c .before .before .before .before .before .before .before .before .before .before .args .text)) (now (c .before .before .before .before .before .before .before .before .before .before .args .records)) (now (c .before .before .before .before .before .before .before .before .before .before .args .texts)) (c .before .before .before .before .before .before .before .before .before .before .args .line) (c .before .before .before .before .before .before .before .before .before .before .args .log)) (ownTests false b false)) (c .before .before .before .before .before .before .is-foreign .ensures))) (c .before .if1 .taken) (c .says .ensures)
+returns c =
+    let after-format-for = c .before .before .before .before .before .before in
+    let after-is-foreign = after-format-for.before in
+    let entry = after-is-foreign .before .before .before .before in
+    let l = lent (now entry.args.text) (now entry.args.records) (now entry.args.texts) entry.args.line entry.args.log in
+    in-format l (λ (F : Format). killOf catalogue F l entry.args.m) after-format-for.format-for.ensures
+    (refused-by after-format-for.format-for.result l c.before.before.refusal.result
+    (checked catalogue after-format-for.format-for.result l (ownTests false (isForeign catalogue entry.args.m) false))
+    (edited catalogue after-format-for.format-for.result (sizesOf l) (length (now entry.args.text))
+    (cutPlan entry.args.line.cursor
+    (killRange catalogue (take entry.args.line.len (now entry.args.text)) entry.args.line.cursor entry.args.m))
+    (stateOf catalogue after-format-for.format-for.result l)) _
+    (sym
+    (c.before.before.refusal.ensures.0
+    ∙ ap (λ (b : Bool). checked catalogue after-format-for.format-for.result l (ownTests false b false))
+    after-is-foreign.is-foreign.ensures)) c.before.if1.taken c.says.ensures)
 
 slice-reshare-prefix-kill-range : tie.Need-slice-reshare-prefix-kill-range
 slice-reshare-prefix-kill-range c = (c .before .refusal .ensures .1 (c .if1 .left)) .used
 
 slice-aggregate-kill-range : tie.Need-slice-aggregate-kill-range
-slice-aggregate-kill-range c = sym (length-take-le (c .before .before .before .before .before .before .before .before .before .before .args .line .len) (now (c .before .before .before .before .before .before .before .before .before .before .args .text)) ((c .before .before .refusal .ensures .1 (c .before .if1 .left)) .used))
+slice-aggregate-kill-range c =
+    let entry = c .before .before .before .before .before .before .before .before .before .before .before in
+    sym (length-take-le entry.args.line.len (now entry.args.text) ((c.before.before.refusal.ensures.1 c.before.if1.left) .used))
 
 kill-range-requires : tie.Need-kill-range-requires
-kill-range-requires c κs = ((text-valid catalogue (take (c .before .before .before .before .before .before .before .before .before .before .args .line .len) (now (c .before .before .before .before .before .before .before .before .before .before .args .text))) ((c .before .before .refusal .ensures .1 (c .before .if1 .left)) .text)), (c .before .before .refusal .ensures .1 (c .before .if1 .left)) .edge, (subst (λ (n : ℕ). (c .before .before .before .before .before .before .before .before .before .before .args .line .cursor) ≤ n) (sym (length-take-le (c .before .before .before .before .before .before .before .before .before .before .args .line .len) (now (c .before .before .before .before .before .before .before .before .before .before .args .text)) ((c .before .before .refusal .ensures .1 (c .before .if1 .left)) .used))) ((c .before .before .refusal .ensures .1 (c .before .if1 .left)) .within)))
+kill-range-requires c κs =
+    let entry = c .before .before .before .before .before .before .before .before .before .before .before in
+    let refusal1 = c.before.before.refusal.ensures.1 c.before.if1.left in (
+      (text-valid catalogue (take entry.args.line.len (now entry.args.text)) refusal1.text),
+      refusal1.edge,
+      (subst (λ (n : ℕ). entry.args.line.cursor ≤ n) (sym (length-take-le entry.args.line.len (now entry.args.text) refusal1.used))
+          refusal1.within),
+    )
 
 enum-known-r : tie.Need-enum-known-r
 enum-known-r c = search needs
 
 cut-out-requires : tie.Need-cut-out-requires
-cut-out-requires c κs = (narrow-fit, ((c .before .before .before .before .before .before .before .before .before .refusal .ensures .1 (c .before .before .before .before .before .before .before .before .if1 .left)), kill-in catalogue (take (c .before .before .before .before .before .before .before .before .before .before .before .before .before .before .before .before .before .args .line .len) (now (c .before .before .before .before .before .before .before .before .before .before .before .before .before .before .before .before .before .args .text))) (text-valid catalogue (take (c .before .before .before .before .before .before .before .before .before .before .before .before .before .before .before .before .before .args .line .len) (now (c .before .before .before .before .before .before .before .before .before .before .before .before .before .before .before .before .before .args .text))) ((c .before .before .before .before .before .before .before .before .before .refusal .ensures .1 (c .before .before .before .before .before .before .before .before .if1 .left)) .text)) (c .before .before .before .before .r .given .0 .0) (c .before .before .before .before .r .given .0 .1 .0) (c .before .before .before .before .before .before .before .before .before .before .before .before .before .before .before .before .before .args .line .cursor) ((c .before .before .before .before .before .before .before .before .before .refusal .ensures .1 (c .before .before .before .before .before .before .before .before .if1 .left)) .edge) (subst (λ (n : ℕ). (c .before .before .before .before .before .before .before .before .before .before .before .before .before .before .before .before .before .args .line .cursor) ≤ n) (sym (length-take-le (c .before .before .before .before .before .before .before .before .before .before .before .before .before .before .before .before .before .args .line .len) (now (c .before .before .before .before .before .before .before .before .before .before .before .before .before .before .before .before .before .args .text)) ((c .before .before .before .before .before .before .before .before .before .refusal .ensures .1 (c .before .before .before .before .before .before .before .before .if1 .left)) .used))) ((c .before .before .before .before .before .before .before .before .before .refusal .ensures .1 (c .before .before .before .before .before .before .before .before .if1 .left)) .within)) (c .before .before .before .before .before .before .before .before .before .before .before .before .before .before .before .before .before .args .m) (sym (c .before .before .before .before .before .before .kill-range .ensures) ∙ c .before .before .before .before .r .given .1)))
+cut-out-requires c κs =
+    let after-r = c .before .before .before .before in
+    let after-kill-range = after-r.before.before in
+    let else1 = after-kill-range.before.before in
+    let after-refusal = else1.before in
+    let after-format-for = after-refusal .before .before .before .before in
+    let entry = after-format-for .before .before .before .before .before in (
+      fit-for _ after-format-for.format-for.ensures,
+      (
+        (after-refusal.refusal.ensures.1 else1.if1.left),
+        kill-in catalogue (take entry.args.line.len (now entry.args.text))
+            (text-valid catalogue (take entry.args.line.len (now entry.args.text))
+            ((after-refusal.refusal.ensures.1 else1.if1.left) .text)) after-r.r.given.0.0 after-r.r.given.0.1.0 entry.args.line.cursor
+            ((after-refusal.refusal.ensures.1 else1.if1.left) .edge)
+            (subst (λ (n : ℕ). entry.args.line.cursor ≤ n)
+            (sym (length-take-le entry.args.line.len (now entry.args.text) ((after-refusal.refusal.ensures.1 else1.if1.left) .used)))
+            ((after-refusal.refusal.ensures.1 else1.if1.left) .within)) entry.args.m
+            (sym after-kill-range.kill-range.ensures ∙ after-r.r.given.1),
+      ),
+    )
 
 enum-told : tie.Need-enum-told
 enum-told c = search needs
@@ -73,7 +122,36 @@ same-length-6 : tie.Need-same-length-6
 same-length-6 c = search needs
 
 returns-2 : tie.Need-returns-2
-returns-2 c = passed-by narrow (lent (now (c .before .before .before .before .before .before .before .before .before .before .before .before .before .before .before .before .before .before .before .before .before .before .before .before .args .text)) (now (c .before .before .before .before .before .before .before .before .before .before .before .before .before .before .before .before .before .before .before .before .before .before .before .before .args .records)) (now (c .before .before .before .before .before .before .before .before .before .before .before .before .before .before .before .before .before .before .before .before .before .before .before .before .args .texts)) (c .before .before .before .before .before .before .before .before .before .before .before .before .before .before .before .before .before .before .before .before .before .before .before .before .args .line) (c .before .before .before .before .before .before .before .before .before .before .before .before .before .before .before .before .before .before .before .before .before .before .before .before .args .log)) (c .before .before .before .before .before .before .before .before .before .before .before .before .before .before .before .before .refusal .result) (checked catalogue narrow (lent (now (c .before .before .before .before .before .before .before .before .before .before .before .before .before .before .before .before .before .before .before .before .before .before .before .before .args .text)) (now (c .before .before .before .before .before .before .before .before .before .before .before .before .before .before .before .before .before .before .before .before .before .before .before .before .args .records)) (now (c .before .before .before .before .before .before .before .before .before .before .before .before .before .before .before .before .before .before .before .before .before .before .before .before .args .texts)) (c .before .before .before .before .before .before .before .before .before .before .before .before .before .before .before .before .before .before .before .before .before .before .before .before .args .line) (c .before .before .before .before .before .before .before .before .before .before .before .before .before .before .before .before .before .before .before .before .before .before .before .before .args .log)) (ownTests false (isForeign catalogue (c .before .before .before .before .before .before .before .before .before .before .before .before .before .before .before .before .before .before .before .before .before .before .before .before .args .m)) false)) (edited catalogue narrow (sizesOf (lent (now (c .before .before .before .before .before .before .before .before .before .before .before .before .before .before .before .before .before .before .before .before .before .before .before .before .args .text)) (now (c .before .before .before .before .before .before .before .before .before .before .before .before .before .before .before .before .before .before .before .before .before .before .before .before .args .records)) (now (c .before .before .before .before .before .before .before .before .before .before .before .before .before .before .before .before .before .before .before .before .before .before .before .before .args .texts)) (c .before .before .before .before .before .before .before .before .before .before .before .before .before .before .before .before .before .before .before .before .before .before .before .before .args .line) (c .before .before .before .before .before .before .before .before .before .before .before .before .before .before .before .before .before .before .before .before .before .before .before .before .args .log))) (length (now (c .before .before .before .before .before .before .before .before .before .before .before .before .before .before .before .before .before .before .before .before .before .before .before .before .args .text))) (cutPlan (c .before .before .before .before .before .before .before .before .before .before .before .before .before .before .before .before .before .before .before .before .before .before .before .before .args .line .cursor) (killRange catalogue (take (c .before .before .before .before .before .before .before .before .before .before .before .before .before .before .before .before .before .before .before .before .before .before .before .before .args .line .len) (now (c .before .before .before .before .before .before .before .before .before .before .before .before .before .before .before .before .before .before .before .before .before .before .before .before .args .text))) (c .before .before .before .before .before .before .before .before .before .before .before .before .before .before .before .before .before .before .before .before .before .before .before .before .args .line .cursor) (c .before .before .before .before .before .before .before .before .before .before .before .before .before .before .before .before .before .before .before .before .before .before .before .before .args .m))) (stateOf catalogue narrow (lent (now (c .before .before .before .before .before .before .before .before .before .before .before .before .before .before .before .before .before .before .before .before .before .before .before .before .args .text)) (now (c .before .before .before .before .before .before .before .before .before .before .before .before .before .before .before .before .before .before .before .before .before .before .before .before .args .records)) (now (c .before .before .before .before .before .before .before .before .before .before .before .before .before .before .before .before .before .before .before .before .before .before .before .before .args .texts)) (c .before .before .before .before .before .before .before .before .before .before .before .before .before .before .before .before .before .before .before .before .before .before .before .before .args .line) (c .before .before .before .before .before .before .before .before .before .before .before .before .before .before .before .before .before .before .before .before .before .before .before .before .args .log)))) _ _ _ _ (sym (c .before .before .before .before .before .before .before .before .before .before .before .before .before .before .before .before .refusal .ensures .0 ∙ ap (λ (b : Bool). checked catalogue narrow (lent (now (c .before .before .before .before .before .before .before .before .before .before .before .before .before .before .before .before .before .before .before .before .before .before .before .before .args .text)) (now (c .before .before .before .before .before .before .before .before .before .before .before .before .before .before .before .before .before .before .before .before .before .before .before .before .args .records)) (now (c .before .before .before .before .before .before .before .before .before .before .before .before .before .before .before .before .before .before .before .before .before .before .before .before .args .texts)) (c .before .before .before .before .before .before .before .before .before .before .before .before .before .before .before .before .before .before .before .before .before .before .before .before .args .line) (c .before .before .before .before .before .before .before .before .before .before .before .before .before .before .before .before .before .before .before .before .before .before .before .before .args .log)) (ownTests false b false)) (c .before .before .before .before .before .before .before .before .before .before .before .before .before .before .before .before .before .before .before .before .is-foreign .ensures))) (c .before .before .before .before .before .before .before .before .before .before .before .before .before .before .before .if1 .left) (outcome-as narrow (lent (now (c .before .before .before .before .before .before .before .before .before .before .before .before .before .before .before .before .before .before .before .before .before .before .before .before .args .text)) (now (c .before .before .before .before .before .before .before .before .before .before .before .before .before .before .before .before .before .before .before .before .before .before .before .before .args .records)) (now (c .before .before .before .before .before .before .before .before .before .before .before .before .before .before .before .before .before .before .before .before .before .before .before .before .args .texts)) (c .before .before .before .before .before .before .before .before .before .before .before .before .before .before .before .before .before .before .before .before .before .before .before .before .args .line) (c .before .before .before .before .before .before .before .before .before .before .before .before .before .before .before .before .before .before .before .before .before .before .before .before .args .log)) (edited catalogue narrow (sizesOf (lent (now (c .before .before .before .before .before .before .before .before .before .before .before .before .before .before .before .before .before .before .before .before .before .before .before .before .args .text)) (now (c .before .before .before .before .before .before .before .before .before .before .before .before .before .before .before .before .before .before .before .before .before .before .before .before .args .records)) (now (c .before .before .before .before .before .before .before .before .before .before .before .before .before .before .before .before .before .before .before .before .before .before .before .before .args .texts)) (c .before .before .before .before .before .before .before .before .before .before .before .before .before .before .before .before .before .before .before .before .before .before .before .before .args .line) (c .before .before .before .before .before .before .before .before .before .before .before .before .before .before .before .before .before .before .before .before .before .before .before .before .args .log))) (length (now (c .before .before .before .before .before .before .before .before .before .before .before .before .before .before .before .before .before .before .before .before .before .before .before .before .args .text))) (once (cutting (c .before .before .before .before .before .before .before .before .before .before .before .r .given .0 .0) (c .before .before .before .before .before .before .before .before .before .before .before .r .given .0 .1 .0)) (c .before .before .before .before .before .before .before .before .before .before .before .r .given .0 .0)) (stateOf catalogue narrow (lent (now (c .before .before .before .before .before .before .before .before .before .before .before .before .before .before .before .before .before .before .before .before .before .before .before .before .args .text)) (now (c .before .before .before .before .before .before .before .before .before .before .before .before .before .before .before .before .before .before .before .before .before .before .before .before .args .records)) (now (c .before .before .before .before .before .before .before .before .before .before .before .before .before .before .before .before .before .before .before .before .before .before .before .before .args .texts)) (c .before .before .before .before .before .before .before .before .before .before .before .before .before .before .before .before .before .before .before .before .before .before .before .before .args .line) (c .before .before .before .before .before .before .before .before .before .before .before .before .before .before .before .before .before .before .before .before .before .before .before .before .args .log)))) (edited catalogue narrow (sizesOf (lent (now (c .before .before .before .before .before .before .before .before .before .before .before .before .before .before .before .before .before .before .before .before .before .before .before .before .args .text)) (now (c .before .before .before .before .before .before .before .before .before .before .before .before .before .before .before .before .before .before .before .before .before .before .before .before .args .records)) (now (c .before .before .before .before .before .before .before .before .before .before .before .before .before .before .before .before .before .before .before .before .before .before .before .before .args .texts)) (c .before .before .before .before .before .before .before .before .before .before .before .before .before .before .before .before .before .before .before .before .before .before .before .before .args .line) (c .before .before .before .before .before .before .before .before .before .before .before .before .before .before .before .before .before .before .before .before .before .before .before .before .args .log))) (length (now (c .before .before .before .before .before .before .before .before .before .before .before .before .before .before .before .before .before .before .before .before .before .before .before .before .args .text))) (cutPlan (c .before .before .before .before .before .before .before .before .before .before .before .before .before .before .before .before .before .before .before .before .before .before .before .before .args .line .cursor) (killRange catalogue (take (c .before .before .before .before .before .before .before .before .before .before .before .before .before .before .before .before .before .before .before .before .before .before .before .before .args .line .len) (now (c .before .before .before .before .before .before .before .before .before .before .before .before .before .before .before .before .before .before .before .before .before .before .before .before .args .text))) (c .before .before .before .before .before .before .before .before .before .before .before .before .before .before .before .before .before .before .before .before .before .before .before .before .args .line .cursor) (c .before .before .before .before .before .before .before .before .before .before .before .before .before .before .before .before .before .before .before .before .before .before .before .before .args .m))) (stateOf catalogue narrow (lent (now (c .before .before .before .before .before .before .before .before .before .before .before .before .before .before .before .before .before .before .before .before .before .before .before .before .args .text)) (now (c .before .before .before .before .before .before .before .before .before .before .before .before .before .before .before .before .before .before .before .before .before .before .before .before .args .records)) (now (c .before .before .before .before .before .before .before .before .before .before .before .before .before .before .before .before .before .before .before .before .before .before .before .before .args .texts)) (c .before .before .before .before .before .before .before .before .before .before .before .before .before .before .before .before .before .before .before .before .before .before .before .before .args .line) (c .before .before .before .before .before .before .before .before .before .before .before .before .before .before .before .before .before .before .before .before .before .before .before .before .args .log)))) _ _ _ _ (sym (ap (λ (x : Range). edited catalogue narrow (sizesOf (lent (now (c .before .before .before .before .before .before .before .before .before .before .before .before .before .before .before .before .before .before .before .before .before .before .before .before .args .text)) (now (c .before .before .before .before .before .before .before .before .before .before .before .before .before .before .before .before .before .before .before .before .before .before .before .before .args .records)) (now (c .before .before .before .before .before .before .before .before .before .before .before .before .before .before .before .before .before .before .before .before .before .before .before .before .args .texts)) (c .before .before .before .before .before .before .before .before .before .before .before .before .before .before .before .before .before .before .before .before .before .before .before .before .args .line) (c .before .before .before .before .before .before .before .before .before .before .before .before .before .before .before .before .before .before .before .before .before .before .before .before .args .log))) (length (now (c .before .before .before .before .before .before .before .before .before .before .before .before .before .before .before .before .before .before .before .before .before .before .before .before .args .text))) (cutPlan (c .before .before .before .before .before .before .before .before .before .before .before .before .before .before .before .before .before .before .before .before .before .before .before .before .args .line .cursor) x) (stateOf catalogue narrow (lent (now (c .before .before .before .before .before .before .before .before .before .before .before .before .before .before .before .before .before .before .before .before .before .before .before .before .args .text)) (now (c .before .before .before .before .before .before .before .before .before .before .before .before .before .before .before .before .before .before .before .before .before .before .before .before .args .records)) (now (c .before .before .before .before .before .before .before .before .before .before .before .before .before .before .before .before .before .before .before .before .before .before .before .before .args .texts)) (c .before .before .before .before .before .before .before .before .before .before .before .before .before .before .before .before .before .before .before .before .before .before .before .before .args .line) (c .before .before .before .before .before .before .before .before .before .before .before .before .before .before .before .before .before .before .before .before .before .before .before .before .args .log)))) (sym (c .before .before .before .before .before .before .before .before .before .before .before .before .before .kill-range .ensures) ∙ c .before .before .before .before .before .before .before .before .before .before .before .r .given .1))) (c .before .before .before .before .before .before .cut-out .ensures))
+returns-2 c =
+    let after-cut-out = c .before .before .before .before .before .before in
+    let after-r = after-cut-out .before .before .before .before .before in
+    let after-kill-range = after-r.before.before in
+    let else1 = after-kill-range.before.before in
+    let after-refusal = else1.before in
+    let after-format-for = after-refusal .before .before .before .before in
+    let after-is-foreign = after-format-for.before in
+    let entry = after-is-foreign .before .before .before .before in
+    let l = lent (now entry.args.text) (now entry.args.records) (now entry.args.texts) entry.args.line entry.args.log in
+    let stateOf1 = stateOf catalogue after-format-for.format-for.result l in
+    let sizesOf1 = sizesOf l in
+    let edited1 = edited catalogue after-format-for.format-for.result sizesOf1 (length (now entry.args.text))
+    (cutPlan entry.args.line.cursor
+    (killRange catalogue (take entry.args.line.len (now entry.args.text)) entry.args.line.cursor entry.args.m)) stateOf1 in
+    in-format l (λ (F : Format). killOf catalogue F l entry.args.m) after-format-for.format-for.ensures
+    (passed-by after-format-for.format-for.result l after-refusal.refusal.result
+    (checked catalogue after-format-for.format-for.result l (ownTests false (isForeign catalogue entry.args.m) false)) edited1 _ _ _ _
+    (sym
+    (after-refusal.refusal.ensures.0
+    ∙ ap (λ (b : Bool). checked catalogue after-format-for.format-for.result l (ownTests false b false))
+    after-is-foreign.is-foreign.ensures)) else1.if1.left
+    (outcome-as after-format-for.format-for.result l
+    (edited catalogue after-format-for.format-for.result sizesOf1 (length (now entry.args.text))
+    (once (cutting after-r.r.given.0.0 after-r.r.given.0.1.0) after-r.r.given.0.0) stateOf1) edited1 _ _ _ _
+    (sym
+    (ap
+    (λ (x : Range). edited catalogue after-format-for.format-for.result sizesOf1 (length (now entry.args.text))
+    (cutPlan entry.args.line.cursor x) stateOf1) (sym after-kill-range.kill-range.ensures ∙ after-r.r.given.1)))
+    after-cut-out.cut-out.ensures))
 
 same-length-7 : tie.Need-same-length-7
 same-length-7 c = search needs
@@ -85,13 +163,41 @@ same-length-9 : tie.Need-same-length-9
 same-length-9 c = search needs
 
 returns-3 : tie.Need-returns-3
-returns-3 c = passed-by narrow (lent (now (c .before .before .before .before .before .before .before .before .before .before .before .before .before .before .args .text)) (now (c .before .before .before .before .before .before .before .before .before .before .before .before .before .before .args .records)) (now (c .before .before .before .before .before .before .before .before .before .before .before .before .before .before .args .texts)) (c .before .before .before .before .before .before .before .before .before .before .before .before .before .before .args .line) (c .before .before .before .before .before .before .before .before .before .before .before .before .before .before .args .log)) (c .before .before .before .before .before .before .refusal .result) (checked catalogue narrow (lent (now (c .before .before .before .before .before .before .before .before .before .before .before .before .before .before .args .text)) (now (c .before .before .before .before .before .before .before .before .before .before .before .before .before .before .args .records)) (now (c .before .before .before .before .before .before .before .before .before .before .before .before .before .before .args .texts)) (c .before .before .before .before .before .before .before .before .before .before .before .before .before .before .args .line) (c .before .before .before .before .before .before .before .before .before .before .before .before .before .before .args .log)) (ownTests false (isForeign catalogue (c .before .before .before .before .before .before .before .before .before .before .before .before .before .before .args .m)) false)) (edited catalogue narrow (sizesOf (lent (now (c .before .before .before .before .before .before .before .before .before .before .before .before .before .before .args .text)) (now (c .before .before .before .before .before .before .before .before .before .before .before .before .before .before .args .records)) (now (c .before .before .before .before .before .before .before .before .before .before .before .before .before .before .args .texts)) (c .before .before .before .before .before .before .before .before .before .before .before .before .before .before .args .line) (c .before .before .before .before .before .before .before .before .before .before .before .before .before .before .args .log))) (length (now (c .before .before .before .before .before .before .before .before .before .before .before .before .before .before .args .text))) (cutPlan (c .before .before .before .before .before .before .before .before .before .before .before .before .before .before .args .line .cursor) (killRange catalogue (take (c .before .before .before .before .before .before .before .before .before .before .before .before .before .before .args .line .len) (now (c .before .before .before .before .before .before .before .before .before .before .before .before .before .before .args .text))) (c .before .before .before .before .before .before .before .before .before .before .before .before .before .before .args .line .cursor) (c .before .before .before .before .before .before .before .before .before .before .before .before .before .before .args .m))) (stateOf catalogue narrow (lent (now (c .before .before .before .before .before .before .before .before .before .before .before .before .before .before .args .text)) (now (c .before .before .before .before .before .before .before .before .before .before .before .before .before .before .args .records)) (now (c .before .before .before .before .before .before .before .before .before .before .before .before .before .before .args .texts)) (c .before .before .before .before .before .before .before .before .before .before .before .before .before .before .args .line) (c .before .before .before .before .before .before .before .before .before .before .before .before .before .before .args .log)))) _ _ _ _ (sym (c .before .before .before .before .before .before .refusal .ensures .0 ∙ ap (λ (b : Bool). checked catalogue narrow (lent (now (c .before .before .before .before .before .before .before .before .before .before .before .before .before .before .args .text)) (now (c .before .before .before .before .before .before .before .before .before .before .before .before .before .before .args .records)) (now (c .before .before .before .before .before .before .before .before .before .before .before .before .before .before .args .texts)) (c .before .before .before .before .before .before .before .before .before .before .before .before .before .before .args .line) (c .before .before .before .before .before .before .before .before .before .before .before .before .before .before .args .log)) (ownTests false b false)) (c .before .before .before .before .before .before .before .before .before .before .is-foreign .ensures))) (c .before .before .before .before .before .if1 .left) (outcome-as narrow (lent (now (c .before .before .before .before .before .before .before .before .before .before .before .before .before .before .args .text)) (now (c .before .before .before .before .before .before .before .before .before .before .before .before .before .before .args .records)) (now (c .before .before .before .before .before .before .before .before .before .before .before .before .before .before .args .texts)) (c .before .before .before .before .before .before .before .before .before .before .before .before .before .before .args .line) (c .before .before .before .before .before .before .before .before .before .before .before .before .before .before .args .log)) (edited catalogue narrow (sizesOf (lent (now (c .before .before .before .before .before .before .before .before .before .before .before .before .before .before .args .text)) (now (c .before .before .before .before .before .before .before .before .before .before .before .before .before .before .args .records)) (now (c .before .before .before .before .before .before .before .before .before .before .before .before .before .before .args .texts)) (c .before .before .before .before .before .before .before .before .before .before .before .before .before .before .args .line) (c .before .before .before .before .before .before .before .before .before .before .before .before .before .before .args .log))) (length (now (c .before .before .before .before .before .before .before .before .before .before .before .before .before .before .args .text))) (nothing (c .before .before .before .before .before .before .before .before .before .before .before .before .before .before .args .line .cursor)) (stateOf catalogue narrow (lent (now (c .before .before .before .before .before .before .before .before .before .before .before .before .before .before .args .text)) (now (c .before .before .before .before .before .before .before .before .before .before .before .before .before .before .args .records)) (now (c .before .before .before .before .before .before .before .before .before .before .before .before .before .before .args .texts)) (c .before .before .before .before .before .before .before .before .before .before .before .before .before .before .args .line) (c .before .before .before .before .before .before .before .before .before .before .before .before .before .before .args .log)))) (edited catalogue narrow (sizesOf (lent (now (c .before .before .before .before .before .before .before .before .before .before .before .before .before .before .args .text)) (now (c .before .before .before .before .before .before .before .before .before .before .before .before .before .before .args .records)) (now (c .before .before .before .before .before .before .before .before .before .before .before .before .before .before .args .texts)) (c .before .before .before .before .before .before .before .before .before .before .before .before .before .before .args .line) (c .before .before .before .before .before .before .before .before .before .before .before .before .before .before .args .log))) (length (now (c .before .before .before .before .before .before .before .before .before .before .before .before .before .before .args .text))) (cutPlan (c .before .before .before .before .before .before .before .before .before .before .before .before .before .before .args .line .cursor) (killRange catalogue (take (c .before .before .before .before .before .before .before .before .before .before .before .before .before .before .args .line .len) (now (c .before .before .before .before .before .before .before .before .before .before .before .before .before .before .args .text))) (c .before .before .before .before .before .before .before .before .before .before .before .before .before .before .args .line .cursor) (c .before .before .before .before .before .before .before .before .before .before .before .before .before .before .args .m))) (stateOf catalogue narrow (lent (now (c .before .before .before .before .before .before .before .before .before .before .before .before .before .before .args .text)) (now (c .before .before .before .before .before .before .before .before .before .before .before .before .before .before .args .records)) (now (c .before .before .before .before .before .before .before .before .before .before .before .before .before .before .args .texts)) (c .before .before .before .before .before .before .before .before .before .before .before .before .before .before .args .line) (c .before .before .before .before .before .before .before .before .before .before .before .before .before .before .args .log)))) _ _ _ _ (sym (ap (λ (x : Range). edited catalogue narrow (sizesOf (lent (now (c .before .before .before .before .before .before .before .before .before .before .before .before .before .before .args .text)) (now (c .before .before .before .before .before .before .before .before .before .before .before .before .before .before .args .records)) (now (c .before .before .before .before .before .before .before .before .before .before .before .before .before .before .args .texts)) (c .before .before .before .before .before .before .before .before .before .before .before .before .before .before .args .line) (c .before .before .before .before .before .before .before .before .before .before .before .before .before .before .args .log))) (length (now (c .before .before .before .before .before .before .before .before .before .before .before .before .before .before .args .text))) (cutPlan (c .before .before .before .before .before .before .before .before .before .before .before .before .before .before .args .line .cursor) x) (stateOf catalogue narrow (lent (now (c .before .before .before .before .before .before .before .before .before .before .before .before .before .before .args .text)) (now (c .before .before .before .before .before .before .before .before .before .before .before .before .before .before .args .records)) (now (c .before .before .before .before .before .before .before .before .before .before .before .before .before .before .args .texts)) (c .before .before .before .before .before .before .before .before .before .before .before .before .before .before .args .line) (c .before .before .before .before .before .before .before .before .before .before .before .before .before .before .args .log)))) (sym (c .before .before .before .kill-range .ensures) ∙ c .before .enum-told .given .1))) (stays narrow (lent (now (c .before .before .before .before .before .before .before .before .before .before .before .before .before .before .args .text)) (now (c .before .before .before .before .before .before .before .before .before .before .before .before .before .before .args .records)) (now (c .before .before .before .before .before .before .before .before .before .before .before .before .before .before .args .texts)) (c .before .before .before .before .before .before .before .before .before .before .before .before .before .before .args .line) (c .before .before .before .before .before .before .before .before .before .before .before .before .before .before .args .log)) (c .before .before .before .before .before .before .refusal .ensures .1 (c .before .before .before .before .before .if1 .left)) _ (c .says2 .ensures)))
+returns-3 c =
+    let after-kill-range = c .before .before .before in
+    let else1 = after-kill-range.before.before in
+    let after-refusal = else1.before in
+    let after-format-for = after-refusal .before .before .before .before in
+    let after-is-foreign = after-format-for.before in
+    let entry = after-is-foreign .before .before .before .before in
+    let l = lent (now entry.args.text) (now entry.args.records) (now entry.args.texts) entry.args.line entry.args.log in
+    let stateOf1 = stateOf catalogue after-format-for.format-for.result l in
+    let sizesOf1 = sizesOf l in
+    let edited1 = edited catalogue after-format-for.format-for.result sizesOf1 (length (now entry.args.text))
+    (cutPlan entry.args.line.cursor
+    (killRange catalogue (take entry.args.line.len (now entry.args.text)) entry.args.line.cursor entry.args.m)) stateOf1 in
+    in-format l (λ (F : Format). killOf catalogue F l entry.args.m) after-format-for.format-for.ensures
+    (passed-by after-format-for.format-for.result l after-refusal.refusal.result
+    (checked catalogue after-format-for.format-for.result l (ownTests false (isForeign catalogue entry.args.m) false)) edited1 _ _ _ _
+    (sym
+    (after-refusal.refusal.ensures.0
+    ∙ ap (λ (b : Bool). checked catalogue after-format-for.format-for.result l (ownTests false b false))
+    after-is-foreign.is-foreign.ensures)) else1.if1.left
+    (outcome-as after-format-for.format-for.result l
+    (edited catalogue after-format-for.format-for.result sizesOf1 (length (now entry.args.text)) (nothing entry.args.line.cursor) stateOf1)
+    edited1 _ _ _ _
+    (sym
+    (ap
+    (λ (x : Range). edited catalogue after-format-for.format-for.result sizesOf1 (length (now entry.args.text))
+    (cutPlan entry.args.line.cursor x) stateOf1) (sym after-kill-range.kill-range.ensures ∙ c.before.enum-told.given.1)))
+    (stays after-format-for.format-for.result l (after-refusal.refusal.ensures.1 else1.if1.left) _ c.says2.ensures)))
 
 pub kill-movement-spec : {M : Type 1} → statement M
 kill-movement-spec =
     tie.close
     (tie.spec
     is-foreign-requires
+    format-for-requires
     refusal-requires
     says-requires
     same-length

@@ -92,46 +92,94 @@ copied-requires-10 : tie.Need-copied-requires-10
 copied-requires-10 c κs = search needs
 
 returns : tie.Need-returns
-returns c = c .kill-line-range .ensures ∙ ap (killLine catalogue (now (c .before .before .before .before .before .args .s))) (c .before .start-of-line .ensures .0) ∙ sym (ap (killRange catalogue (now (c .before .before .before .before .before .args .s)) (c .before .before .before .before .before .args .pos)) (c .before .before .enum-told .given .1))
+returns c =
+    let entry = c .before .before .before .before .before in
+    c.kill-line-range.ensures
+    ∙ ap (killLine catalogue (now entry.args.s)) c.before.start-of-line.ensures.0
+    ∙ sym (ap (killRange catalogue (now entry.args.s) entry.args.pos) c.before.before.enum-told.given.1)
 
 returns-2 : tie.Need-returns-2
-returns-2 c = c .discard-line-range .ensures ∙ sym (ap (killRange catalogue (now (c .before .before .before .before .args .s)) (c .before .before .before .before .args .pos)) (c .before .enum-told2 .given .1))
+returns-2 c =
+    let entry = c .before .before .before .before in
+    c.discard-line-range.ensures ∙ sym (ap (killRange catalogue (now entry.args.s) entry.args.pos) c.before.enum-told2.given.1)
 
 returns-3 : tie.Need-returns-3
-returns-3 c = c .kill-line-range2 .ensures ∙ sym (ap (killRange catalogue (now (c .before .before .before .before .args .s)) (c .before .before .before .before .args .pos)) (c .before .enum-told3 .given .1))
+returns-3 c =
+    let entry = c .before .before .before .before in
+    c.kill-line-range2.ensures ∙ sym (ap (killRange catalogue (now entry.args.s) entry.args.pos) c.before.enum-told3.given.1)
 
 returns-4 : tie.Need-returns-4
 returns-4 c = search needs
 
 returns-5 : tie.Need-returns-5
-returns-5 c = c .copied .ensures ∙ ap (copied catalogue (now (c .before .before .before .before .args .s)) (c .before .before .before .before .args .pos)) (c .before .enum-told5 .given .1) ∙ sym (ap (killRange catalogue (now (c .before .before .before .before .args .s)) (c .before .before .before .before .args .pos)) (c .before .enum-told5 .given .1))
+returns-5 c =
+    let entry = c .before .before .before .before in
+    c.copied.ensures
+    ∙ ap (copied catalogue (now entry.args.s) entry.args.pos) c.before.enum-told5.given.1
+    ∙ sym (ap (killRange catalogue (now entry.args.s) entry.args.pos) c.before.enum-told5.given.1)
 
 returns-6 : tie.Need-returns-6
-returns-6 c = c .copied2 .ensures ∙ ap (copied catalogue (now (c .before .before .before .before .args .s)) (c .before .before .before .before .args .pos)) (c .before .enum-told6 .given .1) ∙ sym (ap (killRange catalogue (now (c .before .before .before .before .args .s)) (c .before .before .before .before .args .pos)) (c .before .enum-told6 .given .1))
+returns-6 c =
+    let entry = c .before .before .before .before in
+    c.copied2.ensures
+    ∙ ap (copied catalogue (now entry.args.s) entry.args.pos) c.before.enum-told6.given.1
+    ∙ sym (ap (killRange catalogue (now entry.args.s) entry.args.pos) c.before.enum-told6.given.1)
 
 returns-7 : tie.Need-returns-7
-returns-7 c = c .copied3 .ensures ∙ ap (copied catalogue (now (c .before .before .before .before .args .s)) (c .before .before .before .before .args .pos)) (c .before .enum-told7 .given .1) ∙ sym (ap (killRange catalogue (now (c .before .before .before .before .args .s)) (c .before .before .before .before .args .pos)) (c .before .enum-told7 .given .1))
+returns-7 c =
+    let entry = c .before .before .before .before in
+    c.copied3.ensures
+    ∙ ap (copied catalogue (now entry.args.s) entry.args.pos) c.before.enum-told7.given.1
+    ∙ sym (ap (killRange catalogue (now entry.args.s) entry.args.pos) c.before.enum-told7.given.1)
 
 returns-8 : tie.Need-returns-8
-returns-8 c = c .copied4 .ensures ∙ ap (copied catalogue (now (c .before .before .before .before .args .s)) (c .before .before .before .before .args .pos)) (c .before .enum-told8 .given .1) ∙ sym (ap (killRange catalogue (now (c .before .before .before .before .args .s)) (c .before .before .before .before .args .pos)) (c .before .enum-told8 .given .1))
+returns-8 c =
+    let entry = c .before .before .before .before in
+    c.copied4.ensures
+    ∙ ap (copied catalogue (now entry.args.s) entry.args.pos) c.before.enum-told8.given.1
+    ∙ sym (ap (killRange catalogue (now entry.args.s) entry.args.pos) c.before.enum-told8.given.1)
 
 returns-9 : tie.Need-returns-9
-returns-9 c = c .copied5 .ensures ∙ ap (copied catalogue (now (c .before .before .before .before .args .s)) (c .before .before .before .before .args .pos)) (c .before .enum-told9 .given .1) ∙ sym (ap (killRange catalogue (now (c .before .before .before .before .args .s)) (c .before .before .before .before .args .pos)) (c .before .enum-told9 .given .1))
+returns-9 c =
+    let entry = c .before .before .before .before in
+    c.copied5.ensures
+    ∙ ap (copied catalogue (now entry.args.s) entry.args.pos) c.before.enum-told9.given.1
+    ∙ sym (ap (killRange catalogue (now entry.args.s) entry.args.pos) c.before.enum-told9.given.1)
 
 returns-10 : tie.Need-returns-10
-returns-10 c = c .copied6 .ensures ∙ ap (copied catalogue (now (c .before .before .before .before .args .s)) (c .before .before .before .before .args .pos)) (c .before .enum-told10 .given .1) ∙ sym (ap (killRange catalogue (now (c .before .before .before .before .args .s)) (c .before .before .before .before .args .pos)) (c .before .enum-told10 .given .1))
+returns-10 c =
+    let entry = c .before .before .before .before in
+    c.copied6.ensures
+    ∙ ap (copied catalogue (now entry.args.s) entry.args.pos) c.before.enum-told10.given.1
+    ∙ sym (ap (killRange catalogue (now entry.args.s) entry.args.pos) c.before.enum-told10.given.1)
 
 returns-11 : tie.Need-returns-11
-returns-11 c = c .copied7 .ensures ∙ ap (copied catalogue (now (c .before .before .before .before .args .s)) (c .before .before .before .before .args .pos)) (c .before .enum-told11 .given .1) ∙ sym (ap (killRange catalogue (now (c .before .before .before .before .args .s)) (c .before .before .before .before .args .pos)) (c .before .enum-told11 .given .1))
+returns-11 c =
+    let entry = c .before .before .before .before in
+    c.copied7.ensures
+    ∙ ap (copied catalogue (now entry.args.s) entry.args.pos) c.before.enum-told11.given.1
+    ∙ sym (ap (killRange catalogue (now entry.args.s) entry.args.pos) c.before.enum-told11.given.1)
 
 returns-12 : tie.Need-returns-12
-returns-12 c = c .copied8 .ensures ∙ ap (copied catalogue (now (c .before .before .before .before .args .s)) (c .before .before .before .before .args .pos)) (c .before .enum-told12 .given .1) ∙ sym (ap (killRange catalogue (now (c .before .before .before .before .args .s)) (c .before .before .before .before .args .pos)) (c .before .enum-told12 .given .1))
+returns-12 c =
+    let entry = c .before .before .before .before in
+    c.copied8.ensures
+    ∙ ap (copied catalogue (now entry.args.s) entry.args.pos) c.before.enum-told12.given.1
+    ∙ sym (ap (killRange catalogue (now entry.args.s) entry.args.pos) c.before.enum-told12.given.1)
 
 returns-13 : tie.Need-returns-13
-returns-13 c = c .copied9 .ensures ∙ ap (copied catalogue (now (c .before .before .before .before .args .s)) (c .before .before .before .before .args .pos)) (c .before .enum-told13 .given .1) ∙ sym (ap (killRange catalogue (now (c .before .before .before .before .args .s)) (c .before .before .before .before .args .pos)) (c .before .enum-told13 .given .1))
+returns-13 c =
+    let entry = c .before .before .before .before in
+    c.copied9.ensures
+    ∙ ap (copied catalogue (now entry.args.s) entry.args.pos) c.before.enum-told13.given.1
+    ∙ sym (ap (killRange catalogue (now entry.args.s) entry.args.pos) c.before.enum-told13.given.1)
 
 returns-14 : tie.Need-returns-14
-returns-14 c = c .copied10 .ensures ∙ ap (copied catalogue (now (c .before .before .before .before .args .s)) (c .before .before .before .before .args .pos)) (c .before .enum-told14 .given .1) ∙ sym (ap (killRange catalogue (now (c .before .before .before .before .args .s)) (c .before .before .before .before .args .pos)) (c .before .enum-told14 .given .1))
+returns-14 c =
+    let entry = c .before .before .before .before in
+    c.copied10.ensures
+    ∙ ap (copied catalogue (now entry.args.s) entry.args.pos) c.before.enum-told14.given.1
+    ∙ sym (ap (killRange catalogue (now entry.args.s) entry.args.pos) c.before.enum-told14.given.1)
 
 pub kill-range-spec : {M : Type 1} → statement M
 kill-range-spec =

@@ -1,5 +1,5 @@
 use borrow.Author.Needs.{needs}
-use Prim.Native.Nat.{_-_}
+use Prim.Native.Nat.{ℕ, _-_}
 use mathlib.Core.Path.{sym, ap, _∙_}
 use native.Mathlib.Omega.{arith}
 use lib.ListN.{length}
@@ -7,18 +7,23 @@ use Rattle.utf8.specs.Answer.{asFirst}
 use Rattle.utf8.proofs.Forms.{first-end}
 use Rattle.unicode.specs.Repertoire.{catalogue}
 use Rattle.unicode.proofs.Text.{within-at}
-use Rattle.layout.proofs.Columns.{Measured, measure-start, measure-on, measure-end, width-le}
+use Rattle.unicode.proofs.Catalogue.{catalogue-lawful}
+use Rattle.layout.specs.Width.{mostColumns}
+use Rattle.layout.proofs.Columns.{Reach, Measured, measure-start, measure-on, measure-end, lawful-reach}
 use Rattle.layout.proofs.width.Statement.{statement}
 use Rattle.layout.proofs.width.Tie as tie
 
+abbrev reach : (col c : ℕ) → Reach mostColumns catalogue col c
+reach = lawful-reach catalogue catalogue-lawful
+
 abbrev Inv-loop : tie.InvT-loop
-Inv-loop s col at₀ column₀ at column = Measured catalogue s col at column
+Inv-loop s col at₀ column₀ at column = Measured catalogue mostColumns reach s col at column
 
 abbrev μ-loop : tie.MeasureT-loop
 μ-loop s col at₀ column₀ at column = length s - at
 
 loop-holds : tie.Need-loop-holds Inv-loop μ-loop
-loop-holds c = measure-start catalogue (c .before .args .s .now) (c .before .args .col)
+loop-holds c = measure-start catalogue mostColumns reach (c .before .args .s .now) (c .before .args .col)
 
 decode-at-requires : tie.Need-decode-at-requires Inv-loop μ-loop
 decode-at-requires c κs = search needs
@@ -33,13 +38,10 @@ sub-result : tie.Need-sub-result Inv-loop μ-loop
 sub-result c = search needs
 
 returns : tie.Need-returns Inv-loop μ-loop
-returns c = measure-end catalogue (c .before .before .before .before .before .before .args .s .now) (c .before .before .before .before .before .before .args .col) _ _ (c .before .before .before .before .loop .inv) (sym (c .before .before .decode-at .ensures) ∙ ap asFirst (c .enum-told .given .1))
+returns c = measure-end catalogue mostColumns reach (c .before .before .before .before .before .before .args .s .now) (c .before .before .before .before .before .before .args .col) _ _ (c .before .before .before .before .loop .inv) (sym (c .before .before .decode-at .ensures) ∙ ap asFirst (c .enum-told .given .1))
 
-char-width-requires : tie.Need-char-width-requires Inv-loop μ-loop
-char-width-requires c κs = search needs
-
-add-column : tie.Need-add-column Inv-loop μ-loop
-add-column c = omega (arith, c .before .before .before .before .before .before .loop .inv .high, c .before .before .before .before .before .before .loop .inv .within, c .before .before .before .before .before .before .before .before .pre, c .char-width .ensures, width-le (c .before .before .d .given .0 .0))
+advance-requires : tie.Need-advance-requires Inv-loop μ-loop
+advance-requires c κs = omega (arith, c .before .before .before .before .before .loop .inv .high, c .before .before .before .before .before .loop .inv .within, c .before .before .before .before .before .before .before .pre)
 
 add-at : tie.Need-add-at Inv-loop μ-loop
 add-at c = omega (arith, within-at (c .before .before .before .before .before .before .before .before .args .s .now) _ _ _ (c .before .before .before .before .before .before .loop .inv .within) (sym (c .before .before .before .before .decode-at .ensures) ∙ ap asFirst (c .before .before .d .given .1)))
@@ -48,13 +50,13 @@ loop-less : tie.Need-loop-less Inv-loop μ-loop
 loop-less c = omega (arith, c .before .before .before .before .before .before .loop .inv .within, within-at (c .before .before .before .before .before .before .before .before .args .s .now) _ _ _ (c .before .before .before .before .before .before .loop .inv .within) (sym (c .before .before .before .before .decode-at .ensures) ∙ ap asFirst (c .before .before .d .given .1)))
 
 loop-again : tie.Need-loop-again Inv-loop μ-loop
-loop-again c = measure-on catalogue (c .before .before .before .before .before .before .before .before .args .s .now) (c .before .before .before .before .before .before .before .before .args .col) _ _ (c .before .before .before .before .before .before .loop .inv) _ _ _ (sym (c .before .before .before .before .decode-at .ensures) ∙ ap asFirst (c .before .before .d .given .1)) (c .char-width .ensures) (omega (arith, c .char-width .ensures, width-le (c .before .before .d .given .0 .0)))
+loop-again c = measure-on catalogue mostColumns reach (c .before .before .before .before .before .before .before .before .args .s .now) (c .before .before .before .before .before .before .before .before .args .col) _ _ (c .before .before .before .before .before .before .loop .inv) _ _ _ (sym (c .before .before .before .before .decode-at .ensures) ∙ ap asFirst (c .before .before .d .given .1)) (c .advance .ensures)
 
 sub-result-2 : tie.Need-sub-result-2 Inv-loop μ-loop
 sub-result-2 c = search needs
 
 returns-2 : tie.Need-returns-2 Inv-loop μ-loop
-returns-2 c = measure-end catalogue (c .before .before .before .args .s .now) (c .before .before .before .args .col) _ _ (c .before .loop .inv) (first-end (c .before .before .before .args .s .now) (c .before .loop .at) (c .loop-test .left))
+returns-2 c = measure-end catalogue mostColumns reach (c .before .before .before .args .s .now) (c .before .before .before .args .col) _ _ (c .before .loop .inv) (first-end (c .before .before .before .args .s .now) (c .before .loop .at) (c .loop-test .left))
 
 pub width-spec : {M : Type 1} → statement M
 width-spec =
@@ -68,8 +70,7 @@ width-spec =
     enum-told
     sub-result
     returns
-    char-width-requires
-    add-column
+    advance-requires
     add-at
     loop-less
     loop-again

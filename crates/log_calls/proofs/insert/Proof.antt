@@ -2,10 +2,11 @@ use mathlib.Core.Path.{sym, ap, _∙_}
 use denote.Ref.{now}
 use Rattle.unicode.specs.Repertoire.{catalogue}
 use Rattle.checks.specs.Outcome.{called}
-use Rattle.journal.specs.Layout.{narrow}
-use Rattle.changeset.specs.Calls.{lent, sizesOf, valueOf, checked}
+use Rattle.formats.specs.declared.Format.{Format}
+use Rattle.changeset.specs.Calls.{lent, sizesOf, valueOf, checked, insertCall}
 use Rattle.changeset.proofs.Answers.{refused-by, passed-by, answered-as}
-use Rattle.records.proofs.Formats.{narrow-fit}
+use Rattle.formats.proofs.Formats.{fit-for}
+use Rattle.changeset.proofs.Formats.{in-format}
 use native.Mathlib.Omega.{arith}
 use mathlib.Core.Bool.{Bool, not}
 use borrow.Author.Tests.{not-false}
@@ -23,11 +24,16 @@ use borrow.Author.Needs.{needs}
 use Rattle.log_calls.proofs.insert.Statement.{statement}
 use Rattle.log_calls.proofs.insert.Tie as tie
 
+format-for-requires : tie.Need-format-for-requires
+format-for-requires c κs = search needs
+
 check-char-requires : tie.Need-check-char-requires
 check-char-requires c κs = search needs
 
 refusal-requires : tie.Need-refusal-requires
-refusal-requires c κs = search needs
+refusal-requires c κs =
+    let after-format-for = c .before .before .before in
+    fit-for _ after-format-for.format-for.ensures
 
 says-requires : tie.Need-says-requires
 says-requires c κs = search needs
@@ -39,7 +45,21 @@ same-length-2 : tie.Need-same-length-2
 same-length-2 c = search needs
 
 returns : tie.Need-returns
-returns c = answered-as narrow (lent (now (c .before .before .before .before .before .before .before .before .args .records)) (now (c .before .before .before .before .before .before .before .before .args .texts)) (c .before .before .before .before .before .before .before .before .args .log)) (called ((checked catalogue narrow (lent (now (c .before .before .before .before .before .before .before .before .args .records)) (now (c .before .before .before .before .before .before .before .before .args .texts)) (c .before .before .before .before .before .before .before .before .args .log))) (not (isChar catalogue (c .before .before .before .before .before .before .before .before .args .ch)))) (recordOut narrow (sizesOf (lent (now (c .before .before .before .before .before .before .before .before .args .records)) (now (c .before .before .before .before .before .before .before .before .args .texts)) (c .before .before .before .before .before .before .before .before .args .log))) (recordInsert catalogue (c .before .before .before .before .before .before .before .before .args .idx) (c .before .before .before .before .before .before .before .before .args .ch) ((valueOf catalogue narrow (lent (now (c .before .before .before .before .before .before .before .before .args .records)) (now (c .before .before .before .before .before .before .before .before .args .texts)) (c .before .before .before .before .before .before .before .before .args .log))) .undo)) (valueOf catalogue narrow (lent (now (c .before .before .before .before .before .before .before .before .args .records)) (now (c .before .before .before .before .before .before .before .before .args .texts)) (c .before .before .before .before .before .before .before .before .args .log))))) _ _ _ _ (c .says .ensures) (refused-by narrow (lent (now (c .before .before .before .before .before .before .before .before .args .records)) (now (c .before .before .before .before .before .before .before .before .args .texts)) (c .before .before .before .before .before .before .before .before .args .log)) (c .before .before .refusal .result) ((checked catalogue narrow (lent (now (c .before .before .before .before .before .before .before .before .args .records)) (now (c .before .before .before .before .before .before .before .before .args .texts)) (c .before .before .before .before .before .before .before .before .args .log))) (not (isChar catalogue (c .before .before .before .before .before .before .before .before .args .ch)))) (recordOut narrow (sizesOf (lent (now (c .before .before .before .before .before .before .before .before .args .records)) (now (c .before .before .before .before .before .before .before .before .args .texts)) (c .before .before .before .before .before .before .before .before .args .log))) (recordInsert catalogue (c .before .before .before .before .before .before .before .before .args .idx) (c .before .before .before .before .before .before .before .before .args .ch) ((valueOf catalogue narrow (lent (now (c .before .before .before .before .before .before .before .before .args .records)) (now (c .before .before .before .before .before .before .before .before .args .texts)) (c .before .before .before .before .before .before .before .before .args .log))) .undo)) (valueOf catalogue narrow (lent (now (c .before .before .before .before .before .before .before .before .args .records)) (now (c .before .before .before .before .before .before .before .before .args .texts)) (c .before .before .before .before .before .before .before .before .args .log)))) (sym (c .before .before .refusal .ensures .0 ∙ ap (λ (b : Bool). (checked catalogue narrow (lent (now (c .before .before .before .before .before .before .before .before .args .records)) (now (c .before .before .before .before .before .before .before .before .args .texts)) (c .before .before .before .before .before .before .before .before .args .log))) (not b)) (c .before .before .before .check-char .ensures))) (c .before .if1 .taken))
+returns c =
+    let after-check-char = c .before .before .before in
+    let after-format-for = after-check-char .before .before .before in
+    let entry = after-format-for .before .before .before in
+    let l = lent (now entry.args.records) (now entry.args.texts) entry.args.log in
+    let valueOf1 = valueOf catalogue after-format-for.format-for.result l in
+    let recordOut1 = recordOut after-format-for.format-for.result (sizesOf l)
+    (recordInsert catalogue entry.args.idx entry.args.ch valueOf1.undo) valueOf1 in
+    let checked1 = checked catalogue after-format-for.format-for.result l in
+    in-format l (λ (F : Format). insertCall catalogue F l entry.args.idx entry.args.ch) after-format-for.format-for.ensures
+    (answered-as after-format-for.format-for.result l (called (checked1 (not (isChar catalogue entry.args.ch))) recordOut1) _ _ _ _
+    c.says.ensures
+    (refused-by after-format-for.format-for.result l c.before.before.refusal.result (checked1 (not (isChar catalogue entry.args.ch)))
+    recordOut1 (sym (c.before.before.refusal.ensures.0 ∙ ap (λ (b : Bool). checked1 (not b)) after-check-char.check-char.ensures))
+    c.before.if1.taken))
 
 slice-aggregate-encode-at : tie.Need-slice-aggregate-encode-at
 slice-aggregate-encode-at c = search needs
@@ -48,10 +68,41 @@ encode-at-requires : tie.Need-encode-at-requires
 encode-at-requires c κs = search needs
 
 array-share-prefix-buf : tie.Need-array-share-prefix-buf
-array-share-prefix-buf c = typed-within (c .before .before .before .before .before .before .before .before .before .before .args .ch) (not-false _ (own-passed narrow (lent (now (c .before .before .before .before .before .before .before .before .before .before .args .records)) (now (c .before .before .before .before .before .before .before .before .before .before .args .texts)) (c .before .before .before .before .before .before .before .before .before .before .args .log)) (not (isChar catalogue (c .before .before .before .before .before .before .before .before .before .before .args .ch))) ((sym (c .before .before .before .before .refusal .ensures .0 ∙ ap (λ (b : Bool). (checked catalogue narrow (lent (now (c .before .before .before .before .before .before .before .before .before .before .args .records)) (now (c .before .before .before .before .before .before .before .before .before .before .args .texts)) (c .before .before .before .before .before .before .before .before .before .before .args .log))) (not b)) (c .before .before .before .before .before .check-char .ensures))) ∙ c .before .before .before .if1 .left))) _ (c .before .encode-at .last .0) (c .before .encode-at .result) (omega arith) (c .before .encode-at .ensures)
+array-share-prefix-buf c =
+    let else1 = c .before .before .before in
+    let after-refusal = else1.before in
+    let after-check-char = after-refusal.before in
+    let after-format-for = after-check-char .before .before .before in
+    let entry = after-format-for .before .before .before in
+    let l = lent (now entry.args.records) (now entry.args.texts) entry.args.log in
+    typed-within entry.args.ch
+    (not-false _
+    (own-passed after-format-for.format-for.result l (not (isChar catalogue entry.args.ch))
+    (
+    (sym
+    (after-refusal.refusal.ensures.0
+    ∙ ap (λ (b : Bool). (checked catalogue after-format-for.format-for.result l) (not b)) after-check-char.check-char.ensures))
+    ∙ else1.if1.left))) _ c.before.encode-at.last.0 c.before.encode-at.result (omega arith) c.before.encode-at.ensures
 
 slice-aggregate-s : tie.Need-slice-aggregate-s
-slice-aggregate-s c = sym (length-take-le _ _ (typed-within (c .before .before .before .before .before .before .before .before .before .before .before .args .ch) (not-false _ (own-passed narrow (lent (now (c .before .before .before .before .before .before .before .before .before .before .before .args .records)) (now (c .before .before .before .before .before .before .before .before .before .before .before .args .texts)) (c .before .before .before .before .before .before .before .before .before .before .before .args .log)) (not (isChar catalogue (c .before .before .before .before .before .before .before .before .before .before .before .args .ch))) ((sym (c .before .before .before .before .before .refusal .ensures .0 ∙ ap (λ (b : Bool). (checked catalogue narrow (lent (now (c .before .before .before .before .before .before .before .before .before .before .before .args .records)) (now (c .before .before .before .before .before .before .before .before .before .before .before .args .texts)) (c .before .before .before .before .before .before .before .before .before .before .before .args .log))) (not b)) (c .before .before .before .before .before .before .check-char .ensures))) ∙ c .before .before .before .before .if1 .left))) _ (c .before .before .encode-at .last .0) (c .before .before .encode-at .result) (omega arith) (c .before .before .encode-at .ensures)))
+slice-aggregate-s c =
+    let else1 = c .before .before .before .before in
+    let after-refusal = else1.before in
+    let after-check-char = after-refusal.before in
+    let after-format-for = after-check-char .before .before .before in
+    let entry = after-format-for .before .before .before in
+    let l = lent (now entry.args.records) (now entry.args.texts) entry.args.log in
+    sym
+    (length-take-le _ _
+    (typed-within entry.args.ch
+    (not-false _
+    (own-passed after-format-for.format-for.result l (not (isChar catalogue entry.args.ch))
+    (
+    (sym
+    (after-refusal.refusal.ensures.0
+    ∙ ap (λ (b : Bool). (checked catalogue after-format-for.format-for.result l) (not b)) after-check-char.check-char.ensures))
+    ∙ else1.if1.left))) _ c.before.before.encode-at.last.0 c.before.before.encode-at.result (omega arith)
+    c.before.before.encode-at.ensures))
 
 is-alnum-requires : tie.Need-is-alnum-requires
 is-alnum-requires c κs = search needs
@@ -60,7 +111,33 @@ slice-aggregate-record : tie.Need-slice-aggregate-record
 slice-aggregate-record c = search needs
 
 record-requires : tie.Need-record-requires
-record-requires c κs = (narrow-fit, ((c .before .before .before .before .before .before .before .before .before .refusal .ensures .1 (c .before .before .before .before .before .before .before .before .if1 .left)), (an-insert (c .before .before .before .before .before .before .before .before .before .before .before .before .before .before .before .args .idx) (take (c .before .before .before .before .before .before .encode-at .result) (c .before .before .before .before .before .before .encode-at .last .0)), ap (isText catalogue) (typed-bytes (c .before .before .before .before .before .before .before .before .before .before .before .before .before .before .before .args .ch) (not-false _ (own-passed narrow (lent (now (c .before .before .before .before .before .before .before .before .before .before .before .before .before .before .before .args .records)) (now (c .before .before .before .before .before .before .before .before .before .before .before .before .before .before .before .args .texts)) (c .before .before .before .before .before .before .before .before .before .before .before .before .before .before .before .args .log)) (not (isChar catalogue (c .before .before .before .before .before .before .before .before .before .before .before .before .before .before .before .args .ch))) ((sym (c .before .before .before .before .before .before .before .before .before .refusal .ensures .0 ∙ ap (λ (b : Bool). (checked catalogue narrow (lent (now (c .before .before .before .before .before .before .before .before .before .before .before .before .before .before .before .args .records)) (now (c .before .before .before .before .before .before .before .before .before .before .before .before .before .before .before .args .texts)) (c .before .before .before .before .before .before .before .before .before .before .before .before .before .before .before .args .log))) (not b)) (c .before .before .before .before .before .before .before .before .before .before .check-char .ensures))) ∙ c .before .before .before .before .before .before .before .before .if1 .left))) _ (c .before .before .before .before .before .before .encode-at .last .0) (c .before .before .before .before .before .before .encode-at .result) (omega arith) (c .before .before .before .before .before .before .encode-at .ensures)) ∙ typed-text (c .before .before .before .before .before .before .before .before .before .before .before .before .before .before .before .args .ch) (not-false _ (own-passed narrow (lent (now (c .before .before .before .before .before .before .before .before .before .before .before .before .before .before .before .args .records)) (now (c .before .before .before .before .before .before .before .before .before .before .before .before .before .before .before .args .texts)) (c .before .before .before .before .before .before .before .before .before .before .before .before .before .before .before .args .log)) (not (isChar catalogue (c .before .before .before .before .before .before .before .before .before .before .before .before .before .before .before .args .ch))) ((sym (c .before .before .before .before .before .before .before .before .before .refusal .ensures .0 ∙ ap (λ (b : Bool). (checked catalogue narrow (lent (now (c .before .before .before .before .before .before .before .before .before .before .before .before .before .before .before .args .records)) (now (c .before .before .before .before .before .before .before .before .before .before .before .before .before .before .before .args .texts)) (c .before .before .before .before .before .before .before .before .before .before .before .before .before .before .before .args .log))) (not b)) (c .before .before .before .before .before .before .before .before .before .before .check-char .ensures))) ∙ c .before .before .before .before .before .before .before .before .if1 .left))))))
+record-requires c κs =
+    let after-encode-at = c .before .before .before .before .before .before in
+    let else1 = after-encode-at.before.before in
+    let after-refusal = else1.before in
+    let after-check-char = after-refusal.before in
+    let after-format-for = after-check-char .before .before .before in
+    let entry = after-format-for .before .before .before in
+    let l = lent (now entry.args.records) (now entry.args.texts) entry.args.log in
+    let not-false1 = not-false _
+    (own-passed after-format-for.format-for.result l (not (isChar catalogue entry.args.ch))
+    (
+    (sym
+    (after-refusal.refusal.ensures.0
+    ∙ ap (λ (b : Bool). (checked catalogue after-format-for.format-for.result l) (not b)) after-check-char.check-char.ensures))
+    ∙ else1.if1.left)) in (
+      fit-for _ after-format-for.format-for.ensures,
+      (
+        (after-refusal.refusal.ensures.1 else1.if1.left),
+        (
+          an-insert entry.args.idx (take after-encode-at.encode-at.result after-encode-at.encode-at.last.0),
+          ap (isText catalogue)
+              (typed-bytes entry.args.ch not-false1 _ after-encode-at.encode-at.last.0 after-encode-at.encode-at.result
+              (omega arith) after-encode-at.encode-at.ensures)
+              ∙ typed-text entry.args.ch not-false1,
+        ),
+      ),
+    )
 
 same-length-3 : tie.Need-same-length-3
 same-length-3 c = search needs
@@ -69,12 +146,37 @@ same-length-4 : tie.Need-same-length-4
 same-length-4 c = search needs
 
 returns-2 : tie.Need-returns-2
-returns-2 c = passed-by narrow (lent (now (c .before .before .before .before .before .before .before .before .before .before .before .before .before .before .before .before .before .before .before .before .args .records)) (now (c .before .before .before .before .before .before .before .before .before .before .before .before .before .before .before .before .before .before .before .before .args .texts)) (c .before .before .before .before .before .before .before .before .before .before .before .before .before .before .before .before .before .before .before .before .args .log)) (c .before .before .before .before .before .before .before .before .before .before .before .before .before .before .refusal .result) ((checked catalogue narrow (lent (now (c .before .before .before .before .before .before .before .before .before .before .before .before .before .before .before .before .before .before .before .before .args .records)) (now (c .before .before .before .before .before .before .before .before .before .before .before .before .before .before .before .before .before .before .before .before .args .texts)) (c .before .before .before .before .before .before .before .before .before .before .before .before .before .before .before .before .before .before .before .before .args .log))) (not (isChar catalogue (c .before .before .before .before .before .before .before .before .before .before .before .before .before .before .before .before .before .before .before .before .args .ch)))) (recordOut narrow (sizesOf (lent (now (c .before .before .before .before .before .before .before .before .before .before .before .before .before .before .before .before .before .before .before .before .args .records)) (now (c .before .before .before .before .before .before .before .before .before .before .before .before .before .before .before .before .before .before .before .before .args .texts)) (c .before .before .before .before .before .before .before .before .before .before .before .before .before .before .before .before .before .before .before .before .args .log))) (recordInsert catalogue (c .before .before .before .before .before .before .before .before .before .before .before .before .before .before .before .before .before .before .before .before .args .idx) (c .before .before .before .before .before .before .before .before .before .before .before .before .before .before .before .before .before .before .before .before .args .ch) ((valueOf catalogue narrow (lent (now (c .before .before .before .before .before .before .before .before .before .before .before .before .before .before .before .before .before .before .before .before .args .records)) (now (c .before .before .before .before .before .before .before .before .before .before .before .before .before .before .before .before .before .before .before .before .args .texts)) (c .before .before .before .before .before .before .before .before .before .before .before .before .before .before .before .before .before .before .before .before .args .log))) .undo)) (valueOf catalogue narrow (lent (now (c .before .before .before .before .before .before .before .before .before .before .before .before .before .before .before .before .before .before .before .before .args .records)) (now (c .before .before .before .before .before .before .before .before .before .before .before .before .before .before .before .before .before .before .before .before .args .texts)) (c .before .before .before .before .before .before .before .before .before .before .before .before .before .before .before .before .before .before .before .before .args .log)))) _ _ _ (sym (c .before .before .before .before .before .before .before .before .before .before .before .before .before .before .refusal .ensures .0 ∙ ap (λ (b : Bool). (checked catalogue narrow (lent (now (c .before .before .before .before .before .before .before .before .before .before .before .before .before .before .before .before .before .before .before .before .args .records)) (now (c .before .before .before .before .before .before .before .before .before .before .before .before .before .before .before .before .before .before .before .before .args .texts)) (c .before .before .before .before .before .before .before .before .before .before .before .before .before .before .before .before .before .before .before .before .args .log))) (not b)) (c .before .before .before .before .before .before .before .before .before .before .before .before .before .before .before .check-char .ensures))) (c .before .before .before .before .before .before .before .before .before .before .before .before .before .if1 .left) (recorded-as catalogue narrow (lent (now (c .before .before .before .before .before .before .before .before .before .before .before .before .before .before .before .before .before .before .before .before .args .records)) (now (c .before .before .before .before .before .before .before .before .before .before .before .before .before .before .before .before .before .before .before .before .args .texts)) (c .before .before .before .before .before .before .before .before .before .before .before .before .before .before .before .before .before .before .before .before .args .log)) (note (c .before .before .before .before .before .before .is-alnum .result) (insert (c .before .before .before .before .before .before .before .before .before .before .before .before .before .before .before .before .before .before .before .before .args .idx) (take (c .before .before .before .before .before .before .before .before .before .before .before .encode-at .result) (c .before .before .before .before .before .before .before .before .before .before .before .encode-at .last .0))) ((valueOf catalogue narrow (lent (now (c .before .before .before .before .before .before .before .before .before .before .before .before .before .before .before .before .before .before .before .before .args .records)) (now (c .before .before .before .before .before .before .before .before .before .before .before .before .before .before .before .before .before .before .before .before .args .texts)) (c .before .before .before .before .before .before .before .before .before .before .before .before .before .before .before .before .before .before .before .before .args .log))) .undo)) (valueOf catalogue narrow (lent (now (c .before .before .before .before .before .before .before .before .before .before .before .before .before .before .before .before .before .before .before .before .args .records)) (now (c .before .before .before .before .before .before .before .before .before .before .before .before .before .before .before .before .before .before .before .before .args .texts)) (c .before .before .before .before .before .before .before .before .before .before .before .before .before .before .before .before .before .before .before .before .args .log))) (recordInsert catalogue (c .before .before .before .before .before .before .before .before .before .before .before .before .before .before .before .before .before .before .before .before .args .idx) (c .before .before .before .before .before .before .before .before .before .before .before .before .before .before .before .before .before .before .before .before .args .ch) ((valueOf catalogue narrow (lent (now (c .before .before .before .before .before .before .before .before .before .before .before .before .before .before .before .before .before .before .before .before .args .records)) (now (c .before .before .before .before .before .before .before .before .before .before .before .before .before .before .before .before .before .before .before .before .args .texts)) (c .before .before .before .before .before .before .before .before .before .before .before .before .before .before .before .before .before .before .before .before .args .log))) .undo)) _ _ _ (insert-is (c .before .before .before .before .before .before .before .before .before .before .before .before .before .before .before .before .before .before .before .before .args .idx) (c .before .before .before .before .before .before .before .before .before .before .before .before .before .before .before .before .before .before .before .before .args .ch) (c .before .before .before .before .before .before .is-alnum .result) (take (c .before .before .before .before .before .before .before .before .before .before .before .encode-at .result) (c .before .before .before .before .before .before .before .before .before .before .before .encode-at .last .0)) ((valueOf catalogue narrow (lent (now (c .before .before .before .before .before .before .before .before .before .before .before .before .before .before .before .before .before .before .before .before .args .records)) (now (c .before .before .before .before .before .before .before .before .before .before .before .before .before .before .before .before .before .before .before .before .args .texts)) (c .before .before .before .before .before .before .before .before .before .before .before .before .before .before .before .before .before .before .before .before .args .log))) .undo) (c .before .before .before .before .before .before .is-alnum .ensures) (typed-bytes (c .before .before .before .before .before .before .before .before .before .before .before .before .before .before .before .before .before .before .before .before .args .ch) (not-false _ (own-passed narrow (lent (now (c .before .before .before .before .before .before .before .before .before .before .before .before .before .before .before .before .before .before .before .before .args .records)) (now (c .before .before .before .before .before .before .before .before .before .before .before .before .before .before .before .before .before .before .before .before .args .texts)) (c .before .before .before .before .before .before .before .before .before .before .before .before .before .before .before .before .before .before .before .before .args .log)) (not (isChar catalogue (c .before .before .before .before .before .before .before .before .before .before .before .before .before .before .before .before .before .before .before .before .args .ch))) ((sym (c .before .before .before .before .before .before .before .before .before .before .before .before .before .before .refusal .ensures .0 ∙ ap (λ (b : Bool). (checked catalogue narrow (lent (now (c .before .before .before .before .before .before .before .before .before .before .before .before .before .before .before .before .before .before .before .before .args .records)) (now (c .before .before .before .before .before .before .before .before .before .before .before .before .before .before .before .before .before .before .before .before .args .texts)) (c .before .before .before .before .before .before .before .before .before .before .before .before .before .before .before .before .before .before .before .before .args .log))) (not b)) (c .before .before .before .before .before .before .before .before .before .before .before .before .before .before .before .check-char .ensures))) ∙ c .before .before .before .before .before .before .before .before .before .before .before .before .before .if1 .left))) _ (c .before .before .before .before .before .before .before .before .before .before .before .encode-at .last .0) (c .before .before .before .before .before .before .before .before .before .before .before .encode-at .result) (omega arith) (c .before .before .before .before .before .before .before .before .before .before .before .encode-at .ensures))) (c .before .before .before .before .«record» .ensures))
+returns-2 c =
+    let after-record = c .before .before .before .before in
+    let after-is-alnum = after-record.before.before in
+    let after-encode-at = after-is-alnum .before .before .before .before .before in
+    let else1 = after-encode-at.before.before in
+    let after-refusal = else1.before in
+    let after-check-char = after-refusal.before in
+    let after-format-for = after-check-char .before .before .before in
+    let entry = after-format-for .before .before .before in
+    let l = lent (now entry.args.records) (now entry.args.texts) entry.args.log in
+    let checked1 = checked catalogue after-format-for.format-for.result l in
+    let sym1 = sym (after-refusal.refusal.ensures.0 ∙ ap (λ (b : Bool). checked1 (not b)) after-check-char.check-char.ensures) in
+    let valueOf1 = valueOf catalogue after-format-for.format-for.result l in
+    let recordInsert1 = recordInsert catalogue entry.args.idx entry.args.ch valueOf1.undo in
+    let take1 = take after-encode-at.encode-at.result after-encode-at.encode-at.last.0 in
+    in-format l (λ (F : Format). insertCall catalogue F l entry.args.idx entry.args.ch) after-format-for.format-for.ensures
+    (passed-by after-format-for.format-for.result l after-refusal.refusal.result (checked1 (not (isChar catalogue entry.args.ch)))
+    (recordOut after-format-for.format-for.result (sizesOf l) recordInsert1 valueOf1) _ _ _ sym1 else1.if1.left
+    (recorded-as catalogue after-format-for.format-for.result l
+    (note after-is-alnum.is-alnum.result (insert entry.args.idx take1) valueOf1.undo) valueOf1 recordInsert1 _ _ _
+    (insert-is entry.args.idx entry.args.ch after-is-alnum.is-alnum.result take1 valueOf1.undo after-is-alnum.is-alnum.ensures
+    (typed-bytes entry.args.ch
+    (not-false _ (own-passed after-format-for.format-for.result l (not (isChar catalogue entry.args.ch)) (sym1 ∙ else1.if1.left))) _
+    after-encode-at.encode-at.last.0 after-encode-at.encode-at.result (omega arith) after-encode-at.encode-at.ensures))
+    after-record.«record».ensures))
 
 pub insert-spec : {M : Type 1} → statement M
 insert-spec =
     tie.close
     (tie.spec
+    format-for-requires
     check-char-requires
     refusal-requires
     says-requires

@@ -2,10 +2,11 @@ use mathlib.Core.Path.{sym, ap, _∙_}
 use denote.Ref.{now}
 use Rattle.unicode.specs.Repertoire.{catalogue}
 use Rattle.checks.specs.Outcome.{called}
-use Rattle.journal.specs.Layout.{narrow}
-use Rattle.changeset.specs.Calls.{lent, sizesOf, valueOf, checked}
+use Rattle.formats.specs.declared.Format.{Format}
+use Rattle.changeset.specs.Calls.{lent, sizesOf, valueOf, checked, insertStrCall}
 use Rattle.changeset.proofs.Answers.{refused-by, passed-by, answered-as}
-use Rattle.records.proofs.Formats.{narrow-fit}
+use Rattle.formats.proofs.Formats.{fit-for}
+use Rattle.changeset.proofs.Formats.{in-format}
 use native.Mathlib.Omega.{arith}
 use mathlib.Core.Bool.{Bool, not}
 use borrow.Author.Tests.{not-false}
@@ -24,11 +25,16 @@ use borrow.Author.Needs.{needs}
 use Rattle.log_calls.proofs.insert_str.Statement.{statement}
 use Rattle.log_calls.proofs.insert_str.Tie as tie
 
+format-for-requires : tie.Need-format-for-requires
+format-for-requires c κs = search needs
+
 check-text-requires : tie.Need-check-text-requires
 check-text-requires c κs = search needs
 
 refusal-requires : tie.Need-refusal-requires
-refusal-requires c κs = search needs
+refusal-requires c κs =
+    let after-format-for = c .before .before .before in
+    fit-for _ after-format-for.format-for.ensures
 
 says-requires : tie.Need-says-requires
 says-requires c κs = search needs
@@ -40,7 +46,20 @@ same-length-2 : tie.Need-same-length-2
 same-length-2 c = search needs
 
 returns : tie.Need-returns
-returns c = answered-as narrow (lent (now (c .before .before .before .before .before .before .before .before .before .args .records)) (now (c .before .before .before .before .before .before .before .before .before .args .texts)) (c .before .before .before .before .before .before .before .before .before .args .log)) (called ((checked catalogue narrow (lent (now (c .before .before .before .before .before .before .before .before .before .args .records)) (now (c .before .before .before .before .before .before .before .before .before .args .texts)) (c .before .before .before .before .before .before .before .before .before .args .log))) (not (isText catalogue (now (c .before .before .before .before .before .before .before .before .before .args .buf))))) (recordOut narrow (sizesOf (lent (now (c .before .before .before .before .before .before .before .before .before .args .records)) (now (c .before .before .before .before .before .before .before .before .before .args .texts)) (c .before .before .before .before .before .before .before .before .before .args .log))) (recordInsertStr (c .before .before .before .before .before .before .before .before .before .args .idx) (now (c .before .before .before .before .before .before .before .before .before .args .buf)) ((valueOf catalogue narrow (lent (now (c .before .before .before .before .before .before .before .before .before .args .records)) (now (c .before .before .before .before .before .before .before .before .before .args .texts)) (c .before .before .before .before .before .before .before .before .before .args .log))) .undo)) (valueOf catalogue narrow (lent (now (c .before .before .before .before .before .before .before .before .before .args .records)) (now (c .before .before .before .before .before .before .before .before .before .args .texts)) (c .before .before .before .before .before .before .before .before .before .args .log))))) _ _ _ _ (c .says .ensures) (refused-by narrow (lent (now (c .before .before .before .before .before .before .before .before .before .args .records)) (now (c .before .before .before .before .before .before .before .before .before .args .texts)) (c .before .before .before .before .before .before .before .before .before .args .log)) (c .before .before .refusal .result) ((checked catalogue narrow (lent (now (c .before .before .before .before .before .before .before .before .before .args .records)) (now (c .before .before .before .before .before .before .before .before .before .args .texts)) (c .before .before .before .before .before .before .before .before .before .args .log))) (not (isText catalogue (now (c .before .before .before .before .before .before .before .before .before .args .buf))))) (recordOut narrow (sizesOf (lent (now (c .before .before .before .before .before .before .before .before .before .args .records)) (now (c .before .before .before .before .before .before .before .before .before .args .texts)) (c .before .before .before .before .before .before .before .before .before .args .log))) (recordInsertStr (c .before .before .before .before .before .before .before .before .before .args .idx) (now (c .before .before .before .before .before .before .before .before .before .args .buf)) ((valueOf catalogue narrow (lent (now (c .before .before .before .before .before .before .before .before .before .args .records)) (now (c .before .before .before .before .before .before .before .before .before .args .texts)) (c .before .before .before .before .before .before .before .before .before .args .log))) .undo)) (valueOf catalogue narrow (lent (now (c .before .before .before .before .before .before .before .before .before .args .records)) (now (c .before .before .before .before .before .before .before .before .before .args .texts)) (c .before .before .before .before .before .before .before .before .before .args .log)))) (sym (c .before .before .refusal .ensures .0 ∙ ap (λ (b : Bool). (checked catalogue narrow (lent (now (c .before .before .before .before .before .before .before .before .before .args .records)) (now (c .before .before .before .before .before .before .before .before .before .args .texts)) (c .before .before .before .before .before .before .before .before .before .args .log))) (not b)) (c .before .before .before .check-text .ensures))) (c .before .if1 .taken))
+returns c =
+    let after-check-text = c .before .before .before in
+    let after-format-for = after-check-text .before .before .before in
+    let entry = after-format-for .before .before .before .before in
+    let l = lent (now entry.args.records) (now entry.args.texts) entry.args.log in
+    let valueOf1 = valueOf catalogue after-format-for.format-for.result l in
+    let recordOut1 = recordOut after-format-for.format-for.result (sizesOf l)
+    (recordInsertStr entry.args.idx (now entry.args.buf) valueOf1.undo) valueOf1 in
+    let checked1 = checked catalogue after-format-for.format-for.result l in
+    let checked11 = checked1 (not (isText catalogue (now entry.args.buf))) in
+    in-format l (λ (F : Format). insertStrCall catalogue F l entry.args.idx (now entry.args.buf)) after-format-for.format-for.ensures
+    (answered-as after-format-for.format-for.result l (called checked11 recordOut1) _ _ _ _ c.says.ensures
+    (refused-by after-format-for.format-for.result l c.before.before.refusal.result checked11 recordOut1
+    (sym (c.before.before.refusal.ensures.0 ∙ ap (λ (b : Bool). checked1 (not b)) after-check-text.check-text.ensures)) c.before.if1.taken))
 
 drop-redo-requires : tie.Need-drop-redo-requires
 drop-redo-requires c κs = search needs
@@ -55,13 +74,52 @@ same-length-4 : tie.Need-same-length-4
 same-length-4 c = search needs
 
 returns-2 : tie.Need-returns-2
-returns-2 c = passed-by narrow (lent (now (c .before .before .before .before .before .before .before .before .before .before .before .args .records)) (now (c .before .before .before .before .before .before .before .before .before .before .before .args .texts)) (c .before .before .before .before .before .before .before .before .before .before .before .args .log)) (c .before .before .before .before .refusal .result) ((checked catalogue narrow (lent (now (c .before .before .before .before .before .before .before .before .before .before .before .args .records)) (now (c .before .before .before .before .before .before .before .before .before .before .before .args .texts)) (c .before .before .before .before .before .before .before .before .before .before .before .args .log))) (not (isText catalogue (now (c .before .before .before .before .before .before .before .before .before .before .before .args .buf))))) (recordOut narrow (sizesOf (lent (now (c .before .before .before .before .before .before .before .before .before .before .before .args .records)) (now (c .before .before .before .before .before .before .before .before .before .before .before .args .texts)) (c .before .before .before .before .before .before .before .before .before .before .before .args .log))) (recordInsertStr (c .before .before .before .before .before .before .before .before .before .before .before .args .idx) (now (c .before .before .before .before .before .before .before .before .before .before .before .args .buf)) ((valueOf catalogue narrow (lent (now (c .before .before .before .before .before .before .before .before .before .before .before .args .records)) (now (c .before .before .before .before .before .before .before .before .before .before .before .args .texts)) (c .before .before .before .before .before .before .before .before .before .before .before .args .log))) .undo)) (valueOf catalogue narrow (lent (now (c .before .before .before .before .before .before .before .before .before .before .before .args .records)) (now (c .before .before .before .before .before .before .before .before .before .before .before .args .texts)) (c .before .before .before .before .before .before .before .before .before .before .before .args .log)))) _ _ _ (sym (c .before .before .before .before .refusal .ensures .0 ∙ ap (λ (b : Bool). (checked catalogue narrow (lent (now (c .before .before .before .before .before .before .before .before .before .before .before .args .records)) (now (c .before .before .before .before .before .before .before .before .before .before .before .args .texts)) (c .before .before .before .before .before .before .before .before .before .before .before .args .log))) (not b)) (c .before .before .before .before .before .check-text .ensures))) (c .before .before .before .if1 .left) (answered-as narrow (lent (now (c .before .before .before .before .before .before .before .before .before .before .before .args .records)) (now (c .before .before .before .before .before .before .before .before .before .before .before .args .texts)) (c .before .before .before .before .before .before .before .before .before .before .before .args .log)) (recordOut narrow (sizesOf (lent (now (c .before .before .before .before .before .before .before .before .before .before .before .args .records)) (now (c .before .before .before .before .before .before .before .before .before .before .before .args .texts)) (c .before .before .before .before .before .before .before .before .before .before .before .args .log))) (recordInsertStr (c .before .before .before .before .before .before .before .before .before .before .before .args .idx) (now (c .before .before .before .before .before .before .before .before .before .before .before .args .buf)) ((valueOf catalogue narrow (lent (now (c .before .before .before .before .before .before .before .before .before .before .before .args .records)) (now (c .before .before .before .before .before .before .before .before .before .before .before .args .texts)) (c .before .before .before .before .before .before .before .before .before .before .before .args .log))) .undo)) (valueOf catalogue narrow (lent (now (c .before .before .before .before .before .before .before .before .before .before .before .args .records)) (now (c .before .before .before .before .before .before .before .before .before .before .before .args .texts)) (c .before .before .before .before .before .before .before .before .before .before .before .args .log)))) _ _ _ _ (c .says2 .ensures ∙ ap (says 0) (c .before .drop-redo .ensures)) (only-dropped narrow (lent (now (c .before .before .before .before .before .before .before .before .before .before .before .args .records)) (now (c .before .before .before .before .before .before .before .before .before .before .before .args .texts)) (c .before .before .before .before .before .before .before .before .before .before .before .args .log)) (c .before .before .before .before .refusal .ensures .1 (c .before .before .before .if1 .left)) _ (insert-none (c .before .before .before .before .before .before .before .before .before .before .before .args .idx) ((valueOf catalogue narrow (lent (now (c .before .before .before .before .before .before .before .before .before .before .before .args .records)) (now (c .before .before .before .before .before .before .before .before .before .before .before .args .texts)) (c .before .before .before .before .before .before .before .before .before .before .before .args .log))) .undo) (now (c .before .before .before .before .before .before .before .before .before .before .before .args .buf)) (c .before .before .if2 .taken))))
+returns-2 c =
+    let else1 = c .before .before .before in
+    let after-refusal = else1.before in
+    let after-check-text = after-refusal.before in
+    let after-format-for = after-check-text .before .before .before in
+    let entry = after-format-for .before .before .before .before in
+    let l = lent (now entry.args.records) (now entry.args.texts) entry.args.log in
+    let valueOf1 = valueOf catalogue after-format-for.format-for.result l in
+    let recordOut1 = recordOut after-format-for.format-for.result (sizesOf l)
+    (recordInsertStr entry.args.idx (now entry.args.buf) valueOf1.undo) valueOf1 in
+    let checked1 = checked catalogue after-format-for.format-for.result l in
+    in-format l (λ (F : Format). insertStrCall catalogue F l entry.args.idx (now entry.args.buf)) after-format-for.format-for.ensures
+    (passed-by after-format-for.format-for.result l after-refusal.refusal.result (checked1 (not (isText catalogue (now entry.args.buf))))
+    recordOut1 _ _ _ (sym (after-refusal.refusal.ensures.0 ∙ ap (λ (b : Bool). checked1 (not b)) after-check-text.check-text.ensures))
+    else1.if1.left
+    (answered-as after-format-for.format-for.result l recordOut1 _ _ _ _ (c.says2.ensures ∙ ap (says 0) c.before.drop-redo.ensures)
+    (only-dropped after-format-for.format-for.result l (after-refusal.refusal.ensures.1 else1.if1.left) _
+    (insert-none entry.args.idx valueOf1.undo (now entry.args.buf) c.before.before.if2.taken))))
 
 slice-aggregate-record : tie.Need-slice-aggregate-record
 slice-aggregate-record c = search needs
 
 record-requires : tie.Need-record-requires
-record-requires c κs = (narrow-fit, ((c .before .before .before .before .before .refusal .ensures .1 (c .before .before .before .before .if1 .left)), (an-insert (c .before .before .before .before .before .before .before .before .before .before .before .before .args .idx) (now (c .before .before .before .before .before .before .before .before .before .before .before .before .args .buf)), (not-false _ (own-passed narrow (lent (now (c .before .before .before .before .before .before .before .before .before .before .before .before .args .records)) (now (c .before .before .before .before .before .before .before .before .before .before .before .before .args .texts)) (c .before .before .before .before .before .before .before .before .before .before .before .before .args .log)) (not (isText catalogue (now (c .before .before .before .before .before .before .before .before .before .before .before .before .args .buf)))) ((sym (c .before .before .before .before .before .refusal .ensures .0 ∙ ap (λ (b : Bool). (checked catalogue narrow (lent (now (c .before .before .before .before .before .before .before .before .before .before .before .before .args .records)) (now (c .before .before .before .before .before .before .before .before .before .before .before .before .args .texts)) (c .before .before .before .before .before .before .before .before .before .before .before .before .args .log))) (not b)) (c .before .before .before .before .before .before .check-text .ensures))) ∙ c .before .before .before .before .if1 .left))))))
+record-requires c κs =
+    let else1 = c .before .before .before .before in
+    let after-refusal = else1.before in
+    let after-check-text = after-refusal.before in
+    let after-format-for = after-check-text .before .before .before in
+    let entry = after-format-for .before .before .before .before in
+    let l = lent (now entry.args.records) (now entry.args.texts) entry.args.log in (
+      fit-for _ after-format-for.format-for.ensures,
+      (
+        (after-refusal.refusal.ensures.1 else1.if1.left),
+        (
+          an-insert entry.args.idx (now entry.args.buf),
+          (not-false _
+              (own-passed after-format-for.format-for.result l (not (isText catalogue (now entry.args.buf)))
+              (
+              (sym
+              (after-refusal.refusal.ensures.0
+              ∙ ap (λ (b : Bool). (checked catalogue after-format-for.format-for.result l) (not b))
+              after-check-text.check-text.ensures))
+              ∙ else1.if1.left))),
+        ),
+      ),
+    )
 
 same-length-5 : tie.Need-same-length-5
 same-length-5 c = search needs
@@ -70,12 +128,31 @@ same-length-6 : tie.Need-same-length-6
 same-length-6 c = search needs
 
 returns-3 : tie.Need-returns-3
-returns-3 c = passed-by narrow (lent (now (c .before .before .before .before .before .before .before .before .before .before .before .before .before .before .before .before .before .args .records)) (now (c .before .before .before .before .before .before .before .before .before .before .before .before .before .before .before .before .before .args .texts)) (c .before .before .before .before .before .before .before .before .before .before .before .before .before .before .before .before .before .args .log)) (c .before .before .before .before .before .before .before .before .before .before .refusal .result) ((checked catalogue narrow (lent (now (c .before .before .before .before .before .before .before .before .before .before .before .before .before .before .before .before .before .args .records)) (now (c .before .before .before .before .before .before .before .before .before .before .before .before .before .before .before .before .before .args .texts)) (c .before .before .before .before .before .before .before .before .before .before .before .before .before .before .before .before .before .args .log))) (not (isText catalogue (now (c .before .before .before .before .before .before .before .before .before .before .before .before .before .before .before .before .before .args .buf))))) (recordOut narrow (sizesOf (lent (now (c .before .before .before .before .before .before .before .before .before .before .before .before .before .before .before .before .before .args .records)) (now (c .before .before .before .before .before .before .before .before .before .before .before .before .before .before .before .before .before .args .texts)) (c .before .before .before .before .before .before .before .before .before .before .before .before .before .before .before .before .before .args .log))) (recordInsertStr (c .before .before .before .before .before .before .before .before .before .before .before .before .before .before .before .before .before .args .idx) (now (c .before .before .before .before .before .before .before .before .before .before .before .before .before .before .before .before .before .args .buf)) ((valueOf catalogue narrow (lent (now (c .before .before .before .before .before .before .before .before .before .before .before .before .before .before .before .before .before .args .records)) (now (c .before .before .before .before .before .before .before .before .before .before .before .before .before .before .before .before .before .args .texts)) (c .before .before .before .before .before .before .before .before .before .before .before .before .before .before .before .before .before .args .log))) .undo)) (valueOf catalogue narrow (lent (now (c .before .before .before .before .before .before .before .before .before .before .before .before .before .before .before .before .before .args .records)) (now (c .before .before .before .before .before .before .before .before .before .before .before .before .before .before .before .before .before .args .texts)) (c .before .before .before .before .before .before .before .before .before .before .before .before .before .before .before .before .before .args .log)))) _ _ _ (sym (c .before .before .before .before .before .before .before .before .before .before .refusal .ensures .0 ∙ ap (λ (b : Bool). (checked catalogue narrow (lent (now (c .before .before .before .before .before .before .before .before .before .before .before .before .before .before .before .before .before .args .records)) (now (c .before .before .before .before .before .before .before .before .before .before .before .before .before .before .before .before .before .args .texts)) (c .before .before .before .before .before .before .before .before .before .before .before .before .before .before .before .before .before .args .log))) (not b)) (c .before .before .before .before .before .before .before .before .before .before .before .check-text .ensures))) (c .before .before .before .before .before .before .before .before .before .if1 .left) (recorded-as catalogue narrow (lent (now (c .before .before .before .before .before .before .before .before .before .before .before .before .before .before .before .before .before .args .records)) (now (c .before .before .before .before .before .before .before .before .before .before .before .before .before .before .before .before .before .args .texts)) (c .before .before .before .before .before .before .before .before .before .before .before .before .before .before .before .before .before .args .log)) (note false (insert (c .before .before .before .before .before .before .before .before .before .before .before .before .before .before .before .before .before .args .idx) (now (c .before .before .before .before .before .before .before .before .before .before .before .before .before .before .before .before .before .args .buf))) ((valueOf catalogue narrow (lent (now (c .before .before .before .before .before .before .before .before .before .before .before .before .before .before .before .before .before .args .records)) (now (c .before .before .before .before .before .before .before .before .before .before .before .before .before .before .before .before .before .args .texts)) (c .before .before .before .before .before .before .before .before .before .before .before .before .before .before .before .before .before .args .log))) .undo)) (valueOf catalogue narrow (lent (now (c .before .before .before .before .before .before .before .before .before .before .before .before .before .before .before .before .before .args .records)) (now (c .before .before .before .before .before .before .before .before .before .before .before .before .before .before .before .before .before .args .texts)) (c .before .before .before .before .before .before .before .before .before .before .before .before .before .before .before .before .before .args .log))) (recordInsertStr (c .before .before .before .before .before .before .before .before .before .before .before .before .before .before .before .before .before .args .idx) (now (c .before .before .before .before .before .before .before .before .before .before .before .before .before .before .before .before .before .args .buf)) ((valueOf catalogue narrow (lent (now (c .before .before .before .before .before .before .before .before .before .before .before .before .before .before .before .before .before .args .records)) (now (c .before .before .before .before .before .before .before .before .before .before .before .before .before .before .before .before .before .args .texts)) (c .before .before .before .before .before .before .before .before .before .before .before .before .before .before .before .before .before .args .log))) .undo)) _ _ _ (insert-some (c .before .before .before .before .before .before .before .before .before .before .before .before .before .before .before .before .before .args .idx) ((valueOf catalogue narrow (lent (now (c .before .before .before .before .before .before .before .before .before .before .before .before .before .before .before .before .before .args .records)) (now (c .before .before .before .before .before .before .before .before .before .before .before .before .before .before .before .before .before .args .texts)) (c .before .before .before .before .before .before .before .before .before .before .before .before .before .before .before .before .before .args .log))) .undo) (now (c .before .before .before .before .before .before .before .before .before .before .before .before .before .before .before .before .before .args .buf)) (omega (arith, c .before .before .before .before .before .before .before .before .if2 .left))) (c .before .before .before .before .«record» .ensures))
+returns-3 c =
+    let after-record = c .before .before .before .before in
+    let else2 = after-record .before .before .before .before in
+    let else1 = else2.before in
+    let after-refusal = else1.before in
+    let after-check-text = after-refusal.before in
+    let after-format-for = after-check-text .before .before .before in
+    let entry = after-format-for .before .before .before .before in
+    let l = lent (now entry.args.records) (now entry.args.texts) entry.args.log in
+    let valueOf1 = valueOf catalogue after-format-for.format-for.result l in
+    let recordInsertStr1 = recordInsertStr entry.args.idx (now entry.args.buf) valueOf1.undo in
+    let checked1 = checked catalogue after-format-for.format-for.result l in
+    in-format l (λ (F : Format). insertStrCall catalogue F l entry.args.idx (now entry.args.buf)) after-format-for.format-for.ensures
+    (passed-by after-format-for.format-for.result l after-refusal.refusal.result (checked1 (not (isText catalogue (now entry.args.buf))))
+    (recordOut after-format-for.format-for.result (sizesOf l) recordInsertStr1 valueOf1) _ _ _
+    (sym (after-refusal.refusal.ensures.0 ∙ ap (λ (b : Bool). checked1 (not b)) after-check-text.check-text.ensures)) else1.if1.left
+    (recorded-as catalogue after-format-for.format-for.result l (note false (insert entry.args.idx (now entry.args.buf)) valueOf1.undo)
+    valueOf1 recordInsertStr1 _ _ _ (insert-some entry.args.idx valueOf1.undo (now entry.args.buf) (omega (arith, else2.if2.left)))
+    after-record.«record».ensures))
 
 pub insert-str-spec : {M : Type 1} → statement M
 insert-str-spec =
     tie.close
     (tie.spec
+    format-for-requires
     check-text-requires
     refusal-requires
     says-requires

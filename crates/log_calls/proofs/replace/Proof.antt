@@ -2,10 +2,11 @@ use mathlib.Core.Path.{sym, _∙_}
 use denote.Ref.{now}
 use Rattle.unicode.specs.Repertoire.{catalogue}
 use Rattle.checks.specs.Outcome.{called}
-use Rattle.journal.specs.Layout.{narrow}
-use Rattle.changeset.specs.Calls.{lent, sizesOf, valueOf, checked}
+use Rattle.formats.specs.declared.Format.{Format}
+use Rattle.changeset.specs.Calls.{lent, sizesOf, valueOf, checked, replaceCall}
 use Rattle.changeset.proofs.Answers.{refused-by, passed-by, answered-as}
-use Rattle.records.proofs.Formats.{narrow-fit}
+use Rattle.formats.proofs.Formats.{fit-for}
+use Rattle.changeset.proofs.Formats.{in-format}
 use mathlib.Core.Bool.{Bool, not}
 use Rattle.changeset.specs.Outcomes.{recordOut}
 use Rattle.changeset.proofs.Answers.{recorded-as}
@@ -20,6 +21,9 @@ use borrow.Author.Needs.{needs}
 use Rattle.log_calls.proofs.replace.Statement.{statement}
 use Rattle.log_calls.proofs.replace.Tie as tie
 
+format-for-requires : tie.Need-format-for-requires
+format-for-requires c κs = search needs
+
 check-text-requires : tie.Need-check-text-requires
 check-text-requires c κs = search needs
 
@@ -27,7 +31,9 @@ check-text-requires-2 : tie.Need-check-text-requires-2
 check-text-requires-2 c κs = search needs
 
 refusal-requires : tie.Need-refusal-requires
-refusal-requires c κs = search needs
+refusal-requires c κs =
+    let after-format-for = c .before .before .before .before in
+    fit-for _ after-format-for.format-for.ensures
 
 says-requires : tie.Need-says-requires
 says-requires c κs = search needs
@@ -39,10 +45,51 @@ same-length-2 : tie.Need-same-length-2
 same-length-2 c = search needs
 
 returns : tie.Need-returns
-returns c = answered-as narrow (lent (now (c .before .before .before .before .before .before .before .before .before .before .before .args .records)) (now (c .before .before .before .before .before .before .before .before .before .before .before .args .texts)) (c .before .before .before .before .before .before .before .before .before .before .before .args .log)) (called ((checked catalogue narrow (lent (now (c .before .before .before .before .before .before .before .before .before .before .before .args .records)) (now (c .before .before .before .before .before .before .before .before .before .before .before .args .texts)) (c .before .before .before .before .before .before .before .before .before .before .before .args .log))) (not (isText catalogue (now (c .before .before .before .before .before .before .before .before .before .before .before .args .old))) || not (isText catalogue (now (c .before .before .before .before .before .before .before .before .before .before .before .args .new))))) (recordOut narrow (sizesOf (lent (now (c .before .before .before .before .before .before .before .before .before .before .before .args .records)) (now (c .before .before .before .before .before .before .before .before .before .before .before .args .texts)) (c .before .before .before .before .before .before .before .before .before .before .before .args .log))) (recordReplace (c .before .before .before .before .before .before .before .before .before .before .before .args .idx) (now (c .before .before .before .before .before .before .before .before .before .before .before .args .old)) (now (c .before .before .before .before .before .before .before .before .before .before .before .args .new)) ((valueOf catalogue narrow (lent (now (c .before .before .before .before .before .before .before .before .before .before .before .args .records)) (now (c .before .before .before .before .before .before .before .before .before .before .before .args .texts)) (c .before .before .before .before .before .before .before .before .before .before .before .args .log))) .undo)) (valueOf catalogue narrow (lent (now (c .before .before .before .before .before .before .before .before .before .before .before .args .records)) (now (c .before .before .before .before .before .before .before .before .before .before .before .args .texts)) (c .before .before .before .before .before .before .before .before .before .before .before .args .log))))) _ _ _ _ (c .says .ensures) (refused-by narrow (lent (now (c .before .before .before .before .before .before .before .before .before .before .before .args .records)) (now (c .before .before .before .before .before .before .before .before .before .before .before .args .texts)) (c .before .before .before .before .before .before .before .before .before .before .before .args .log)) (c .before .before .refusal .result) ((checked catalogue narrow (lent (now (c .before .before .before .before .before .before .before .before .before .before .before .args .records)) (now (c .before .before .before .before .before .before .before .before .before .before .before .args .texts)) (c .before .before .before .before .before .before .before .before .before .before .before .args .log))) (not (isText catalogue (now (c .before .before .before .before .before .before .before .before .before .before .before .args .old))) || not (isText catalogue (now (c .before .before .before .before .before .before .before .before .before .before .before .args .new))))) (recordOut narrow (sizesOf (lent (now (c .before .before .before .before .before .before .before .before .before .before .before .args .records)) (now (c .before .before .before .before .before .before .before .before .before .before .before .args .texts)) (c .before .before .before .before .before .before .before .before .before .before .before .args .log))) (recordReplace (c .before .before .before .before .before .before .before .before .before .before .before .args .idx) (now (c .before .before .before .before .before .before .before .before .before .before .before .args .old)) (now (c .before .before .before .before .before .before .before .before .before .before .before .args .new)) ((valueOf catalogue narrow (lent (now (c .before .before .before .before .before .before .before .before .before .before .before .args .records)) (now (c .before .before .before .before .before .before .before .before .before .before .before .args .texts)) (c .before .before .before .before .before .before .before .before .before .before .before .args .log))) .undo)) (valueOf catalogue narrow (lent (now (c .before .before .before .before .before .before .before .before .before .before .before .args .records)) (now (c .before .before .before .before .before .before .before .before .before .before .before .args .texts)) (c .before .before .before .before .before .before .before .before .before .before .before .args .log)))) (sym (c .before .before .refusal .ensures .0 ∙ ap₂ (λ (a b : Bool). (checked catalogue narrow (lent (now (c .before .before .before .before .before .before .before .before .before .before .before .args .records)) (now (c .before .before .before .before .before .before .before .before .before .before .before .args .texts)) (c .before .before .before .before .before .before .before .before .before .before .before .args .log))) (not a || not b)) (c .before .before .before .before .check-text .ensures) (c .before .before .before .check-text2 .ensures))) (c .before .if1 .taken))
+returns c =
+    let after-check-text2 = c .before .before .before in
+    let after-check-text = after-check-text2.before in
+    let after-format-for = after-check-text .before .before .before in
+    let entry = after-format-for .before .before .before .before .before in
+    let l = lent (now entry.args.records) (now entry.args.texts) entry.args.log in
+    let valueOf1 = valueOf catalogue after-format-for.format-for.result l in
+    let recordOut1 = recordOut after-format-for.format-for.result (sizesOf l)
+    (recordReplace entry.args.idx (now entry.args.old) (now entry.args.new) valueOf1.undo) valueOf1 in
+    let checked1 = checked catalogue after-format-for.format-for.result l in
+    let checked11 = checked1 (not (isText catalogue (now entry.args.old)) || not (isText catalogue (now entry.args.new))) in
+    in-format l (λ (F : Format). replaceCall catalogue F l entry.args.idx (now entry.args.old) (now entry.args.new))
+    after-format-for.format-for.ensures
+    (answered-as after-format-for.format-for.result l (called checked11 recordOut1) _ _ _ _ c.says.ensures
+    (refused-by after-format-for.format-for.result l c.before.before.refusal.result checked11 recordOut1
+    (sym
+    (c.before.before.refusal.ensures.0
+    ∙ ap₂ (λ (a b : Bool). checked1 (not a || not b)) after-check-text.check-text.ensures after-check-text2.check-text2.ensures))
+    c.before.if1.taken))
 
 record-requires : tie.Need-record-requires
-record-requires c κs = (narrow-fit, ((c .before .before .before .refusal .ensures .1 (c .before .before .if1 .left)), (a-replace (c .before .before .before .before .before .before .before .before .before .before .before .before .args .idx) (now (c .before .before .before .before .before .before .before .before .before .before .before .before .args .old)) (now (c .before .before .before .before .before .before .before .before .before .before .before .before .args .new)), (neither (isText catalogue (now (c .before .before .before .before .before .before .before .before .before .before .before .before .args .old))) (isText catalogue (now (c .before .before .before .before .before .before .before .before .before .before .before .before .args .new))) (own-passed narrow (lent (now (c .before .before .before .before .before .before .before .before .before .before .before .before .args .records)) (now (c .before .before .before .before .before .before .before .before .before .before .before .before .args .texts)) (c .before .before .before .before .before .before .before .before .before .before .before .before .args .log)) (not (isText catalogue (now (c .before .before .before .before .before .before .before .before .before .before .before .before .args .old))) || not (isText catalogue (now (c .before .before .before .before .before .before .before .before .before .before .before .before .args .new)))) ((sym (c .before .before .before .refusal .ensures .0 ∙ ap₂ (λ (a b : Bool). (checked catalogue narrow (lent (now (c .before .before .before .before .before .before .before .before .before .before .before .before .args .records)) (now (c .before .before .before .before .before .before .before .before .before .before .before .before .args .texts)) (c .before .before .before .before .before .before .before .before .before .before .before .before .args .log))) (not a || not b)) (c .before .before .before .before .before .check-text .ensures) (c .before .before .before .before .check-text2 .ensures))) ∙ c .before .before .if1 .left))))))
+record-requires c κs =
+    let after-refusal = c .before .before .before in
+    let after-check-text2 = after-refusal.before in
+    let after-check-text = after-check-text2.before in
+    let after-format-for = after-check-text .before .before .before in
+    let entry = after-format-for .before .before .before .before .before in
+    let l = lent (now entry.args.records) (now entry.args.texts) entry.args.log in (
+      fit-for _ after-format-for.format-for.ensures,
+      (
+        (after-refusal.refusal.ensures.1 c.before.before.if1.left),
+        (
+          a-replace entry.args.idx (now entry.args.old) (now entry.args.new),
+          (neither (isText catalogue (now entry.args.old)) (isText catalogue (now entry.args.new))
+              (own-passed after-format-for.format-for.result l
+              (not (isText catalogue (now entry.args.old)) || not (isText catalogue (now entry.args.new)))
+              (
+              (sym
+              (after-refusal.refusal.ensures.0
+              ∙ ap₂ (λ (a b : Bool). (checked catalogue after-format-for.format-for.result l) (not a || not b))
+              after-check-text.check-text.ensures after-check-text2.check-text2.ensures))
+              ∙ c.before.before.if1.left))),
+        ),
+      ),
+    )
 
 same-length-3 : tie.Need-same-length-3
 same-length-3 c = search needs
@@ -51,12 +98,36 @@ same-length-4 : tie.Need-same-length-4
 same-length-4 c = search needs
 
 returns-2 : tie.Need-returns-2
-returns-2 c = passed-by narrow (lent (now (c .before .before .before .before .before .before .before .before .before .before .before .before .before .before .before .before .before .args .records)) (now (c .before .before .before .before .before .before .before .before .before .before .before .before .before .before .before .before .before .args .texts)) (c .before .before .before .before .before .before .before .before .before .before .before .before .before .before .before .before .before .args .log)) (c .before .before .before .before .before .before .before .before .refusal .result) ((checked catalogue narrow (lent (now (c .before .before .before .before .before .before .before .before .before .before .before .before .before .before .before .before .before .args .records)) (now (c .before .before .before .before .before .before .before .before .before .before .before .before .before .before .before .before .before .args .texts)) (c .before .before .before .before .before .before .before .before .before .before .before .before .before .before .before .before .before .args .log))) (not (isText catalogue (now (c .before .before .before .before .before .before .before .before .before .before .before .before .before .before .before .before .before .args .old))) || not (isText catalogue (now (c .before .before .before .before .before .before .before .before .before .before .before .before .before .before .before .before .before .args .new))))) (recordOut narrow (sizesOf (lent (now (c .before .before .before .before .before .before .before .before .before .before .before .before .before .before .before .before .before .args .records)) (now (c .before .before .before .before .before .before .before .before .before .before .before .before .before .before .before .before .before .args .texts)) (c .before .before .before .before .before .before .before .before .before .before .before .before .before .before .before .before .before .args .log))) (recordReplace (c .before .before .before .before .before .before .before .before .before .before .before .before .before .before .before .before .before .args .idx) (now (c .before .before .before .before .before .before .before .before .before .before .before .before .before .before .before .before .before .args .old)) (now (c .before .before .before .before .before .before .before .before .before .before .before .before .before .before .before .before .before .args .new)) ((valueOf catalogue narrow (lent (now (c .before .before .before .before .before .before .before .before .before .before .before .before .before .before .before .before .before .args .records)) (now (c .before .before .before .before .before .before .before .before .before .before .before .before .before .before .before .before .before .args .texts)) (c .before .before .before .before .before .before .before .before .before .before .before .before .before .before .before .before .before .args .log))) .undo)) (valueOf catalogue narrow (lent (now (c .before .before .before .before .before .before .before .before .before .before .before .before .before .before .before .before .before .args .records)) (now (c .before .before .before .before .before .before .before .before .before .before .before .before .before .before .before .before .before .args .texts)) (c .before .before .before .before .before .before .before .before .before .before .before .before .before .before .before .before .before .args .log)))) _ _ _ (sym (c .before .before .before .before .before .before .before .before .refusal .ensures .0 ∙ ap₂ (λ (a b : Bool). (checked catalogue narrow (lent (now (c .before .before .before .before .before .before .before .before .before .before .before .before .before .before .before .before .before .args .records)) (now (c .before .before .before .before .before .before .before .before .before .before .before .before .before .before .before .before .before .args .texts)) (c .before .before .before .before .before .before .before .before .before .before .before .before .before .before .before .before .before .args .log))) (not a || not b)) (c .before .before .before .before .before .before .before .before .before .before .check-text .ensures) (c .before .before .before .before .before .before .before .before .before .check-text2 .ensures))) (c .before .before .before .before .before .before .before .if1 .left) (recorded-as catalogue narrow (lent (now (c .before .before .before .before .before .before .before .before .before .before .before .before .before .before .before .before .before .args .records)) (now (c .before .before .before .before .before .before .before .before .before .before .before .before .before .before .before .before .before .args .texts)) (c .before .before .before .before .before .before .before .before .before .before .before .before .before .before .before .before .before .args .log)) (note true (replace (c .before .before .before .before .before .before .before .before .before .before .before .before .before .before .before .before .before .args .idx) (now (c .before .before .before .before .before .before .before .before .before .before .before .before .before .before .before .before .before .args .old)) (now (c .before .before .before .before .before .before .before .before .before .before .before .before .before .before .before .before .before .args .new))) ((valueOf catalogue narrow (lent (now (c .before .before .before .before .before .before .before .before .before .before .before .before .before .before .before .before .before .args .records)) (now (c .before .before .before .before .before .before .before .before .before .before .before .before .before .before .before .before .before .args .texts)) (c .before .before .before .before .before .before .before .before .before .before .before .before .before .before .before .before .before .args .log))) .undo)) (valueOf catalogue narrow (lent (now (c .before .before .before .before .before .before .before .before .before .before .before .before .before .before .before .before .before .args .records)) (now (c .before .before .before .before .before .before .before .before .before .before .before .before .before .before .before .before .before .args .texts)) (c .before .before .before .before .before .before .before .before .before .before .before .before .before .before .before .before .before .args .log))) (recordReplace (c .before .before .before .before .before .before .before .before .before .before .before .before .before .before .before .before .before .args .idx) (now (c .before .before .before .before .before .before .before .before .before .before .before .before .before .before .before .before .before .args .old)) (now (c .before .before .before .before .before .before .before .before .before .before .before .before .before .before .before .before .before .args .new)) ((valueOf catalogue narrow (lent (now (c .before .before .before .before .before .before .before .before .before .before .before .before .before .before .before .before .before .args .records)) (now (c .before .before .before .before .before .before .before .before .before .before .before .before .before .before .before .before .before .args .texts)) (c .before .before .before .before .before .before .before .before .before .before .before .before .before .before .before .before .before .args .log))) .undo)) _ _ _ (replace-is (c .before .before .before .before .before .before .before .before .before .before .before .before .before .before .before .before .before .args .idx) (now (c .before .before .before .before .before .before .before .before .before .before .before .before .before .before .before .before .before .args .old)) (now (c .before .before .before .before .before .before .before .before .before .before .before .before .before .before .before .before .before .args .new)) ((valueOf catalogue narrow (lent (now (c .before .before .before .before .before .before .before .before .before .before .before .before .before .before .before .before .before .args .records)) (now (c .before .before .before .before .before .before .before .before .before .before .before .before .before .before .before .before .before .args .texts)) (c .before .before .before .before .before .before .before .before .before .before .before .before .before .before .before .before .before .args .log))) .undo)) (c .before .before .before .before .«record» .ensures))
+returns-2 c =
+    let after-record = c .before .before .before .before in
+    let else1 = after-record .before .before .before in
+    let after-refusal = else1.before in
+    let after-check-text2 = after-refusal.before in
+    let after-check-text = after-check-text2.before in
+    let after-format-for = after-check-text .before .before .before in
+    let entry = after-format-for .before .before .before .before .before in
+    let l = lent (now entry.args.records) (now entry.args.texts) entry.args.log in
+    let valueOf1 = valueOf catalogue after-format-for.format-for.result l in
+    let recordReplace1 = recordReplace entry.args.idx (now entry.args.old) (now entry.args.new) valueOf1.undo in
+    let checked1 = checked catalogue after-format-for.format-for.result l in
+    in-format l (λ (F : Format). replaceCall catalogue F l entry.args.idx (now entry.args.old) (now entry.args.new))
+    after-format-for.format-for.ensures
+    (passed-by after-format-for.format-for.result l after-refusal.refusal.result
+    (checked1 (not (isText catalogue (now entry.args.old)) || not (isText catalogue (now entry.args.new))))
+    (recordOut after-format-for.format-for.result (sizesOf l) recordReplace1 valueOf1) _ _ _
+    (sym
+    (after-refusal.refusal.ensures.0
+    ∙ ap₂ (λ (a b : Bool). checked1 (not a || not b)) after-check-text.check-text.ensures after-check-text2.check-text2.ensures))
+    else1.if1.left
+    (recorded-as catalogue after-format-for.format-for.result l
+    (note true (replace entry.args.idx (now entry.args.old) (now entry.args.new)) valueOf1.undo) valueOf1 recordReplace1 _ _ _
+    (replace-is entry.args.idx (now entry.args.old) (now entry.args.new) valueOf1.undo) after-record.«record».ensures))
 
 pub replace-spec : {M : Type 1} → statement M
 replace-spec =
     tie.close
     (tie.spec
+    format-for-requires
     check-text-requires
     check-text-requires-2
     refusal-requires

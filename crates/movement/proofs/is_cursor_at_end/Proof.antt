@@ -13,13 +13,17 @@ says-requires : tie.Need-says-requires
 says-requires c κs = search needs
 
 returns : tie.Need-returns
-returns c = refused catalogue (c .before .before .before .before .args .text .now) (c .before .before .before .before .args .line) noTests _ (c .before .before .refusal .ensures) _ _ (c .before .if1 .taken) (c .says .ensures)
+returns c =
+    let entry = c .before .before .before .before in
+    refused catalogue entry.args.text.now entry.args.line noTests _ c.before.before.refusal.ensures _ _ c.before.if1.taken c.says.ensures
 
 tells-requires : tie.Need-tells-requires
 tells-requires c κs = search needs
 
 returns-2 : tie.Need-returns-2
-returns-2 c = accepted catalogue (c .before .before .before .before .args .text .now) (c .before .before .before .before .args .line) noTests _ (c .before .before .refusal .ensures) _ _ (c .before .if1 .left) (c .tells .ensures)
+returns-2 c =
+    let entry = c .before .before .before .before in
+    accepted catalogue entry.args.text.now entry.args.line noTests _ c.before.before.refusal.ensures _ _ c.before.if1.left c.tells.ensures
 
 pub is-cursor-at-end-spec : {M : Type 1} → statement M
 is-cursor-at-end-spec =

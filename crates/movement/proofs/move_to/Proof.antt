@@ -3,6 +3,7 @@ use Rattle.unicode.specs.Repertoire.{catalogue}
 use Rattle.movement.proofs.Called.{unnamed-refused}
 use Rattle.movement.specs.Moves.{searchBy}
 use mathlib.Core.Bool.{false}
+use Rattle.checks.specs.Answers.{lineAnswer}
 use borrow.Author.Needs.{needs}
 use Rattle.movement.proofs.move_to.Statement.{statement}
 use Rattle.movement.proofs.move_to.Tie as tie
@@ -23,13 +24,27 @@ says-requires : tie.Need-says-requires
 says-requires c κs = search needs
 
 returns : tie.Need-returns
-returns c = unnamed-refused catalogue (c .before .before .before .before .before .before .args .text .now) (c .before .before .before .before .before .before .args .line) false false _ _ _ (c .before .refusal .ensures) (c .says .ensures) ∙ sym (ap (searchBy catalogue (c .before .before .before .before .before .before .args .text .now) (c .before .before .before .before .before .before .args .line) (c .before .before .before .before .before .before .args .ch) (c .before .before .before .before .before .before .args .n)) (sym (c .before .before .before .before .from-code .ensures) ∙ c .before .before .enum-told .given .1))
+returns c =
+    let after-from-code = c .before .before .before .before in
+    let entry = after-from-code.before.before in
+    unnamed-refused catalogue entry.args.text.now entry.args.line false false _ _ _ c.before.refusal.ensures c.says.ensures
+    ∙ sym
+    (ap (lineAnswer entry.args.line)
+    (ap (searchBy catalogue entry.args.text.now entry.args.line entry.args.ch entry.args.n)
+    (sym after-from-code.from-code.ensures ∙ c.before.before.enum-told.given.1)))
 
 search-char-requires : tie.Need-search-char-requires
 search-char-requires c κs = search needs
 
 returns-2 : tie.Need-returns-2
-returns-2 c = c .search-char .ensures ∙ sym (ap (searchBy catalogue (c .before .before .before .before .before .before .args .text .now) (c .before .before .before .before .before .before .args .line) (c .before .before .before .before .before .before .args .ch) (c .before .before .before .before .before .before .args .n)) (sym (c .before .before .before .before .from-code .ensures) ∙ c .before .before .code .given .1))
+returns-2 c =
+    let after-from-code = c .before .before .before .before in
+    let entry = after-from-code.before.before in
+    c.search-char.ensures
+    ∙ sym
+    (ap (lineAnswer entry.args.line)
+    (ap (searchBy catalogue entry.args.text.now entry.args.line entry.args.ch entry.args.n)
+    (sym after-from-code.from-code.ensures ∙ c.before.before.code.given.1)))
 
 pub move-to-spec : {M : Type 1} → statement M
 move-to-spec =

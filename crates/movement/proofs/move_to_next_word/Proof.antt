@@ -5,6 +5,7 @@ use Rattle.keymap.specs.Codes.{wordOf}
 use Rattle.keymap.specs.declared.AtCode.{AtCode}
 use Rattle.movement.specs.Moves.{nextWordBy}
 use mathlib.Core.Bool.{false}
+use Rattle.checks.specs.Answers.{lineAnswer}
 use borrow.Author.Needs.{needs}
 use Rattle.movement.proofs.move_to_next_word.Statement.{statement}
 use Rattle.movement.proofs.move_to_next_word.Tie as tie
@@ -25,7 +26,14 @@ says-requires : tie.Need-says-requires
 says-requires c κs = search needs
 
 returns : tie.Need-returns
-returns c = unnamed-refused catalogue (c .before .before .before .before .before .before .args .text .now) (c .before .before .before .before .before .before .args .line) false false _ _ _ (c .before .refusal .ensures) (c .says .ensures) ∙ sym (ap (λ (a : AtCode). nextWordBy catalogue (c .before .before .before .before .before .before .args .text .now) (c .before .before .before .before .before .before .args .line) (c .before .before .before .before .before .before .args .n) a (wordOf (c .before .before .before .before .before .before .args .word))) (sym (c .before .before .before .before .from-code .ensures) ∙ c .before .before .enum-told .given .1))
+returns c =
+    let after-from-code = c .before .before .before .before in
+    let entry = after-from-code.before.before in
+    unnamed-refused catalogue entry.args.text.now entry.args.line false false _ _ _ c.before.refusal.ensures c.says.ensures
+    ∙ sym
+    (ap (lineAnswer entry.args.line)
+    (ap (λ (a : AtCode). nextWordBy catalogue entry.args.text.now entry.args.line entry.args.n a (wordOf entry.args.word))
+    (sym after-from-code.from-code.ensures ∙ c.before.before.enum-told.given.1)))
 
 from-code-requires-2 : tie.Need-from-code-requires-2
 from-code-requires-2 c κs = search needs
@@ -43,13 +51,33 @@ says-requires-2 : tie.Need-says-requires-2
 says-requires-2 c κs = search needs
 
 returns-2 : tie.Need-returns-2
-returns-2 c = unnamed-refused catalogue (c .before .before .before .before .before .before .before .before .before .before .args .text .now) (c .before .before .before .before .before .before .before .before .before .before .args .line) false false _ _ _ (c .before .refusal2 .ensures) (c .says2 .ensures) ∙ sym (ap₂ (nextWordBy catalogue (c .before .before .before .before .before .before .before .before .before .before .args .text .now) (c .before .before .before .before .before .before .before .before .before .before .args .line) (c .before .before .before .before .before .before .before .before .before .before .args .n)) (sym (c .before .before .before .before .before .before .before .before .from-code .ensures) ∙ c .before .before .before .before .before .before .stop .given .1) (sym (c .before .before .before .before .from-code2 .ensures) ∙ c .before .before .enum-told2 .given .1))
+returns-2 c =
+    let after-from-code2 = c .before .before .before .before in
+    let after-stop = after-from-code2.before.before in
+    let after-from-code = after-stop.before.before in
+    let entry = after-from-code.before.before in
+    unnamed-refused catalogue entry.args.text.now entry.args.line false false _ _ _ c.before.refusal2.ensures c.says2.ensures
+    ∙ sym
+    (ap (lineAnswer entry.args.line)
+    (ap₂ (nextWordBy catalogue entry.args.text.now entry.args.line entry.args.n)
+    (sym after-from-code.from-code.ensures ∙ after-stop.stop.given.1)
+    (sym after-from-code2.from-code2.ensures ∙ c.before.before.enum-told2.given.1)))
 
 next-word-requires : tie.Need-next-word-requires
 next-word-requires c κs = search needs
 
 returns-3 : tie.Need-returns-3
-returns-3 c = c .next-word .ensures ∙ sym (ap₂ (nextWordBy catalogue (c .before .before .before .before .before .before .before .before .before .before .args .text .now) (c .before .before .before .before .before .before .before .before .before .before .args .line) (c .before .before .before .before .before .before .before .before .before .before .args .n)) (sym (c .before .before .before .before .before .before .before .before .from-code .ensures) ∙ c .before .before .before .before .before .before .stop .given .1) (sym (c .before .before .before .before .from-code2 .ensures) ∙ c .before .before .code .given .1))
+returns-3 c =
+    let after-from-code2 = c .before .before .before .before in
+    let after-stop = after-from-code2.before.before in
+    let after-from-code = after-stop.before.before in
+    let entry = after-from-code.before.before in
+    c.next-word.ensures
+    ∙ sym
+    (ap (lineAnswer entry.args.line)
+    (ap₂ (nextWordBy catalogue entry.args.text.now entry.args.line entry.args.n)
+    (sym after-from-code.from-code.ensures ∙ after-stop.stop.given.1)
+    (sym after-from-code2.from-code2.ensures ∙ c.before.before.code.given.1)))
 
 pub move-to-next-word-spec : {M : Type 1} → statement M
 move-to-next-word-spec =

@@ -19,10 +19,20 @@ says-requires : tie.Need-says-requires
 says-requires c κs = search needs
 
 returns : tie.Need-returns
-returns c = refused catalogue (c .before .before .before .before .args .text .now) (c .before .before .before .before .args .line) _ _ (place-before catalogue (c .before .before .before .before .args .text .now) (c .before .before .before .before .args .line) (c .before .before .before .before .args .pos) _ (c .before .before .refusal .ensures) (c .before .if1 .taken)) _ _ (c .before .if1 .taken) (c .says .ensures)
+returns c =
+    let entry = c .before .before .before .before in
+    refused catalogue entry.args.text.now entry.args.line _ _
+    (place-before catalogue entry.args.text.now entry.args.line entry.args.pos _ c.before.before.refusal.ensures c.before.if1.taken) _ _
+    c.before.if1.taken c.says.ensures
 
 slice-aggregate-is-boundary : tie.Need-slice-aggregate-is-boundary
-slice-aggregate-is-boundary c = sym (length-take-le _ _ ((fit-of catalogue (c .before .before .before .before .args .text .now) (c .before .before .before .before .args .line) (ownTests false false (ltb (c .before .before .before .before .args .line .len) (c .before .before .before .before .args .pos))) _ (c .before .before .refusal .ensures) (c .before .if1 .left)) .used))
+slice-aggregate-is-boundary c =
+    let entry = c .before .before .before .before in
+    sym
+    (length-take-le _ _
+    (
+    (fit-of catalogue entry.args.text.now entry.args.line (ownTests false false (ltb entry.args.line.len entry.args.pos)) _
+    c.before.before.refusal.ensures c.before.if1.left) .used))
 
 is-boundary-requires : tie.Need-is-boundary-requires
 is-boundary-requires c κs = search needs
@@ -31,13 +41,35 @@ says-requires-2 : tie.Need-says-requires-2
 says-requires-2 c κs = search needs
 
 returns-2 : tie.Need-returns-2
-returns-2 c = refused catalogue (c .before .before .before .before .before .before .before .args .text .now) (c .before .before .before .before .before .before .before .args .line) _ 6 (place-split catalogue (c .before .before .before .before .before .before .before .args .text .now) (c .before .before .before .before .before .before .before .args .line) (c .before .before .before .before .before .before .before .args .pos) _ (c .before .before .before .before .before .refusal .ensures) (c .before .before .before .before .if1 .left) (sym (c .before .before .is-boundary .ensures .1 (fit-valid catalogue (c .before .before .before .before .before .before .before .args .text .now) (c .before .before .before .before .before .before .before .args .line) (fit-of catalogue (c .before .before .before .before .before .before .before .args .text .now) (c .before .before .before .before .before .before .before .args .line) (ownTests false false (ltb (c .before .before .before .before .before .before .before .args .line .len) (c .before .before .before .before .before .before .before .args .pos))) _ (c .before .before .before .before .before .refusal .ensures) (c .before .before .before .before .if1 .left)))) ∙ not-true _ (c .before .if2 .taken))) _ _ (λ z. omega arith) (c .says2 .ensures)
+returns-2 c =
+    let else1 = c .before .before .before .before in
+    let after-refusal = else1.before in
+    let entry = after-refusal.before.before in
+    refused catalogue entry.args.text.now entry.args.line _ 6
+    (place-split catalogue entry.args.text.now entry.args.line entry.args.pos _ after-refusal.refusal.ensures else1.if1.left
+    (sym
+    (c.before.before.is-boundary.ensures.1
+    (fit-valid catalogue _ entry.args.text.now entry.args.line
+    (fit-of catalogue entry.args.text.now entry.args.line (ownTests false false (ltb entry.args.line.len entry.args.pos)) _
+    after-refusal.refusal.ensures else1.if1.left)))
+    ∙ not-true _ c.before.if2.taken)) _ _ (λ z. omega arith) c.says2.ensures
 
 moved-to-requires : tie.Need-moved-to-requires
 moved-to-requires c κs = search needs
 
 returns-3 : tie.Need-returns-3
-returns-3 c = accepted catalogue (c .before .before .before .before .before .before .before .args .text .now) (c .before .before .before .before .before .before .before .args .line) _ _ (place-fits catalogue (c .before .before .before .before .before .before .before .args .text .now) (c .before .before .before .before .before .before .before .args .line) (c .before .before .before .before .before .before .before .args .pos) _ (c .before .before .before .before .before .refusal .ensures) (c .before .before .before .before .if1 .left) (sym (c .before .before .is-boundary .ensures .1 (fit-valid catalogue (c .before .before .before .before .before .before .before .args .text .now) (c .before .before .before .before .before .before .before .args .line) (fit-of catalogue (c .before .before .before .before .before .before .before .args .text .now) (c .before .before .before .before .before .before .before .args .line) (ownTests false false (ltb (c .before .before .before .before .before .before .before .args .line .len) (c .before .before .before .before .before .before .before .args .pos))) _ (c .before .before .before .before .before .refusal .ensures) (c .before .before .before .before .if1 .left)))) ∙ not-false _ (c .before .if2 .left))) _ _ (c .before .before .before .before .if1 .left) (c .moved-to .ensures)
+returns-3 c =
+    let else1 = c .before .before .before .before in
+    let after-refusal = else1.before in
+    let entry = after-refusal.before.before in
+    accepted catalogue entry.args.text.now entry.args.line _ _
+    (place-fits catalogue entry.args.text.now entry.args.line entry.args.pos _ after-refusal.refusal.ensures else1.if1.left
+    (sym
+    (c.before.before.is-boundary.ensures.1
+    (fit-valid catalogue _ entry.args.text.now entry.args.line
+    (fit-of catalogue entry.args.text.now entry.args.line (ownTests false false (ltb entry.args.line.len entry.args.pos)) _
+    after-refusal.refusal.ensures else1.if1.left)))
+    ∙ not-false _ c.before.if2.left)) _ _ else1.if1.left c.moved-to.ensures
 
 pub set-pos-spec : {M : Type 1} → statement M
 set-pos-spec =

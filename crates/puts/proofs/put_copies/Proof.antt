@@ -6,21 +6,21 @@ use denote.Ref.{now}
 use Rattle.lists.proofs.Parts.{none-left}
 use Rattle.unicode.specs.Repertoire.{catalogue}
 use Rattle.unicode.proofs.Text.{text-nil}
-use Rattle.journal.specs.Layout.{narrow}
-use Rattle.records.proofs.Formats.{narrow-fit}
 use Rattle.buffer.specs.Edit.{copies}
 use Rattle.buffer.proofs.Copies.{copies-length}
 use Rattle.edit.specs.Calls.{lent}
 use Rattle.edit.proofs.Answers.{cursor-in}
 use Rattle.puts.proofs.Copied.{product-fits}
 use Rattle.puts.proofs.Puts.{copies-long, copies-put}
-use Rattle.puts.proofs.InPlace.{copies-narrow, copies-full, new-text, copies-made}
+use Rattle.puts.proofs.InPlace.{copies-in-range, copies-full, new-text, copies-made}
 use borrow.Author.Needs.{needs}
 use Rattle.puts.proofs.put_copies.Statement.{statement}
 use Rattle.puts.proofs.put_copies.Tie as tie
 
 mul-size : tie.Need-mul-size
-mul-size c = omega (arith, ((product-fits (length ((now (c .before .before .before .before .args .s)))) ((c .before .before .before .before .args .n)) (c .before .before .before .before .pre .1 .1 .0) (c .before .before .before .before .pre .1 .1 .1))))
+mul-size c =
+    let entry = c .before .before .before .before in
+    omega (arith, (product-fits (length (now entry.args.s)) entry.args.n entry.pre.1.1.0 entry.pre.1.1.1))
 
 sub-if1 : tie.Need-sub-if1
 sub-if1 c = search needs
@@ -29,7 +29,10 @@ says-requires : tie.Need-says-requires
 says-requires c κs = search needs
 
 returns : tie.Need-returns
-returns c = copies-long (lent (now (c .before .before .before .before .before .before .args .text)) (now (c .before .before .before .before .before .before .args .records)) (now (c .before .before .before .before .before .before .args .texts)) (c .before .before .before .before .before .before .args .line) (c .before .before .before .before .before .before .args .log)) ((c .before .before .before .before .before .before .pre .0)) ((now (c .before .before .before .before .before .before .args .s))) ((c .before .before .before .before .before .before .args .n)) _ (c .before .if1 .taken) (c .says .ensures)
+returns c =
+    let entry = c .before .before .before .before .before .before in
+    copies-long entry.args.f (lent (now entry.args.text) (now entry.args.records) (now entry.args.texts) entry.args.line entry.args.log)
+    entry.pre.0 (now entry.args.s) entry.args.n _ c.before.if1.taken c.says.ensures
 
 add-end : tie.Need-add-end
 add-end c = search needs
@@ -41,7 +44,19 @@ slice-aggregate-put-in : tie.Need-slice-aggregate-put-in
 slice-aggregate-put-in c = search needs
 
 put-in-requires : tie.Need-put-in-requires
-put-in-requires c κs = (narrow-fit, (((c .before .before .before .before .before .before .before .before .before .before .pre .0)), (cursor-in narrow (lent (now (c .before .before .before .before .before .before .before .before .before .before .args .text)) (now (c .before .before .before .before .before .before .before .before .before .before .args .records)) (now (c .before .before .before .before .before .before .before .before .before .before .args .texts)) (c .before .before .before .before .before .before .before .before .before .before .args .line) (c .before .before .before .before .before .before .before .before .before .before .args .log)) ((c .before .before .before .before .before .before .before .before .before .before .pre .0)), text-nil catalogue)))
+put-in-requires c κs =
+    let entry = c .before .before .before .before .before .before .before .before .before .before in (
+      entry.pre.0.log.fit,
+      (
+        entry.pre.0,
+        (
+          cursor-in entry.args.f
+              (lent (now entry.args.text) (now entry.args.records) (now entry.args.texts) entry.args.line entry.args.log)
+              entry.pre.0,
+          text-nil catalogue,
+        ),
+      ),
+    )
 
 same-length : tie.Need-same-length
 same-length c = search needs
@@ -53,13 +68,27 @@ same-length-3 : tie.Need-same-length-3
 same-length-3 c = search needs
 
 returns-2 : tie.Need-returns-2
-returns-2 c = copies-put (lent (now (c .before .before .before .before .before .before .before .before .before .before .before .before .before .before .before .before .before .args .text)) (now (c .before .before .before .before .before .before .before .before .before .before .before .before .before .before .before .before .before .args .records)) (now (c .before .before .before .before .before .before .before .before .before .before .before .before .before .before .before .before .before .args .texts)) (c .before .before .before .before .before .before .before .before .before .before .before .before .before .before .before .before .before .args .line) (c .before .before .before .before .before .before .before .before .before .before .before .before .before .before .before .before .before .args .log)) _ _ _ _ _ _ ((now (c .before .before .before .before .before .before .before .before .before .before .before .before .before .before .before .before .before .args .s))) ((c .before .before .before .before .before .before .before .before .before .before .before .before .before .before .before .before .before .args .n)) ((sym (none-left (copies ((c .before .before .before .before .before .before .before .before .before .before .before .before .before .before .before .before .before .args .n)) ((now (c .before .before .before .before .before .before .before .before .before .before .before .before .before .before .before .before .before .args .s)))) (copies-length ((c .before .before .before .before .before .before .before .before .before .before .before .before .before .before .before .before .before .args .n)) ((now (c .before .before .before .before .before .before .before .before .before .before .before .before .before .before .before .before .before .args .s))) ∙ c .before .before .before .before .before .before .before .before .before .before .before .if2 .taken)))) refl (c .before .before .before .before .before .before .put-in .ensures)
+returns-2 c =
+    let after-put-in = c .before .before .before .before .before .before in
+    let then2 = after-put-in .before .before .before .before .before in
+    let entry = then2 .before .before .before .before .before .before in
+    copies-put entry.args.f (lent (now entry.args.text) (now entry.args.records) (now entry.args.texts) entry.args.line entry.args.log) _ _
+    _ _ _ _ (now entry.args.s) entry.args.n
+    (sym (none-left (copies entry.args.n (now entry.args.s)) (copies-length entry.args.n (now entry.args.s) ∙ then2.if2.taken))) refl
+    after-put-in.put-in.ensures
 
 room-now-requires : tie.Need-room-now-requires
 room-now-requires c κs = search needs
 
 room-put-requires : tie.Need-room-put-requires
-room-put-requires c κs = (narrow-fit, copies-narrow (lent (now (c .before .before .before .before .before .before .before .before .before .before .before .args .text)) (now (c .before .before .before .before .before .before .before .before .before .before .before .args .records)) (now (c .before .before .before .before .before .before .before .before .before .before .before .args .texts)) (c .before .before .before .before .before .before .before .before .before .before .before .args .line) (c .before .before .before .before .before .before .before .before .before .before .before .args .log)) ((c .before .before .before .before .before .before .before .before .before .before .before .pre .0)) ((now (c .before .before .before .before .before .before .before .before .before .before .before .args .s))) ((c .before .before .before .before .before .before .before .before .before .before .before .pre .1 .0)) ((c .before .before .before .before .before .before .before .before .before .before .before .args .n)) ((c .before .before .before .before .before .before .if1 .left)) _ ((c .before .before .room-now .ensures)))
+room-put-requires c κs =
+    let else1 = c .before .before .before .before .before .before in
+    let entry = else1 .before .before .before .before .before in (
+      entry.pre.0.log.fit,
+      copies-in-range entry.args.f
+          (lent (now entry.args.text) (now entry.args.records) (now entry.args.texts) entry.args.line entry.args.log) entry.pre.0
+          (now entry.args.s) entry.pre.1.0 entry.args.n else1.if1.left _ c.before.before.room-now.ensures,
+    )
 
 says-requires-2 : tie.Need-says-requires-2
 says-requires-2 c κs = search needs
@@ -71,10 +100,20 @@ same-length-5 : tie.Need-same-length-5
 same-length-5 c = search needs
 
 returns-3 : tie.Need-returns-3
-returns-3 c = copies-full (lent (now (c .before .before .before .before .before .before .before .before .before .before .before .before .before .before .before .args .text)) (now (c .before .before .before .before .before .before .before .before .before .before .before .before .before .before .before .args .records)) (now (c .before .before .before .before .before .before .before .before .before .before .before .before .before .before .before .args .texts)) (c .before .before .before .before .before .before .before .before .before .before .before .before .before .before .before .args .line) (c .before .before .before .before .before .before .before .before .before .before .before .before .before .before .before .args .log)) ((c .before .before .before .before .before .before .before .before .before .before .before .before .before .before .before .pre .0)) ((now (c .before .before .before .before .before .before .before .before .before .before .before .before .before .before .before .args .s))) ((c .before .before .before .before .before .before .before .before .before .before .before .before .before .before .before .pre .1 .0)) ((c .before .before .before .before .before .before .before .before .before .before .before .before .before .before .before .args .n)) ((c .before .before .before .before .before .before .before .before .before .before .if1 .left)) _ ((c .before .before .before .before .before .before .room-now .ensures)) _ ((c .before .before .before .room-put .ensures)) (not-true _ (c .before .if3 .taken)) _ (c .says2 .ensures)
+returns-3 c =
+    let after-room-put = c .before .before .before in
+    let after-room-now = after-room-put .before .before .before in
+    let else1 = after-room-now .before .before .before .before in
+    let entry = else1 .before .before .before .before .before in
+    copies-full entry.args.f (lent (now entry.args.text) (now entry.args.records) (now entry.args.texts) entry.args.line entry.args.log)
+    entry.pre.0 (now entry.args.s) entry.pre.1.0 entry.args.n else1.if1.left _ after-room-now.room-now.ensures _
+    after-room-put.room-put.ensures (not-true _ c.before.if3.taken) _ c.says2.ensures
 
 insert-copies-requires : tie.Need-insert-copies-requires
-insert-copies-requires c κs = (((c .before .before .before .before .before .before .before .before .before .before .before .before .before .before .before .pre .0)) .within, omega (arith, ((c .before .before .before .before .before .before .before .before .before .before .if1 .left)), ((c .before .before .before .before .before .before .before .before .before .before .before .before .before .before .before .pre .0)) .used))
+insert-copies-requires c κs =
+    let else1 = c .before .before .before .before .before .before .before .before .before .before in
+    let entry = else1 .before .before .before .before .before in
+    (entry.pre.0.within, omega (arith, else1.if1.left, entry.pre.0.used))
 
 array-share-prefix-none-2 : tie.Need-array-share-prefix-none-2
 array-share-prefix-none-2 c = search needs
@@ -89,13 +128,41 @@ part-record-start : tie.Need-part-record-start
 part-record-start c = search needs
 
 part-record-end : tie.Need-part-record-end
-part-record-end c = omega (arith, c .before .before .before .before .before .before .insert-copies .kept .0, ((c .before .before .before .before .before .before .before .before .before .before .before .before .before .before .before .before .before .if1 .left)), ((c .before .before .before .before .before .before .before .before .before .before .before .before .before .before .before .before .before .before .before .before .before .before .pre .0)) .used, ((c .before .before .before .before .before .before .before .before .before .before .before .before .before .before .before .before .before .before .before .before .before .before .pre .0)) .within)
+part-record-end c =
+    let after-insert-copies = c .before .before .before .before .before .before in
+    let else1 = after-insert-copies .before .before .before .before .before .before .before .before .before .before .before in
+    let entry = else1 .before .before .before .before .before in
+    omega (arith, after-insert-copies.insert-copies.kept.0, else1.if1.left, entry.pre.0.used, entry.pre.0.within)
 
 record-requires : tie.Need-record-requires
-record-requires c κs = (narrow-fit, (((c .before .before .before .before .before .before .before .before .before .before .before .before .before .before .before .before .before .before .before .before .before .before .before .pre .0)) .log, (record { kind = refl; place = refl; old = refl; new = refl }, new-text (lent (now (c .before .before .before .before .before .before .before .before .before .before .before .before .before .before .before .before .before .before .before .before .before .before .before .args .text)) (now (c .before .before .before .before .before .before .before .before .before .before .before .before .before .before .before .before .before .before .before .before .before .before .before .args .records)) (now (c .before .before .before .before .before .before .before .before .before .before .before .before .before .before .before .before .before .before .before .before .before .before .before .args .texts)) (c .before .before .before .before .before .before .before .before .before .before .before .before .before .before .before .before .before .before .before .before .before .before .before .args .line) (c .before .before .before .before .before .before .before .before .before .before .before .before .before .before .before .before .before .before .before .before .before .before .before .args .log)) ((c .before .before .before .before .before .before .before .before .before .before .before .before .before .before .before .before .before .before .before .before .before .before .before .pre .0)) ((now (c .before .before .before .before .before .before .before .before .before .before .before .before .before .before .before .before .before .before .before .before .before .before .before .args .s))) ((c .before .before .before .before .before .before .before .before .before .before .before .before .before .before .before .before .before .before .before .before .before .before .before .pre .1 .0)) ((c .before .before .before .before .before .before .before .before .before .before .before .before .before .before .before .before .before .before .before .before .before .before .before .args .n)) ((c .before .before .before .before .before .before .before .before .before .before .before .before .before .before .before .before .before .before .if1 .left)) _ ((c .before .before .before .before .before .before .before .before .before .before .before .before .before .before .room-now .ensures)) _ ((c .before .before .before .before .before .before .before .before .before .before .before .room-put .ensures)) (not-false _ (c .before .before .before .before .before .before .before .before .before .if3 .left)) (c .before .before .before .before .before .before .before .before .before .before .before .before .before .before .before .before .before .if2 .left) _ (c .before .before .before .before .before .before .before .insert-copies .ensures))))
+record-requires c κs =
+    let after-insert-copies = c .before .before .before .before .before .before .before in
+    let else3 = after-insert-copies.before.before in
+    let after-room-put = else3.before.before in
+    let after-room-now = after-room-put .before .before .before in
+    let else2 = after-room-now .before .before .before in
+    let else1 = else2.before in
+    let entry = else1 .before .before .before .before .before in (
+      entry.pre.0.log.fit,
+      (
+        entry.pre.0.log,
+        (
+          record { kind = refl; place = refl; old = refl; new = refl },
+          new-text entry.args.f
+              (lent (now entry.args.text) (now entry.args.records) (now entry.args.texts) entry.args.line entry.args.log)
+              entry.pre.0 (now entry.args.s) entry.pre.1.0 entry.args.n else1.if1.left _ after-room-now.room-now.ensures _
+              after-room-put.room-put.ensures (not-false _ else3.if3.left) else2.if2.left _
+              after-insert-copies.insert-copies.ensures,
+        ),
+      ),
+    )
 
-add-t19 : tie.Need-add-t19
-add-t19 c = omega (arith, ((c .before .before .before .before .before .before .before .before .before .before .before .before .before .before .before .before .before .before .before .before .before .before .before .before .if1 .left)), ((c .before .before .before .before .before .before .before .before .before .before .before .before .before .before .before .before .before .before .before .before .before .before .before .before .before .before .before .before .before .pre .0)) .used, ((c .before .before .before .before .before .before .before .before .before .before .before .before .before .before .before .before .before .before .before .before .before .before .before .before .before .before .before .before .before .pre .0)) .small)
+add-t20 : tie.Need-add-t20
+add-t20 c =
+    let else1 = c .before .before .before .before .before .before .before .before .before .before .before .before .before .before
+    .before .before .before .before .before .before .before .before .before .before in
+    let entry = else1 .before .before .before .before .before in
+    omega (arith, else1.if1.left, entry.pre.0.used, entry.pre.0.small, entry.pre.0.log.fit.text)
 
 says-requires-3 : tie.Need-says-requires-3
 says-requires-3 c κs = search needs
@@ -110,7 +177,19 @@ same-length-8 : tie.Need-same-length-8
 same-length-8 c = search needs
 
 returns-4 : tie.Need-returns-4
-returns-4 c = copies-made (lent (now (c .before .before .before .before .before .before .before .before .before .before .before .before .before .before .before .before .before .before .before .before .before .before .before .before .before .before .before .before .before .before .args .text)) (now (c .before .before .before .before .before .before .before .before .before .before .before .before .before .before .before .before .before .before .before .before .before .before .before .before .before .before .before .before .before .before .args .records)) (now (c .before .before .before .before .before .before .before .before .before .before .before .before .before .before .before .before .before .before .before .before .before .before .before .before .before .before .before .before .before .before .args .texts)) (c .before .before .before .before .before .before .before .before .before .before .before .before .before .before .before .before .before .before .before .before .before .before .before .before .before .before .before .before .before .before .args .line) (c .before .before .before .before .before .before .before .before .before .before .before .before .before .before .before .before .before .before .before .before .before .before .before .before .before .before .before .before .before .before .args .log)) ((c .before .before .before .before .before .before .before .before .before .before .before .before .before .before .before .before .before .before .before .before .before .before .before .before .before .before .before .before .before .before .pre .0)) ((now (c .before .before .before .before .before .before .before .before .before .before .before .before .before .before .before .before .before .before .before .before .before .before .before .before .before .before .before .before .before .before .args .s))) ((c .before .before .before .before .before .before .before .before .before .before .before .before .before .before .before .before .before .before .before .before .before .before .before .before .before .before .before .before .before .before .pre .1 .0)) ((c .before .before .before .before .before .before .before .before .before .before .before .before .before .before .before .before .before .before .before .before .before .before .before .before .before .before .before .before .before .before .args .n)) ((c .before .before .before .before .before .before .before .before .before .before .before .before .before .before .before .before .before .before .before .before .before .before .before .before .before .if1 .left)) _ ((c .before .before .before .before .before .before .before .before .before .before .before .before .before .before .before .before .before .before .before .before .before .room-now .ensures)) _ ((c .before .before .before .before .before .before .before .before .before .before .before .before .before .before .before .before .before .before .room-put .ensures)) (not-false _ (c .before .before .before .before .before .before .before .before .before .before .before .before .before .before .before .before .if3 .left)) (c .before .before .before .before .before .before .before .before .before .before .before .before .before .before .before .before .before .before .before .before .before .before .before .before .if2 .left) _ (c .before .before .before .before .before .before .before .before .before .before .before .before .before .before .insert-copies .ensures) _ _ _ (c .before .before .before .before .before .before .record .ensures) _ (c .says3 .ensures)
+returns-4 c =
+    let after-record = c .before .before .before .before .before .before in
+    let after-insert-copies = after-record .before .before .before .before .before .before .before .before in
+    let else3 = after-insert-copies.before.before in
+    let after-room-put = else3.before.before in
+    let after-room-now = after-room-put .before .before .before in
+    let else2 = after-room-now .before .before .before in
+    let else1 = else2.before in
+    let entry = else1 .before .before .before .before .before in
+    copies-made entry.args.f (lent (now entry.args.text) (now entry.args.records) (now entry.args.texts) entry.args.line entry.args.log)
+    entry.pre.0 (now entry.args.s) entry.pre.1.0 entry.args.n else1.if1.left _ after-room-now.room-now.ensures _
+    after-room-put.room-put.ensures (not-false _ else3.if3.left) else2.if2.left _ after-insert-copies.insert-copies.ensures _ _ _
+    after-record.record.ensures _ c.says3.ensures
 
 pub put-copies-spec : {M : Type 1} → statement M
 put-copies-spec =
@@ -141,7 +220,7 @@ put-copies-spec =
     part-record-start
     part-record-end
     record-requires
-    add-t19
+    add-t20
     says-requires-3
     same-length-6
     same-length-7

@@ -5,7 +5,6 @@ use denote.Ref.{now}
 use Rattle.unicode.specs.Repertoire.{catalogue}
 use Rattle.unicode.specs.Text.{isText}
 use Rattle.edit.specs.Calls.{lent}
-use Rattle.records.proofs.Formats.{narrow-fit}
 use Rattle.utf8.proofs.Encode.{encode-max}
 use Rattle.unicode.proofs.Typed.{typed-text}
 use Rattle.edit.proofs.Parts.{an-insert}
@@ -18,10 +17,25 @@ is-alnum-requires : tie.Need-is-alnum-requires
 is-alnum-requires c κs = search needs
 
 add-change : tie.Need-add-change
-add-change c = omega (arith, ap length (c .before .before .before .before .before .before .before .before .pre .1 .1), encode-max (c .before .before .before .before .before .before .before .before .args .ch))
+add-change c =
+    let entry = c .before .before .before .before .before .before .before .before in
+    omega (arith, ap length entry.pre.1.1, encode-max entry.args.ch)
 
 change-requires : tie.Need-change-requires
-change-requires c κs = (narrow-fit, (c .before .before .before .before .before .before .before .before .pre .0, ((omega arith, c .before .before .before .before .before .before .before .before .pre .0 .within), (an-insert (take (c .before .before .before .before .before .before .before .before .args .line .len) (now (c .before .before .before .before .before .before .before .before .args .text))) (c .before .before .before .before .before .before .before .before .args .line .cursor) (now (c .before .before .before .before .before .before .before .before .args .s)), ap (isText catalogue) (c .before .before .before .before .before .before .before .before .pre .1 .1) ∙ typed-text (c .before .before .before .before .before .before .before .before .args .ch) (c .before .before .before .before .before .before .before .before .pre .1 .0)))))
+change-requires c κs =
+    let entry = c .before .before .before .before .before .before .before .before in (
+      entry.pre.0.log.fit,
+      (
+        entry.pre.0,
+        (
+          (omega arith, entry.pre.0.within),
+          (
+            an-insert (take entry.args.line.len (now entry.args.text)) entry.args.line.cursor (now entry.args.s),
+            ap (isText catalogue) entry.pre.1.1 ∙ typed-text entry.args.ch entry.pre.1.0,
+          ),
+        ),
+      ),
+    )
 
 same-length : tie.Need-same-length
 same-length c = search needs
@@ -33,7 +47,13 @@ same-length-3 : tie.Need-same-length-3
 same-length-3 c = search needs
 
 returns : tie.Need-returns
-returns c = char-put (lent (now (c .before .before .before .before .before .before .before .before .before .before .before .before .before .before .before .args .text)) (now (c .before .before .before .before .before .before .before .before .before .before .before .before .before .before .before .args .records)) (now (c .before .before .before .before .before .before .before .before .before .before .before .before .before .before .before .args .texts)) (c .before .before .before .before .before .before .before .before .before .before .before .before .before .before .before .args .line) (c .before .before .before .before .before .before .before .before .before .before .before .before .before .before .before .args .log)) (now (c .before .before .before .before .before .before .before .before .before .before .before .before .before .before .before .args .s)) (length (now (c .before .before .before .before .before .before .before .before .before .before .before .before .before .before .before .args .s))) _ _ _ _ (c .before .before .before .before .before .before .before .before .before .before .before .before .before .before .before .args .ch) (c .before .before .before .before .before .before .before .is-alnum .result) (c .before .before .before .before .before .before .before .is-alnum .ensures) (c .before .before .before .before .before .before .before .before .before .before .before .before .before .before .before .pre .1 .1) refl (c .before .before .before .before .before .before .change .ensures)
+returns c =
+    let after-change = c .before .before .before .before .before .before in
+    let after-is-alnum = after-change.before in
+    let entry = after-is-alnum .before .before .before .before .before .before .before .before in
+    char-put entry.args.f (lent (now entry.args.text) (now entry.args.records) (now entry.args.texts) entry.args.line entry.args.log)
+    (now entry.args.s) (length (now entry.args.s)) _ _ _ _ entry.args.ch after-is-alnum.is-alnum.result after-is-alnum.is-alnum.ensures
+    entry.pre.1.1 refl after-change.change.ensures
 
 pub type-char-spec : {M : Type 1} → statement M
 type-char-spec =

@@ -1,6 +1,10 @@
 use denote.Ref.{now}
 use Rattle.edit.specs.Calls.{lent}
-use Rattle.records.proofs.Formats.{narrow-fit}
+use Rattle.unicode.specs.Repertoire.{catalogue}
+use Rattle.formats.specs.declared.Format.{Format}
+use Rattle.formats.proofs.Formats.{fit-for}
+use Rattle.edit.proofs.Formats.{in-format}
+use Rattle.ranges.specs.Ranges.{deleteRangeCall}
 use Rattle.ranges.proofs.Calls.{delete-refused, delete-in, delete-done}
 use borrow.Author.Needs.{needs}
 use Rattle.ranges.proofs.delete_range.Statement.{statement}
@@ -12,8 +16,13 @@ is-split-requires c κs = search needs
 is-split-requires-2 : tie.Need-is-split-requires-2
 is-split-requires-2 c κs = search needs
 
+format-for-requires : tie.Need-format-for-requires
+format-for-requires c κs = search needs
+
 refusal-requires : tie.Need-refusal-requires
-refusal-requires c κs = search needs
+refusal-requires c κs =
+    let after-format-for = c .before .before .before in
+    fit-for _ after-format-for.format-for.ensures
 
 says-requires : tie.Need-says-requires
 says-requires c κs = search needs
@@ -28,10 +37,33 @@ same-length-3 : tie.Need-same-length-3
 same-length-3 c = search needs
 
 returns : tie.Need-returns
-returns c = delete-refused (lent (now (c .before .before .before .before .before .before .before .before .before .before .before .before .before .args .text)) (now (c .before .before .before .before .before .before .before .before .before .before .before .before .before .args .records)) (now (c .before .before .before .before .before .before .before .before .before .before .before .before .before .args .texts)) (c .before .before .before .before .before .before .before .before .before .before .before .before .before .args .line) (c .before .before .before .before .before .before .before .before .before .before .before .before .before .args .log)) (c .before .before .before .before .before .before .before .before .before .before .before .before .before .args .start) (c .before .before .before .before .before .before .before .before .before .before .before .before .before .args .end) _ _ (c .before .before .before .before .before .before .before .before .is-split .ensures) (c .before .before .before .before .before .before .is-split2 .ensures) _ (c .before .before .refusal .ensures .0) (c .before .if1 .taken) _ (c .says .ensures)
+returns c =
+    let after-format-for = c .before .before .before .before .before .before in
+    let after-is-split2 = after-format-for.before in
+    let after-is-split = after-is-split2.before.before in
+    let entry = after-is-split .before .before .before .before .before in
+    let l = lent (now entry.args.text) (now entry.args.records) (now entry.args.texts) entry.args.line entry.args.log in
+    in-format l (λ (F : Format). deleteRangeCall catalogue F l entry.args.start entry.args.end) after-format-for.format-for.ensures
+    (delete-refused after-format-for.format-for.result l entry.args.start entry.args.end _ _ after-is-split.is-split.ensures
+    after-is-split2.is-split2.ensures _ c.before.before.refusal.ensures.0 c.before.if1.taken _ c.says.ensures)
 
 cut-out-requires : tie.Need-cut-out-requires
-cut-out-requires c κs = (narrow-fit, (c .before .before .before .before .refusal .ensures .1 (c .before .before .before .if1 .left), delete-in (lent (now (c .before .before .before .before .before .before .before .before .before .before .before .before .before .before .before .args .text)) (now (c .before .before .before .before .before .before .before .before .before .before .before .before .before .before .before .args .records)) (now (c .before .before .before .before .before .before .before .before .before .before .before .before .before .before .before .args .texts)) (c .before .before .before .before .before .before .before .before .before .before .before .before .before .before .before .args .line) (c .before .before .before .before .before .before .before .before .before .before .before .before .before .before .before .args .log)) (c .before .before .before .before .before .before .before .before .before .before .before .before .before .before .before .args .start) (c .before .before .before .before .before .before .before .before .before .before .before .before .before .before .before .args .end) _ _ (c .before .before .before .before .before .before .before .before .before .before .is-split .ensures) (c .before .before .before .before .before .before .before .before .is-split2 .ensures) _ (c .before .before .before .before .refusal .ensures .0) (c .before .before .before .if1 .left) (c .before .before .before .before .refusal .ensures .1 (c .before .before .before .if1 .left))))
+cut-out-requires c κs =
+    let else1 = c .before .before .before in
+    let after-refusal = else1.before in
+    let after-format-for = after-refusal .before .before .before .before in
+    let after-is-split2 = after-format-for.before in
+    let after-is-split = after-is-split2.before.before in
+    let entry = after-is-split .before .before .before .before .before in (
+      fit-for _ after-format-for.format-for.ensures,
+      (
+        after-refusal.refusal.ensures.1 else1.if1.left,
+        delete-in after-format-for.format-for.result
+            (lent (now entry.args.text) (now entry.args.records) (now entry.args.texts) entry.args.line entry.args.log) entry.args.start
+            entry.args.end _ _ after-is-split.is-split.ensures after-is-split2.is-split2.ensures _ after-refusal.refusal.ensures.0
+            else1.if1.left (after-refusal.refusal.ensures.1 else1.if1.left),
+      ),
+    )
 
 same-length-4 : tie.Need-same-length-4
 same-length-4 c = search needs
@@ -43,7 +75,18 @@ same-length-6 : tie.Need-same-length-6
 same-length-6 c = search needs
 
 returns-2 : tie.Need-returns-2
-returns-2 c = delete-done (lent (now (c .before .before .before .before .before .before .before .before .before .before .before .before .before .before .before .before .before .before .before .before .before .before .args .text)) (now (c .before .before .before .before .before .before .before .before .before .before .before .before .before .before .before .before .before .before .before .before .before .before .args .records)) (now (c .before .before .before .before .before .before .before .before .before .before .before .before .before .before .before .before .before .before .before .before .before .before .args .texts)) (c .before .before .before .before .before .before .before .before .before .before .before .before .before .before .before .before .before .before .before .before .before .before .args .line) (c .before .before .before .before .before .before .before .before .before .before .before .before .before .before .before .before .before .before .before .before .before .before .args .log)) (c .before .before .before .before .before .before .before .before .before .before .before .before .before .before .before .before .before .before .before .before .before .before .args .start) (c .before .before .before .before .before .before .before .before .before .before .before .before .before .before .before .before .before .before .before .before .before .before .args .end) _ _ (c .before .before .before .before .before .before .before .before .before .before .before .before .before .before .before .before .before .is-split .ensures) (c .before .before .before .before .before .before .before .before .before .before .before .before .before .before .before .is-split2 .ensures) _ (c .before .before .before .before .before .before .before .before .before .before .before .refusal .ensures .0) (c .before .before .before .before .before .before .before .before .before .before .if1 .left) _ _ _ _ (c .before .before .before .before .before .before .cut-out .ensures)
+returns-2 c =
+    let after-cut-out = c .before .before .before .before .before .before in
+    let else1 = after-cut-out .before .before .before .before in
+    let after-refusal = else1.before in
+    let after-format-for = after-refusal .before .before .before .before in
+    let after-is-split2 = after-format-for.before in
+    let after-is-split = after-is-split2.before.before in
+    let entry = after-is-split .before .before .before .before .before in
+    let l = lent (now entry.args.text) (now entry.args.records) (now entry.args.texts) entry.args.line entry.args.log in
+    in-format l (λ (F : Format). deleteRangeCall catalogue F l entry.args.start entry.args.end) after-format-for.format-for.ensures
+    (delete-done after-format-for.format-for.result l entry.args.start entry.args.end _ _ after-is-split.is-split.ensures
+    after-is-split2.is-split2.ensures _ after-refusal.refusal.ensures.0 else1.if1.left _ _ _ _ after-cut-out.cut-out.ensures)
 
 pub delete-range-spec : {M : Type 1} → statement M
 delete-range-spec =
@@ -51,6 +94,7 @@ delete-range-spec =
     (tie.spec
     is-split-requires
     is-split-requires-2
+    format-for-requires
     refusal-requires
     says-requires
     same-length

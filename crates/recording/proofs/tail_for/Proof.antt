@@ -2,7 +2,6 @@ use mathlib.Core.Path.{_∙_}
 use denote.Ref.{now}
 use borrow.Author.Tests.{not-true, not-false}
 use Rattle.unicode.specs.Repertoire.{catalogue}
-use Rattle.records.specs.Formats.{asFormat}
 use Rattle.recording.proofs.Joins.{joined-for}
 use Rattle.recording.proofs.Newest.{tail-apart}
 use borrow.Author.Needs.{needs}
@@ -13,7 +12,7 @@ no-edit-requires : tie.Need-no-edit-requires
 no-edit-requires c κs = search needs
 
 returns : tie.Need-returns
-returns c = λ ts us l e. let s = c .before .before .before in c .no-edit .ensures ∙ tail-apart catalogue (asFormat (s .args .f)) (now (s .args .records)) (s .args .texts) (s .args .joins) (not-true _ (c .before .if1 .taken)) ts us l e
+returns c = λ ts us l e. let s = c .before .before .before in c .no-edit .ensures ∙ tail-apart catalogue (s .args .f) (now (s .args .records)) (s .args .texts) (s .args .joins) (not-true _ (c .before .if1 .taken)) ts us l e
 
 tail-of-requires : tie.Need-tail-of-requires
 tail-of-requires c κs = search needs

@@ -1,6 +1,5 @@
 use native.Mathlib.Omega.{arith}
 use mathlib.Core.Path.{sym}
-use Rattle.records.specs.Formats.{asFormat}
 use Rattle.records.proofs.Written.{replace-size, other-size}
 use borrow.Author.Needs.{needs}
 use Rattle.records.proofs.edit_size.Statement.{statement}
@@ -22,10 +21,10 @@ add-result-5 : tie.Need-add-result-5
 add-result-5 c = search needs
 
 returns : tie.Need-returns
-returns c = let s = c .before in (sym (replace-size (asFormat (s .args .f)) (s .args .kind) (c .if1 .taken)), omega (arith, s .pre .width))
+returns c = let s = c .before in (sym (replace-size (s .args .f) (s .args .kind) (c .if1 .taken)), omega (arith, s .pre .width))
 
 returns-2 : tie.Need-returns-2
-returns-2 c = let s = c .before in (sym (other-size (asFormat (s .args .f)) (s .args .kind) (c .if1 .left)), omega (arith, s .pre .width))
+returns-2 c = let s = c .before in (sym (other-size (s .args .f) (s .args .kind) (c .if1 .left)), omega (arith, s .pre .width))
 
 pub edit-size-spec : {M : Type 1} → statement M
 edit-size-spec =

@@ -5,19 +5,18 @@ use lib.ListN.{length}
 use denote.Ref.{now}
 use Rattle.unicode.specs.Repertoire.{catalogue}
 use Rattle.journal.proofs.Walk.{Come, come-end}
-use Rattle.records.specs.Formats.{asFormat}
 use Rattle.records.proofs.Walks.{RunOf, run-none, passes, run-on, run-ends}
 use Rattle.records.proofs.run_start.Statement.{statement}
 use Rattle.records.proofs.run_start.Tie as tie
 
 abbrev Inv-loop : tie.InvT-loop
-Inv-loop f records kind at₀ start₀ at start = Come catalogue (asFormat f) records at (RunOf (asFormat f) kind start)
+Inv-loop f records kind at₀ start₀ at start = Come catalogue f records at (RunOf f kind start)
 
 abbrev μ-loop : tie.MeasureT-loop
 μ-loop f records kind at₀ start₀ at start = length records - at
 
 loop-holds : tie.Need-loop-holds Inv-loop μ-loop
-loop-holds c = let s = c .before in run-none catalogue (asFormat (s .args .f)) (now (s .args .records)) (s .args .kind)
+loop-holds c = let s = c .before in run-none catalogue (s .args .f) (now (s .args .records)) (s .args .kind)
 
 shared-slice-read-wide : tie.Need-shared-slice-read-wide Inv-loop μ-loop
 shared-slice-read-wide c = search needs
@@ -30,27 +29,27 @@ record-size-requires c κs = c .before .before .before .before .before .pre .0
 
 add-at : tie.Need-add-at Inv-loop μ-loop
 add-at c = let s = c .before .before .before .before .before .before in let l = c .before .before .before .before .loop in let w = c .before .wide in let z = c .record-size in
-    let q = passes catalogue (asFormat (s .args .f)) (now (s .args .records)) (l .at) (w .result) (z .result) (c .before .before .before .loop-test .taken) (w .ensures .0) (z .ensures .0) _ (s .pre .1) (l .inv) in omega arith
+    let q = passes catalogue (s .args .f) (now (s .args .records)) (l .at) (w .result) (z .result) (c .before .before .before .loop-test .taken) (w .ensures .0) (z .ensures .0) _ (s .pre .1) (l .inv) in omega arith
 
 loop-less : tie.Need-loop-less Inv-loop μ-loop
 loop-less c = let s = c .before .before .before .before .before .before .before in let l = c .before .before .before .before .before .loop in let w = c .before .before .wide in let z = c .before .record-size in
-    let q = passes catalogue (asFormat (s .args .f)) (now (s .args .records)) (l .at) (w .result) (z .result) (c .before .before .before .before .loop-test .taken) (w .ensures .0) (z .ensures .0) _ (s .pre .1) (l .inv) in omega arith
+    let q = passes catalogue (s .args .f) (now (s .args .records)) (l .at) (w .result) (z .result) (c .before .before .before .before .loop-test .taken) (w .ensures .0) (z .ensures .0) _ (s .pre .1) (l .inv) in omega arith
 
 loop-again : tie.Need-loop-again Inv-loop μ-loop
 loop-again c = let s = c .before .before .before .before .before .before .before in let l = c .before .before .before .before .before .loop in let w = c .before .before .wide in let z = c .before .record-size in
-    run-ends catalogue (asFormat (s .args .f)) (now (s .args .records)) (l .at) (w .result) (z .result) (c .before .before .before .before .loop-test .taken) (w .ensures .0) (z .ensures .0) (s .args .kind) (l .start) (c .if1 .taken) (l .inv)
+    run-ends catalogue (s .args .f) (now (s .args .records)) (l .at) (w .result) (z .result) (c .before .before .before .before .loop-test .taken) (w .ensures .0) (z .ensures .0) (s .args .kind) (l .start) (c .if1 .taken) (l .inv)
 
 loop-less-2 : tie.Need-loop-less-2 Inv-loop μ-loop
 loop-less-2 c = let s = c .before .before .before .before .before .before .before in let l = c .before .before .before .before .before .loop in let w = c .before .before .wide in let z = c .before .record-size in
-    let q = passes catalogue (asFormat (s .args .f)) (now (s .args .records)) (l .at) (w .result) (z .result) (c .before .before .before .before .loop-test .taken) (w .ensures .0) (z .ensures .0) _ (s .pre .1) (l .inv) in omega arith
+    let q = passes catalogue (s .args .f) (now (s .args .records)) (l .at) (w .result) (z .result) (c .before .before .before .before .loop-test .taken) (w .ensures .0) (z .ensures .0) _ (s .pre .1) (l .inv) in omega arith
 
 loop-again-2 : tie.Need-loop-again-2 Inv-loop μ-loop
 loop-again-2 c = let s = c .before .before .before .before .before .before .before in let l = c .before .before .before .before .before .loop in let w = c .before .before .wide in let z = c .before .record-size in
-    run-on catalogue (asFormat (s .args .f)) (now (s .args .records)) (l .at) (w .result) (z .result) (c .before .before .before .before .loop-test .taken) (w .ensures .0) (z .ensures .0) (s .args .kind) (l .start) (c .if1 .left) (l .inv)
+    run-on catalogue (s .args .f) (now (s .args .records)) (l .at) (w .result) (z .result) (c .before .before .before .before .loop-test .taken) (w .ensures .0) (z .ensures .0) (s .args .kind) (l .start) (c .if1 .left) (l .inv)
 
 returns : tie.Need-returns Inv-loop μ-loop
 returns c = let s = c .before .before .before in let l = c .before .loop in
-    come-end catalogue (asFormat (s .args .f)) (now (s .args .records)) (l .at) (RunOf (asFormat (s .args .f)) (s .args .kind) (l .start)) (c .loop-test .left) (l .inv)
+    come-end catalogue (s .args .f) (now (s .args .records)) (l .at) (RunOf (s .args .f) (s .args .kind) (l .start)) (c .loop-test .left) (l .inv)
 
 pub run-start-spec : {M : Type 1} → statement M
 run-start-spec =

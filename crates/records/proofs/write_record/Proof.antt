@@ -2,7 +2,6 @@ use native.Mathlib.Omega.{arith}
 use mathlib.Core.Path.{_∙_}
 use lib.ListN.{length-set}
 use denote.Ref.{now}
-use Rattle.records.specs.Formats.{asFormat}
 use Rattle.records.proofs.Written.{two-numbers, replace-size, insert-written, delete-written, replace-written}
 use borrow.Author.Needs.{needs}
 use Rattle.records.proofs.write_record.Statement.{statement}
@@ -15,13 +14,13 @@ cast-records : tie.Need-cast-records
 cast-records c = search needs
 
 slice-write-records : tie.Need-slice-write-records
-slice-write-records c = let s = c .before in omega (arith, s .pre .1 .1, two-numbers (asFormat (s .args .f)) (s .args .kind))
+slice-write-records c = let s = c .before in omega (arith, s .pre .1 .1, two-numbers (s .args .f) (s .args .kind))
 
 add-write-num : tie.Need-add-write-num
 add-write-num c = search needs
 
 write-num-requires : tie.Need-write-num-requires
-write-num-requires c κs = let s = c .before .before in simp length-set (omega (arith, s .pre .1 .1, two-numbers (asFormat (s .args .f)) (s .args .kind)))
+write-num-requires c κs = let s = c .before .before in simp length-set (omega (arith, s .pre .1 .1, two-numbers (s .args .f) (s .args .kind)))
 
 add-write-num-2 : tie.Need-add-write-num-2
 add-write-num-2 c = search needs
@@ -30,13 +29,13 @@ add-write-num-3 : tie.Need-add-write-num-3
 add-write-num-3 c = search needs
 
 write-num-requires-2 : tie.Need-write-num-requires-2
-write-num-requires-2 c κs = let s = c .before .before .before .before .before .before .before in omega (arith, s .pre .1 .1, two-numbers (asFormat (s .args .f)) (s .args .kind), simp length-set at (c .before .before .before .before .write-num .kept .0))
+write-num-requires-2 c κs = let s = c .before .before .before .before .before .before .before in omega (arith, s .pre .1 .1, two-numbers (s .args .f) (s .args .kind), simp length-set at (c .before .before .before .before .write-num .kept .0))
 
 same-length : tie.Need-same-length
 same-length c = c .before .before .write-num2 .kept .0 ∙ c .before .before .before .before .before .before .before .write-num .kept .0 ∙ simp length-set
 
 returns : tie.Need-returns
-returns c = let s = c .before .before .before .before .before .before .before .before .before .before in insert-written (asFormat (s .args .f)) (now (s .args .records)) (c .before .before .before .before .before .before .before .write-num .last .0) (s .args .at) (s .args .kind) (s .args .place) (s .args .old) (s .args .new) (c .before .before .before .before .before .before .before .write-num .ensures) (c .before .before .write-num2 .last .0) (c .before .before .before .before .if1 .taken) (c .before .before .write-num2 .ensures)
+returns c = let s = c .before .before .before .before .before .before .before .before .before .before in insert-written (s .args .f) (now (s .args .records)) (c .before .before .before .before .before .before .before .write-num .last .0) (s .args .at) (s .args .kind) (s .args .place) (s .args .old) (s .args .new) (c .before .before .before .before .before .before .before .write-num .ensures) (c .before .before .write-num2 .last .0) (c .before .before .before .before .if1 .taken) (c .before .before .write-num2 .ensures)
 
 add-write-num-4 : tie.Need-add-write-num-4
 add-write-num-4 c = search needs
@@ -45,13 +44,13 @@ add-write-num-5 : tie.Need-add-write-num-5
 add-write-num-5 c = search needs
 
 write-num-requires-3 : tie.Need-write-num-requires-3
-write-num-requires-3 c κs = let s = c .before .before .before .before .before .before .before in omega (arith, s .pre .1 .1, two-numbers (asFormat (s .args .f)) (s .args .kind), simp length-set at (c .before .before .before .before .write-num .kept .0))
+write-num-requires-3 c κs = let s = c .before .before .before .before .before .before .before in omega (arith, s .pre .1 .1, two-numbers (s .args .f) (s .args .kind), simp length-set at (c .before .before .before .before .write-num .kept .0))
 
 same-length-2 : tie.Need-same-length-2
 same-length-2 c = c .before .before .before .write-num3 .kept .0 ∙ c .before .before .before .before .before .before .before .before .write-num .kept .0 ∙ simp length-set
 
 returns-2 : tie.Need-returns-2
-returns-2 c = let s = c .before .before .before .before .before .before .before .before .before .before .before in delete-written (asFormat (s .args .f)) (now (s .args .records)) (c .before .before .before .before .before .before .before .before .write-num .last .0) (s .args .at) (s .args .kind) (s .args .place) (s .args .old) (s .args .new) (c .before .before .before .before .before .before .before .before .write-num .ensures) (c .before .before .before .write-num3 .last .0) (c .if2 .taken) (c .before .before .before .write-num3 .ensures)
+returns-2 c = let s = c .before .before .before .before .before .before .before .before .before .before .before in delete-written (s .args .f) (now (s .args .records)) (c .before .before .before .before .before .before .before .before .write-num .last .0) (s .args .at) (s .args .kind) (s .args .place) (s .args .old) (s .args .new) (c .before .before .before .before .before .before .before .before .write-num .ensures) (c .before .before .before .write-num3 .last .0) (c .if2 .taken) (c .before .before .before .write-num3 .ensures)
 
 add-write-num-6 : tie.Need-add-write-num-6
 add-write-num-6 c = search needs
@@ -64,14 +63,14 @@ add-write-num-8 c = search needs
 
 write-num-requires-4 : tie.Need-write-num-requires-4
 write-num-requires-4 c κs = let s = c .before .before .before .before .before .before .before .before .before .before .before .before in
-    omega (arith, s .pre .1 .1, replace-size (asFormat (s .args .f)) (s .args .kind) (omega (arith, s .pre .1 .0, c .before .before .before .before .before .before .if1 .left, c .before .if2 .left)), c .before .before .before .before .write-num3 .kept .0, simp length-set at (c .before .before .before .before .before .before .before .before .before .write-num .kept .0))
+    omega (arith, s .pre .1 .1, replace-size (s .args .f) (s .args .kind) (omega (arith, s .pre .1 .0, c .before .before .before .before .before .before .if1 .left, c .before .if2 .left)), c .before .before .before .before .write-num3 .kept .0, simp length-set at (c .before .before .before .before .before .before .before .before .before .write-num .kept .0))
 
 same-length-3 : tie.Need-same-length-3
 same-length-3 c = c .before .before .write-num4 .kept .0 ∙ c .before .before .before .before .before .before .before .write-num3 .kept .0 ∙ c .before .before .before .before .before .before .before .before .before .before .before .before .write-num .kept .0 ∙ simp length-set
 
 returns-3 : tie.Need-returns-3
 returns-3 c = let s = c .before .before .before .before .before .before .before .before .before .before .before .before .before .before .before in
-    replace-written (asFormat (s .args .f)) (now (s .args .records)) (c .before .before .before .before .before .before .before .before .before .before .before .before .write-num .last .0) (s .args .at) (s .args .kind) (s .args .place) (s .args .old) (s .args .new) (c .before .before .before .before .before .before .before .before .before .before .before .before .write-num .ensures) (c .before .before .before .before .before .before .before .write-num3 .last .0) (c .before .before .write-num4 .last .0) (omega (arith, s .pre .1 .0, c .before .before .before .before .before .before .before .before .before .if1 .left, c .before .before .before .before .if2 .left)) (c .before .before .before .before .before .before .before .write-num3 .ensures) (c .before .before .write-num4 .ensures)
+    replace-written (s .args .f) (now (s .args .records)) (c .before .before .before .before .before .before .before .before .before .before .before .before .write-num .last .0) (s .args .at) (s .args .kind) (s .args .place) (s .args .old) (s .args .new) (c .before .before .before .before .before .before .before .before .before .before .before .before .write-num .ensures) (c .before .before .before .before .before .before .before .write-num3 .last .0) (c .before .before .write-num4 .last .0) (omega (arith, s .pre .1 .0, c .before .before .before .before .before .before .before .before .before .if1 .left, c .before .before .before .before .if2 .left)) (c .before .before .before .before .before .before .before .write-num3 .ensures) (c .before .before .write-num4 .ensures)
 
 pub write-record-spec : {M : Type 1} → statement M
 write-record-spec =

@@ -3,9 +3,8 @@ use native.Mathlib.Omega.{arith}
 use mathlib.Core.Path.{refl}
 use mathlib.Core.Bool.{false}
 use denote.Ref.{now}
-use Rattle.records.specs.Formats.{asFormat}
 use Rattle.undo.specs.Steps.{lentBy}
-use Rattle.undo.proofs.Seams.{some-next, next-stands}
+use Rattle.undo.proofs.Seams.{some-next, next-stands, texts-below}
 use Rattle.undo.proofs.Steps.{next-whole, next-space, next-seam-there, record-stops, record-passes}
 use Rattle.redo.proofs.redo_record.Statement.{statement}
 use Rattle.redo.proofs.redo_record.Tie as tie
@@ -23,7 +22,7 @@ retrace-requires c κs =
     let h = s .pre .1 .0 in
     let n = some-next h (s .pre .1 .1 .1) .2 in
     let r = c .before .read-record in
-    ((s .pre .1 .1 .0, h .used, r .ensures .2, next-space h n (r .ensures .0), h .log .texts), h .text)
+    ((s .pre .1 .1 .0, h .used, r .ensures .2, next-space h n (r .ensures .0), texts-below h), h .text)
 
 same-length : tie.Need-same-length
 same-length c = search needs
@@ -31,12 +30,12 @@ same-length c = search needs
 returns : tie.Need-returns
 returns c =
     let s = c .before .before .before .before .before .before .before .before .before .before .before in
-    let a = s .args in
-    let h = s .pre .1 .0 in
-    let l = lentBy (now (a .text)) (now (a .records)) (now (a .texts)) (a .s) (a .log) in
+    let a = s.args in
+    let h = s.pre.1.0 in
+    let l = lentBy (now a.text) (now a.records) (now a.texts) a.s a.log in
     let r = c .before .before .before .before .before .before .read-record in
     let q = c .before .before .before .before .retrace in
-    λ x d e. record-stops (asFormat (a .f)) l false x d (next-stands h e) (r .ensures .0) (a .s) (q .result) (q .last .0) (q .ensures) refl (c .if1 .taken)
+    λ x d e. record-stops a.f l false x d (next-stands h e) r.ensures.0 a.s q.result q.last.0 q.ensures refl c.if1.taken
 
 shared-slice-read-record-size : tie.Need-shared-slice-read-record-size
 shared-slice-read-record-size c = search needs
@@ -51,7 +50,10 @@ record-size-requires : tie.Need-record-size-requires
 record-size-requires c κs = search needs
 
 add-end : tie.Need-add-end
-add-end c = search needs
+add-end c =
+    let s = c .before .before .before .before .before .before .before .before .before .before .before .before .before in
+    let h = s .pre .1 .0 in
+    omega (arith, h .log .hold .room, h .log .records, h .log .fit .records, c .record-size .ensures .1)
 
 add-move-seam : tie.Need-add-move-seam
 add-move-seam c = search needs
@@ -62,32 +64,35 @@ add-move-seam-2 c =
     let h = s .pre .1 .0 in
     let n = some-next h (s .pre .1 .1 .1) .2 in
     let r = c .before .before .before .before .before .before .before .before .before .read-record in
-    omega (arith, next-space h n (r .ensures .0), h .log .texts)
+    omega (arith, next-space h n (r .ensures .0), texts-below h)
 
 move-seam-requires : tie.Need-move-seam-requires
 move-seam-requires c κs =
     let s = c .before .before .before .before .before .before .before .before .before .before .before .before .before .before in
-    let h = s .pre .1 .0 in
-    let n = some-next h (s .pre .1 .1 .1) .2 in
+    let h = s.pre.1.0 in
+    let n = (some-next h s.pre.1.1.1) .2 in
     let r = c .before .before .before .before .before .before .before .before .before .read-record in
-    let k = c .before .record-size in
-    let m = next-seam-there h n (r .ensures .0) (k .ensures .0) in
-    ((m .within, omega (arith, h .log .hold .room, h .log .records)), (m .texts, omega (arith, h .log .hold .space, h .log .texts)))
+    let k = c.before.record-size in
+    let m = next-seam-there h n r.ensures.0 k.ensures.0 in (
+      (m.within, omega (arith, h.log.hold.room, h.log.records, h.log.fit.records)),
+      (m.texts, omega (arith, h.log.hold.space, texts-below h)),
+    )
 
 same-length-2 : tie.Need-same-length-2
 same-length-2 c = search needs
 
 returns-2 : tie.Need-returns-2
 returns-2 c =
+    let else1 = c .before .before .before .before in
     let s = c .before .before .before .before .before .before .before .before .before .before .before .before .before .before .before in
-    let a = s .args in
-    let h = s .pre .1 .0 in
-    let l = lentBy (now (a .text)) (now (a .records)) (now (a .texts)) (a .s) (a .log) in
+    let a = s.args in
+    let h = s.pre.1.0 in
+    let l = lentBy (now a.text) (now a.records) (now a.texts) a.s a.log in
     let r = c .before .before .before .before .before .before .before .before .before .before .read-record in
     let q = c .before .before .before .before .before .before .before .before .retrace in
-    let k = c .before .before .record-size in
-    λ x d e. record-passes (asFormat (a .f)) l false x d (next-stands h e) (r .ensures .0) (a .s) (q .result) (q .last .0) (q .ensures)
-    (next-seam-there h e (r .ensures .0) (k .ensures .0)) (c .before .before .before .before .if1 .left) (c .move-seam .ensures)
+    let k = c.before.before.record-size in
+    λ x d e. record-passes a.f l false x d (next-stands h e) r.ensures.0 a.s q.result q.last.0 q.ensures
+    (next-seam-there h e r.ensures.0 k.ensures.0) else1.if1.left c.move-seam.ensures
 
 pub redo-record-spec : {M : Type 1} → statement M
 redo-record-spec =

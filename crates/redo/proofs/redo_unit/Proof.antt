@@ -5,7 +5,6 @@ use mathlib.Core.Path.{refl, _∙_}
 use mathlib.Core.Bool.{false}
 use lib.ListN.{length}
 use Rattle.unicode.specs.Repertoire.{catalogue}
-use Rattle.records.specs.Formats.{asFormat}
 use Rattle.edit.specs.Calls.{stateOf}
 use Rattle.undo.specs.Undo.{redoWalk}
 use Rattle.undo.specs.Steps.{lentBy}
@@ -19,7 +18,8 @@ use Rattle.redo.proofs.redo_unit.Tie as tie
 
 abbrev Inv-loop : tie.InvT-loop
 Inv-loop f text₀ records texts s₀ g₀ ends₀ begins₀ text s g ends begins =
-    Walking (asFormat f) (lentBy text₀ records texts s₀ g₀) false (redoWalk (length text₀) (stateOf catalogue (asFormat f) (lentBy text₀ records texts s₀ g₀))) text s g 0 ends begins
+    Walking f (lentBy text₀ records texts s₀ g₀) false (redoWalk (length text₀) (stateOf catalogue f (lentBy text₀ records texts s₀ g₀)))
+    text s g 0 ends begins
 
 abbrev μ-loop : tie.MeasureT-loop
 μ-loop f text₀ records texts s₀ g₀ ends₀ begins₀ text s g ends begins = g .redo .records
@@ -60,11 +60,12 @@ same-length-2 c =
 
 returns-2 : tie.Need-returns-2 Inv-loop μ-loop
 returns-2 c =
+    let else1 = c .before .before .before .before .before .before .before .before .before in
     let b = c .before .before .before .before .before .before .before .before .before .before .before .before .loop in
-    let k = b .inv in
-    let n = some-next (k .come .ready) (omega (arith, c .before .before .before .before .before .before .before .before .before .if1 .left)) in
+    let k = b.inv in
+    let n = some-next k.come.ready (omega (arith, else1.if1.left)) in
     let u = c .before .before .before .before .before .before .before .redo-record in
-    redone (walked-stop k (n .2) (u .result) (u .last .1 .0) (u .ensures) (c .before .if2 .taken) (c .answer2 .ensures))
+    redone (walked-stop k n.2 u.result u.last.1.0 u.ensures c.before.if2.taken c.answer2.ensures)
 
 one-if-requires : tie.Need-one-if-requires Inv-loop μ-loop
 one-if-requires c κs = search needs
@@ -91,46 +92,52 @@ answer-requires-3 c κs = search needs
 
 same-length-3 : tie.Need-same-length-3 Inv-loop μ-loop
 same-length-3 c =
-    let b = c .before .before .before .before .before .before .before .before .before .before .before .before .before .before .before .loop in
-    let k = b .inv in
+    let b = c .before .before .before .before .before .before .before .before .before .before .before .before .before .before .before
+    .loop in
+    let k = b.inv in
     let u = c .before .before .before .before .before .before .before .before .before .before .redo-record in
-    u .kept .1 .0 ∙ k .come .text
+    u.kept.1.0 ∙ k.come.text
 
 returns-3 : tie.Need-returns-3 Inv-loop μ-loop
 returns-3 c =
-    let b = c .before .before .before .before .before .before .before .before .before .before .before .before .before .before .before .loop in
-    let k = b .inv in
-    let n = some-next (k .come .ready) (omega (arith, c .before .before .before .before .before .before .before .before .before .before .before .before .if1 .left)) in
+    let else1 = c .before .before .before .before .before .before .before .before .before .before .before .before in
+    let b = c .before .before .before .before .before .before .before .before .before .before .before .before .before .before .before
+    .loop in
+    let k = b.inv in
+    let n = some-next k.come.ready (omega (arith, else1.if1.left)) in
     let u = c .before .before .before .before .before .before .before .before .before .before .redo-record in
     let i = c .before .before .before .one-if in
-    let j = c .before .before .one-if2 in
+    let j = c.before.before.one-if2 in
     let z = c .before .before .before .before .if2 .left in
-    let w = counts-on (u .result .kind) (i .ensures .0) (j .ensures .0) (n .0) (k .waiting) (b .ends) (b .begins) (k .waits) (u .ensures (n .0) (n .1) (n .2) .0) in
-    let few = one-of (u .result .kind) (i .ensures .0) (j .ensures .0) in
+    let w = counts-on u.result.kind i.ensures.0 j.ensures.0 n.0 k.waiting b.ends b.begins k.waits (u.ensures n.0 n.1 n.2 .0) in
+    let few = one-of u.result.kind i.ensures.0 j.ensures.0 in
     redone
-    (walked-last k (n .2) (u .result) (u .last .1 .0) (u .ensures) (u .kept .1 .0) z (b .ends + i .result) (b .begins + j .result) w (omega (arith, few)) (c .before .if3 .taken) refl (c .answer3 .ensures))
+    (walked-last k n.2 u.result u.last.1.0 u.ensures u.kept.1.0 z (b.ends + i.result) (b.begins + j.result) w (omega (arith, few))
+    c.before.if3.taken refl c.answer3.ensures)
 
 loop-less : tie.Need-loop-less Inv-loop μ-loop
 loop-less c =
+    let else1 = c .before .before .before .before .before .before .before .before .before .before .before in
     let b = c .before .before .before .before .before .before .before .before .before .before .before .before .before .before .loop in
-    let k = b .inv in
-    let n = some-next (k .come .ready) (omega (arith, c .before .before .before .before .before .before .before .before .before .before .before .if1 .left)) in
+    let k = b.inv in
+    let n = some-next k.come.ready (omega (arith, else1.if1.left)) in
     let u = c .before .before .before .before .before .before .before .before .before .redo-record in
     let z = c .before .before .before .if2 .left in
-    falls false (k .come) (n .2) (u .result) (u .last .1 .0) (u .ensures) (u .kept .1 .0) z
+    falls false k.come n.2 u.result u.last.1.0 u.ensures u.kept.1.0 z
 
 loop-again : tie.Need-loop-again Inv-loop μ-loop
 loop-again c =
+    let else1 = c .before .before .before .before .before .before .before .before .before .before .before in
     let b = c .before .before .before .before .before .before .before .before .before .before .before .before .before .before .loop in
-    let k = b .inv in
-    let n = some-next (k .come .ready) (omega (arith, c .before .before .before .before .before .before .before .before .before .before .before .if1 .left)) in
+    let k = b.inv in
+    let n = some-next k.come.ready (omega (arith, else1.if1.left)) in
     let u = c .before .before .before .before .before .before .before .before .before .redo-record in
-    let i = c .before .before .one-if in
-    let j = c .before .one-if2 in
+    let i = c.before.before.one-if in
+    let j = c.before.one-if2 in
     let z = c .before .before .before .if2 .left in
-    let w = counts-on (u .result .kind) (i .ensures .0) (j .ensures .0) (n .0) (k .waiting) (b .ends) (b .begins) (k .waits) (u .ensures (n .0) (n .1) (n .2) .0) in
-    let few = one-of (u .result .kind) (i .ensures .0) (j .ensures .0) in
-    walking-on k (n .2) (u .result) (u .last .1 .0) (u .ensures) (u .kept .1 .0) z (b .ends + i .result) (b .begins + j .result) w (omega (arith, few)) (c .if3 .left)
+    let w = counts-on u.result.kind i.ensures.0 j.ensures.0 n.0 k.waiting b.ends b.begins k.waits (u.ensures n.0 n.1 n.2 .0) in
+    let few = one-of u.result.kind i.ensures.0 j.ensures.0 in
+    walking-on k n.2 u.result u.last.1.0 u.ensures u.kept.1.0 z (b.ends + i.result) (b.begins + j.result) w (omega (arith, few)) c.if3.left
 
 pub redo-unit-spec : {M : Type 1} → statement M
 redo-unit-spec =

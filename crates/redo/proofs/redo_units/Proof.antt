@@ -1,7 +1,6 @@
 use borrow.Author.Needs.{needs}
 use native.Mathlib.Omega.{arith}
 use mathlib.Core.Path.{_∙_}
-use Rattle.records.specs.Formats.{asFormat}
 use Rattle.edit.specs.Calls.{lent}
 use Rattle.redo.proofs.Redos.{Redoing, redoing-first, redo-ended, more-left, redoing-next, redo-stopped, ended-still, stopped-still}
 use Rattle.redo.proofs.redo_units.Statement.{statement}
@@ -9,7 +8,7 @@ use Rattle.redo.proofs.redo_units.Tie as tie
 
 abbrev Inv-loop : tie.InvT-loop
 Inv-loop f text₀ records texts n line-now₀ log-now₀ number₀ left₀ text line-now log-now number left =
-    Redoing (asFormat f) (lent text₀ records texts line-now₀ log-now₀) n text line-now log-now number left
+    Redoing f (lent text₀ records texts line-now₀ log-now₀) n text line-now log-now number left
 
 abbrev μ-loop : tie.MeasureT-loop
 μ-loop f text₀ records texts n line-now₀ log-now₀ number₀ left₀ text line-now log-now number left = left
@@ -50,29 +49,35 @@ same-length-2 c =
 
 returns-2 : tie.Need-returns-2 Inv-loop μ-loop
 returns-2 c =
+    let else1 = c .before .before .before .before .before .before .before .before .before in
     let k = c .before .before .before .before .before .before .before .before .before .before .before .before .loop .inv in
     let u = c .before .before .before .before .before .before .before .redo-unit in
-    let h = more-left k (c .before .before .before .before .before .before .before .before .before .if1 .left) in
-    (redo-stopped k h (u .ensures) (c .before .before .behind .ensures) (c .before .if2 .taken) (c .says2 .ensures), stopped-still k h (u .ensures) (c .before .before .behind .ensures) (c .says2 .ensures))
+    let h = more-left k else1.if1.left in (
+      redo-stopped k h u.ensures c.before.before.behind.ensures c.before.if2.taken c.says2.ensures,
+      stopped-still k h u.ensures c.before.before.behind.ensures c.says2.ensures,
+    )
 
 sub-left : tie.Need-sub-left Inv-loop μ-loop
 sub-left c =
+    let else1 = c .before .before .before .before .before .before .before .before in
     let k = c .before .before .before .before .before .before .before .before .before .before .before .loop .inv in
-    let h = more-left k (c .before .before .before .before .before .before .before .before .if1 .left) in
+    let h = more-left k else1.if1.left in
     h
 
 loop-less : tie.Need-loop-less Inv-loop μ-loop
 loop-less c =
+    let else1 = c .before .before .before .before .before .before .before .before in
     let k = c .before .before .before .before .before .before .before .before .before .before .before .loop .inv in
-    let h = more-left k (c .before .before .before .before .before .before .before .before .if1 .left) in
+    let h = more-left k else1.if1.left in
     omega (arith, h)
 
 loop-again : tie.Need-loop-again Inv-loop μ-loop
 loop-again c =
+    let else1 = c .before .before .before .before .before .before .before .before in
     let k = c .before .before .before .before .before .before .before .before .before .before .before .loop .inv in
     let u = c .before .before .before .before .before .before .redo-unit in
-    let h = more-left k (c .before .before .before .before .before .before .before .before .if1 .left) in
-    redoing-next k h (u .ensures) (c .before .behind .ensures) (u .kept .1 .0) (omega (arith, c .if2 .left))
+    let h = more-left k else1.if1.left in
+    redoing-next k h u.ensures c.before.behind.ensures u.kept.1.0 (omega (arith, c.if2.left))
 
 pub redo-units-spec : {M : Type 1} → statement M
 redo-units-spec =

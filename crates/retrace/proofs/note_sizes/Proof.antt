@@ -5,14 +5,13 @@ use lib.ListN.{length, length-set}
 use denote.Ref.{now}
 use Rattle.unicode.specs.Repertoire.{catalogue}
 use Rattle.journal.proofs.Walk.{Come, come-end}
-use Rattle.records.specs.Formats.{asFormat}
 use Rattle.records.proofs.Walks.{passes}
 use Rattle.retrace.proofs.Sizes.{NotedOf, noted-none, noted-on}
 use Rattle.retrace.proofs.note_sizes.Statement.{statement}
 use Rattle.retrace.proofs.note_sizes.Tie as tie
 
 abbrev Inv-loop : tie.InvT-loop
-Inv-loop f records sizes₀ count₀ at₀ sizes count at = (count ≤ at) × (length sizes ≡ length sizes₀) × Come catalogue (asFormat f) records at (NotedOf (asFormat f) count sizes)
+Inv-loop f records sizes₀ count₀ at₀ sizes count at = (count ≤ at) × (length sizes ≡ length sizes₀) × Come catalogue f records at (NotedOf f count sizes)
 
 abbrev μ-loop : tie.MeasureT-loop
 μ-loop f records sizes₀ count₀ at₀ sizes count at = length records - at
@@ -20,10 +19,10 @@ abbrev μ-loop : tie.MeasureT-loop
 -- a whole record was read
 passed : (c : tie.After-record-size Inv-loop μ-loop) → (0 < c .record-size .result) × (c .before .before .before .loop .at + c .record-size .result ≤ length (now (c .before .before .before .before .before .before .args .records)))
 passed c = let s = c .before .before .before .before .before .before in let l = c .before .before .before .loop in
-    passes catalogue (asFormat (s .args .f)) (now (s .args .records)) (l .at) _ (c .record-size .result) (c .before .before .loop-test .taken) refl (c .record-size .ensures .0) _ (s .pre .1 .0) (l .inv .2)
+    passes catalogue (s .args .f) (now (s .args .records)) (l .at) _ (c .record-size .result) (c .before .before .loop-test .taken) refl (c .record-size .ensures .0) _ (s .pre .1 .0) (l .inv .2)
 
 loop-holds : tie.Need-loop-holds Inv-loop μ-loop
-loop-holds c = let s = c .before .before in (omega arith, refl, noted-none catalogue (asFormat (s .args .f)) (now (s .args .records)) (now (s .args .sizes)))
+loop-holds c = let s = c .before .before in (omega arith, refl, noted-none catalogue (s .args .f) (now (s .args .records)) (now (s .args .sizes)))
 
 shared-slice-read-record-size : tie.Need-shared-slice-read-record-size Inv-loop μ-loop
 shared-slice-read-record-size c = omega (arith, c .before .loop-test .taken)
@@ -54,14 +53,14 @@ loop-less c = omega (arith, passed c .0, passed c .1)
 
 loop-again : tie.Need-loop-again Inv-loop μ-loop
 loop-again c = let s = c .before .before .before .before .before .before in let l = c .before .before .before .loop in let w = passed c in
-    (omega (arith, w .0, l .inv .0), simp length-set (l .inv .1), noted-on catalogue (asFormat (s .args .f)) (now (s .args .records)) (l .at) (c .record-size .result) (l .count) _ (c .before .before .loop-test .taken) (c .record-size .ensures .0) (omega (arith, w .1, l .inv .1, s .pre .1 .1)) (l .inv .2))
+    (omega (arith, w .0, l .inv .0), simp length-set (l .inv .1), noted-on catalogue (s .args .f) (now (s .args .records)) (l .at) (c .record-size .result) (l .count) _ (c .before .before .loop-test .taken) (c .record-size .ensures .0) (omega (arith, w .1, l .inv .1, s .pre .1 .1)) (l .inv .2))
 
 same-length : tie.Need-same-length Inv-loop μ-loop
 same-length c = c .before .loop .inv .1
 
 returns : tie.Need-returns Inv-loop μ-loop
 returns c = let s = c .before .before .before .before in let l = c .before .loop in
-    come-end catalogue (asFormat (s .args .f)) (now (s .args .records)) (l .at) _ (c .loop-test .left) (l .inv .2)
+    come-end catalogue (s .args .f) (now (s .args .records)) (l .at) _ (c .loop-test .left) (l .inv .2)
 
 pub note-sizes-spec : {M : Type 1} → statement M
 note-sizes-spec =

@@ -23,7 +23,9 @@ shared-slice-read-if1 : tie.Need-shared-slice-read-if1 Inv-loop μ-loop
 shared-slice-read-if1 c = search needs
 
 add-n : tie.Need-add-n Inv-loop μ-loop
-add-n c = omega (arith, c .before .before .before .loop .inv .1, c .before .before .loop-test .taken)
+add-n c =
+    let at-loop = c .before .before .before in
+    omega (arith, at-loop.loop.inv.1, c.before.before.loop-test.taken)
 
 add-i : tie.Need-add-i Inv-loop μ-loop
 add-i c = search needs
@@ -32,7 +34,30 @@ loop-less : tie.Need-loop-less Inv-loop μ-loop
 loop-less c = search needs
 
 loop-again : tie.Need-loop-again Inv-loop μ-loop
-loop-again c = ⊎-elim (λ w. (omega (arith, c .before .before .loop-test .taken), omega (arith, c .before .before .before .loop .inv .1), omega (arith, c .before .before .before .loop .inv .2, count-newline (c .before .before .before .before .args .p .now) (c .before .before .before .loop .i) (c .before .before .loop-test .taken) (getD-any (c .before .before .before .before .args .p .now) (c .before .before .before .loop .i) 256 0 (c .before .before .loop-test .taken) ∙ w .0 .taken)))) (λ w. (omega (arith, c .before .before .loop-test .taken), omega (arith, c .before .before .before .loop .inv .1), omega (arith, c .before .before .before .loop .inv .2, count-other (c .before .before .before .before .args .p .now) (c .before .before .before .loop .i) (c .before .before .loop-test .taken) (λ x. w .0 .left (getD-any (c .before .before .before .before .args .p .now) (c .before .before .before .loop .i) 0 256 (c .before .before .loop-test .taken) ∙ x))))) (c .if1 .came)
+loop-again c =
+    let at-loop = c .before .before .before in
+    let entry = at-loop.before in
+    ⊎-elim
+    (λ w. (
+      omega (arith, c.before.before.loop-test.taken),
+      omega (arith, at-loop.loop.inv.1),
+      omega (
+        arith,
+        at-loop.loop.inv.2,
+        count-newline entry.args.p.now at-loop.loop.i c.before.before.loop-test.taken
+            (getD-any entry.args.p.now at-loop.loop.i 256 0 c.before.before.loop-test.taken ∙ w.0.taken),
+      ),
+    ))
+    (λ w. (
+      omega (arith, c.before.before.loop-test.taken),
+      omega (arith, at-loop.loop.inv.1),
+      omega (
+        arith,
+        at-loop.loop.inv.2,
+        count-other entry.args.p.now at-loop.loop.i c.before.before.loop-test.taken
+            (λ x. w.0.left (getD-any entry.args.p.now at-loop.loop.i 0 256 c.before.before.loop-test.taken ∙ x)),
+      ),
+    )) c.if1.came
 
 returns : tie.Need-returns Inv-loop μ-loop
 returns c = omega (arith, c .before .loop .inv .2, count-end (c .before .before .args .p .now) (c .before .loop .i) (c .loop-test .left))

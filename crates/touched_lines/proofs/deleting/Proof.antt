@@ -31,25 +31,75 @@ enum-told : tie.Need-enum-told Inv-loop μ-loop
 enum-told c = search needs
 
 returns : tie.Need-returns Inv-loop μ-loop
-returns c = (stops-bad catalogue (c .before .before .before .before .before .before .args .x .now) (c .before .before .before .before .loop .i) (c .before .before .before .before .before .before .args .m) (c .before .before .before .before .loop .inv .1) (c .before .before .before .loop-test .taken) (sym (c .before .before .decode-at .ensures) ∙ ap asFirst (c .enum-told .given .1)), c .before .before .before .before .loop .inv .0)
+returns c =
+    let in-loop = c .before .before .before in
+    let at-loop = in-loop.before in
+    let entry = at-loop.before.before in (
+      stops-bad catalogue entry.args.x.now at-loop.loop.i entry.args.m at-loop.loop.inv.1 in-loop.loop-test.taken
+          (sym c.before.before.decode-at.ensures ∙ ap asFirst c.enum-told.given.1),
+      at-loop.loop.inv.0,
+    )
 
 is-white-requires : tie.Need-is-white-requires Inv-loop μ-loop
 is-white-requires c κs = search needs
 
 returns-2 : tie.Need-returns-2 Inv-loop μ-loop
-returns-2 c = (stops-other catalogue (c .before .before .before .before .before .before .before .before .before .args .x .now) (c .before .before .before .before .before .before .before .loop .i) (c .before .before .before .before .before .before .before .before .before .args .m) (c .before .before .before .before .before .before .before .loop .inv .1) (c .before .before .before .d .given .0 .0) (c .before .before .before .d .given .0 .1 .0) (c .before .before .before .before .before .before .loop-test .taken) (sym (c .before .before .before .before .before .decode-at .ensures) ∙ ap asFirst (c .before .before .before .d .given .1)) (sym (c .before .is-white .ensures) ∙ not-true _ (c .if1 .taken)), c .before .before .before .before .before .before .before .loop .inv .0)
+returns-2 c =
+    let after-d = c .before .before .before in
+    let after-decode-at = after-d.before.before in
+    let in-loop = after-decode-at.before in
+    let at-loop = in-loop.before in
+    let entry = at-loop.before.before in (
+      stops-other catalogue entry.args.x.now at-loop.loop.i entry.args.m at-loop.loop.inv.1 after-d.d.given.0.0 after-d.d.given.0.1.0
+          in-loop.loop-test.taken (sym after-decode-at.decode-at.ensures ∙ ap asFirst after-d.d.given.1)
+          (sym c.before.is-white.ensures ∙ not-true _ c.if1.taken),
+      at-loop.loop.inv.0,
+    )
 
 add-i : tie.Need-add-i Inv-loop μ-loop
-add-i c = omega (arith, white-on catalogue (c .before .before .before .before .before .before .before .before .before .args .x .now) (c .before .before .before .before .before .before .before .loop .i) (c .before .before .before .d .given .0 .0) (c .before .before .before .d .given .0 .1 .0) (c .before .before .before .before .before .before .before .loop .inv .0) (sym (c .before .before .before .before .before .decode-at .ensures) ∙ ap asFirst (c .before .before .before .d .given .1)) (sym (c .before .is-white .ensures) ∙ not-false _ (c .if1 .left)) .1)
+add-i c =
+    let after-d = c .before .before .before in
+    let after-decode-at = after-d.before.before in
+    let at-loop = after-decode-at.before.before in
+    let entry = at-loop.before.before in
+    omega (
+      arith,
+      (white-on catalogue entry.args.x.now at-loop.loop.i after-d.d.given.0.0 after-d.d.given.0.1.0 at-loop.loop.inv.0
+          (sym after-decode-at.decode-at.ensures ∙ ap asFirst after-d.d.given.1)
+          (sym c.before.is-white.ensures ∙ not-false _ c.if1.left)) .1,
+    )
 
 loop-less : tie.Need-loop-less Inv-loop μ-loop
-loop-less c = omega (arith, white-on catalogue (c .before .before .before .before .before .before .before .before .before .args .x .now) (c .before .before .before .before .before .before .before .loop .i) (c .before .before .before .d .given .0 .0) (c .before .before .before .d .given .0 .1 .0) (c .before .before .before .before .before .before .before .loop .inv .0) (sym (c .before .before .before .before .before .decode-at .ensures) ∙ ap asFirst (c .before .before .before .d .given .1)) (sym (c .before .is-white .ensures) ∙ not-false _ (c .if1 .left)) .0, c .before .before .before .before .before .before .loop-test .taken)
+loop-less c =
+    let after-d = c .before .before .before in
+    let after-decode-at = after-d.before.before in
+    let in-loop = after-decode-at.before in
+    let at-loop = in-loop.before in
+    let entry = at-loop.before.before in
+    omega (
+      arith,
+      (white-on catalogue entry.args.x.now at-loop.loop.i after-d.d.given.0.0 after-d.d.given.0.1.0 at-loop.loop.inv.0
+          (sym after-decode-at.decode-at.ensures ∙ ap asFirst after-d.d.given.1)
+          (sym c.before.is-white.ensures ∙ not-false _ c.if1.left)) .0,
+      in-loop.loop-test.taken,
+    )
 
 loop-again : tie.Need-loop-again Inv-loop μ-loop
-loop-again c = (white-on catalogue (c .before .before .before .before .before .before .before .before .before .args .x .now) (c .before .before .before .before .before .before .before .loop .i) (c .before .before .before .d .given .0 .0) (c .before .before .before .d .given .0 .1 .0) (c .before .before .before .before .before .before .before .loop .inv .0) (sym (c .before .before .before .before .before .decode-at .ensures) ∙ ap asFirst (c .before .before .before .d .given .1)) (sym (c .before .is-white .ensures) ∙ not-false _ (c .if1 .left)) .1, sym (white-on catalogue (c .before .before .before .before .before .before .before .before .before .args .x .now) (c .before .before .before .before .before .before .before .loop .i) (c .before .before .before .d .given .0 .0) (c .before .before .before .d .given .0 .1 .0) (c .before .before .before .before .before .before .before .loop .inv .0) (sym (c .before .before .before .before .before .decode-at .ensures) ∙ ap asFirst (c .before .before .before .d .given .1)) (sym (c .before .is-white .ensures) ∙ not-false _ (c .if1 .left)) .2) ∙ c .before .before .before .before .before .before .before .loop .inv .1)
+loop-again c =
+    let after-d = c .before .before .before in
+    let after-decode-at = after-d.before.before in
+    let at-loop = after-decode-at.before.before in
+    let entry = at-loop.before.before in
+    let white-on1 = white-on catalogue entry.args.x.now at-loop.loop.i after-d.d.given.0.0 after-d.d.given.0.1.0 at-loop.loop.inv.0
+    (sym after-decode-at.decode-at.ensures ∙ ap asFirst after-d.d.given.1) (sym c.before.is-white.ensures ∙ not-false _ c.if1.left) in
+    (white-on1.1, sym white-on1.2 ∙ at-loop.loop.inv.1)
 
 returns-3 : tie.Need-returns-3 Inv-loop μ-loop
-returns-3 c = (stops-enough catalogue (c .before .before .before .args .x .now) (c .before .loop .i) (c .before .before .before .args .m) (c .before .loop .inv .1) (c .loop-test .left), omega (arith, c .before .loop .inv .0, c .loop-test .left))
+returns-3 c =
+    let entry = c .before .before .before in (
+      stops-enough catalogue entry.args.x.now c.before.loop.i entry.args.m c.before.loop.inv.1 c.loop-test.left,
+      omega (arith, c.before.loop.inv.0, c.loop-test.left),
+    )
 
 pub deleting-spec : {M : Type 1} → statement M
 deleting-spec =

@@ -29,10 +29,31 @@ loop-less : tie.Need-loop-less Inv-loop μ-loop
 loop-less c = search needs
 
 loop-again : tie.Need-loop-again Inv-loop μ-loop
-loop-again c = let l : c .before .before .before .loop .i < length (c .before .before .before .before .args .s .now) = omega arith in ⊎-elim (λ w. (omega (arith, c .before .before .before .loop .inv .0), omega (arith, l), omega (arith, w .1, l), c .before .before .before .loop .inv .3 ∙ last-here (c .before .before .before .before .args .s .now) (c .before .before .before .loop .i) (c .before .before .before .loop .last) (c .if1 .last) l (getD-any (c .before .before .before .before .args .s .now) (c .before .before .before .loop .i) 256 0 l ∙ w .0 .taken) (omega (arith, w .1)))) (λ w. (omega (arith, c .before .before .before .loop .inv .0), omega (arith, l), omega (arith, w .1, c .before .before .before .loop .inv .2), c .before .before .before .loop .inv .3 ∙ last-on (c .before .before .before .before .args .s .now) (c .before .before .before .loop .i) (c .before .before .before .loop .last) (c .if1 .last) l (λ x. w .0 .left (getD-any (c .before .before .before .before .args .s .now) (c .before .before .before .loop .i) 0 256 l ∙ x)) (omega (arith, w .1)))) (c .if1 .came)
+loop-again c =
+    let at-loop = c .before .before .before in
+    let entry = at-loop.before in
+    let l : at-loop.loop.i < length entry.args.s.now = omega arith in
+    ⊎-elim
+    (λ w. (
+      omega (arith, at-loop.loop.inv.0),
+      omega (arith, l),
+      omega (arith, w.1, l),
+      at-loop.loop.inv.3
+          ∙ last-here entry.args.s.now at-loop.loop.i at-loop.loop.last c.if1.last l
+          (getD-any entry.args.s.now at-loop.loop.i 256 0 l ∙ w.0.taken) (omega (arith, w.1)),
+    ))
+    (λ w. (
+      omega (arith, at-loop.loop.inv.0),
+      omega (arith, l),
+      omega (arith, w.1, at-loop.loop.inv.2),
+      at-loop.loop.inv.3
+          ∙ last-on entry.args.s.now at-loop.loop.i at-loop.loop.last c.if1.last l
+          (λ x. w.0.left (getD-any entry.args.s.now at-loop.loop.i 0 256 l ∙ x)) (omega (arith, w.1)),
+    )) c.if1.came
 
 returns : tie.Need-returns Inv-loop μ-loop
-returns c = sym (c .before .loop .inv .3 ∙ last-end (c .before .before .args .s .now) (c .before .loop .i) (c .before .loop .last) (omega (arith, c .loop-test .left)))
+returns c =
+    sym (c.before.loop.inv.3 ∙ last-end c.before.before.args.s.now c.before.loop.i c.before.loop.last (omega (arith, c.loop-test.left)))
 
 pub last-newline-spec : {M : Type 1} → statement M
 last-newline-spec =

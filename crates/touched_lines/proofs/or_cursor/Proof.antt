@@ -11,7 +11,9 @@ enum-told : tie.Need-enum-told
 enum-told c = search needs
 
 returns : tie.Need-returns
-returns c = sym (ap (orCursor (c .before .before .before .args .pos)) (c .before .r .given .1))
+returns c =
+    let entry = c .before .before .before in
+    sym (ap (orCursor entry.args.pos) c.before.r.given.1)
 
 returns-2 : tie.Need-returns-2
 returns-2 c = sym (ap (orCursor (c .before .before .args .pos)) (c .enum-told .given .1))

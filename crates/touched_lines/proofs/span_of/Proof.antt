@@ -74,46 +74,84 @@ enum-told-10 : tie.Need-enum-told-10
 enum-told-10 c = search needs
 
 returns : tie.Need-returns
-returns c = sym (ap (spanOf catalogue (now (c .before .before .before .args .s)) (c .before .before .before .args .pos)) (c .enum-told .given .1))
+returns c =
+    let entry = c .before .before .before in
+    sym (ap (spanOf catalogue (now entry.args.s) entry.args.pos) c.enum-told.given.1)
 
 returns-2 : tie.Need-returns-2
-returns-2 c = sym (ap (spanOf catalogue (now (c .before .before .before .args .s)) (c .before .before .before .args .pos)) (c .enum-told2 .given .1))
+returns-2 c =
+    let entry = c .before .before .before in
+    sym (ap (spanOf catalogue (now entry.args.s) entry.args.pos) c.enum-told2.given.1)
 
 returns-3 : tie.Need-returns-3
-returns-3 c = sym (ap (spanOf catalogue (now (c .before .before .before .args .s)) (c .before .before .before .args .pos)) (c .enum-told3 .given .1))
+returns-3 c =
+    let entry = c .before .before .before in
+    sym (ap (spanOf catalogue (now entry.args.s) entry.args.pos) c.enum-told3.given.1)
 
 returns-4 : tie.Need-returns-4
-returns-4 c = word-back (c .before .before .before .before .before .before .args .pos) _ _ _ (c .or-stay .ensures) (c .before .prev-word-pos .ensures) ∙ sym (ap (spanOf catalogue (now (c .before .before .before .before .before .before .args .s)) (c .before .before .before .before .before .before .args .pos)) (c .before .before .before .m .given .1))
+returns-4 c =
+    let after-m = c .before .before .before in
+    let entry = after-m .before .before .before in
+    word-back entry.args.pos _ _ _ c.or-stay.ensures c.before.prev-word-pos.ensures
+    ∙ sym (ap (spanOf catalogue (now entry.args.s) entry.args.pos) after-m.m.given.1)
 
 returns-5 : tie.Need-returns-5
-returns-5 c = word-on (c .before .before .before .before .before .before .args .pos) _ _ _ (c .or-stay2 .ensures) (c .before .next-word-pos .ensures) ∙ sym (ap (spanOf catalogue (now (c .before .before .before .before .before .before .args .s)) (c .before .before .before .before .before .before .args .pos)) (c .before .before .before .m2 .given .1))
+returns-5 c =
+    let after-m2 = c .before .before .before in
+    let entry = after-m2 .before .before .before in
+    word-on entry.args.pos _ _ _ c.or-stay2.ensures c.before.next-word-pos.ensures
+    ∙ sym (ap (spanOf catalogue (now entry.args.s) entry.args.pos) after-m2.m2.given.1)
 
 returns-6 : tie.Need-returns-6
-returns-6 c = sym (ap (spanOf catalogue (now (c .before .before .before .args .s)) (c .before .before .before .args .pos)) (c .enum-told4 .given .1))
+returns-6 c =
+    let entry = c .before .before .before in
+    sym (ap (spanOf catalogue (now entry.args.s) entry.args.pos) c.enum-told4.given.1)
 
 returns-7 : tie.Need-returns-7
-returns-7 c = sym (ap (spanOf catalogue (now (c .before .before .before .args .s)) (c .before .before .before .args .pos)) (c .enum-told5 .given .1))
+returns-7 c =
+    let entry = c .before .before .before in
+    sym (ap (spanOf catalogue (now entry.args.s) entry.args.pos) c.enum-told5.given.1)
 
 returns-8 : tie.Need-returns-8
-returns-8 c = sym (ap (spanOf catalogue (now (c .before .before .before .args .s)) (c .before .before .before .args .pos)) (c .enum-told6 .given .1))
+returns-8 c =
+    let entry = c .before .before .before in
+    sym (ap (spanOf catalogue (now entry.args.s) entry.args.pos) c.enum-told6.given.1)
 
 returns-9 : tie.Need-returns-9
-returns-9 c = sym (ap (spanOf catalogue (now (c .before .before .before .args .s)) (c .before .before .before .args .pos)) (c .enum-told7 .given .1))
+returns-9 c =
+    let entry = c .before .before .before in
+    sym (ap (spanOf catalogue (now entry.args.s) entry.args.pos) c.enum-told7.given.1)
 
 returns-10 : tie.Need-returns-10
-returns-10 c = c .or-cursor .ensures ∙ ap (orCursor (c .before .before .before .before .before .before .args .pos)) (c .before .n-lines-up .ensures) ∙ sym (ap (spanOf catalogue (now (c .before .before .before .before .before .before .args .s)) (c .before .before .before .before .before .before .args .pos)) (c .before .before .before .m3 .given .1))
+returns-10 c =
+    let after-m3 = c .before .before .before in
+    let entry = after-m3 .before .before .before in
+    c.or-cursor.ensures
+    ∙ ap (orCursor entry.args.pos) c.before.n-lines-up.ensures
+    ∙ sym (ap (spanOf catalogue (now entry.args.s) entry.args.pos) after-m3.m3.given.1)
 
 returns-11 : tie.Need-returns-11
-returns-11 c = c .or-cursor2 .ensures ∙ ap (orCursor (c .before .before .before .before .before .before .args .pos)) (c .before .n-lines-down .ensures) ∙ sym (ap (spanOf catalogue (now (c .before .before .before .before .before .before .args .s)) (c .before .before .before .before .before .before .args .pos)) (c .before .before .before .m4 .given .1))
+returns-11 c =
+    let after-m4 = c .before .before .before in
+    let entry = after-m4 .before .before .before in
+    c.or-cursor2.ensures
+    ∙ ap (orCursor entry.args.pos) c.before.n-lines-down.ensures
+    ∙ sym (ap (spanOf catalogue (now entry.args.s) entry.args.pos) after-m4.m4.given.1)
 
 returns-12 : tie.Need-returns-12
-returns-12 c = sym (ap (spanOf catalogue (now (c .before .before .before .args .s)) (c .before .before .before .args .pos)) (c .enum-told8 .given .1))
+returns-12 c =
+    let entry = c .before .before .before in
+    sym (ap (spanOf catalogue (now entry.args.s) entry.args.pos) c.enum-told8.given.1)
 
 returns-13 : tie.Need-returns-13
-returns-13 c = sym (ap (spanOf catalogue (now (c .before .before .before .args .s)) (c .before .before .before .args .pos)) (c .enum-told9 .given .1))
+returns-13 c =
+    let entry = c .before .before .before in
+    sym (ap (spanOf catalogue (now entry.args.s) entry.args.pos) c.enum-told9.given.1)
 
 returns-14 : tie.Need-returns-14
-returns-14 c = sym (ap (spanOf catalogue (now (c .before .before .before .args .s)) (c .before .before .before .args .pos)) (c .enum-told10 .given .1))
+returns-14 c =
+    let entry = c .before .before .before in
+    sym (ap (spanOf catalogue (now entry.args.s) entry.args.pos) c.enum-told10.given.1)
 
 pub span-of-spec : {M : Type 1} → statement M
 span-of-spec =

@@ -25,7 +25,9 @@ end-of-line-requires : tie.Need-end-of-line-requires Inv-loop μ-loop
 end-of-line-requires c κs = c .loop .inv .0
 
 sub-deleting : tie.Need-sub-deleting Inv-loop μ-loop
-sub-deleting c = omega (arith, line-in (c .before .before .before .args .p .now) (c .before .loop .i) (c .end-of-line .result) (c .before .loop .inv .0) (c .end-of-line .ensures .0))
+sub-deleting c =
+    let entry = c .before .before .before in
+    omega (arith, line-in entry.args.p.now c.before.loop.i c.end-of-line.result c.before.loop.inv.0 c.end-of-line.ensures.0)
 
 part-deleting-start : tie.Need-part-deleting-start Inv-loop μ-loop
 part-deleting-start c = search needs
@@ -49,19 +51,78 @@ is-boundary-requires : tie.Need-is-boundary-requires Inv-loop μ-loop
 is-boundary-requires c κs = search needs
 
 returns : tie.Need-returns Inv-loop μ-loop
-returns c = sym (c .before .before .before .before .before .before .loop .inv .2 ∙ splits-here (c .before .before .before .before .before .before .before .before .args .p .now) (c .before .before .before .before .before .before .loop .i) (c .before .before .before .before .before .end-of-line .result) (c .before .before .before .before .before .before .loop .inv .0) (c .before .before .before .before .before .end-of-line .ensures .0) catalogue (c .before .before .before .before .before .before .before .before .args .m) (c .before .before .before .deleting .result) (c .before .before .before .deleting .ensures .0) (c .before .is-boundary .result) (c .before .is-boundary .ensures .1 (line-valid (c .before .before .before .before .before .before .before .before .args .p .now) (c .before .before .before .before .before .before .loop .i) (c .before .before .before .before .before .end-of-line .result) (c .before .before .before .before .before .before .loop .inv .0) (c .before .before .before .before .before .end-of-line .ensures .0) (c .before .before .before .before .before .before .loop .inv .1))) (not-true _ (c .if1 .taken)))
+returns c =
+    let after-deleting = c .before .before .before in
+    let after-end-of-line = after-deleting.before.before in
+    let at-loop = after-end-of-line.before in
+    let entry = at-loop.before.before in
+    sym
+    (at-loop.loop.inv.2
+    ∙ splits-here entry.args.p.now at-loop.loop.i after-end-of-line.end-of-line.result at-loop.loop.inv.0
+    after-end-of-line.end-of-line.ensures.0 catalogue entry.args.m after-deleting.deleting.result after-deleting.deleting.ensures.0
+    c.before.is-boundary.result
+    (c.before.is-boundary.ensures.1
+    (line-valid entry.args.p.now at-loop.loop.i after-end-of-line.end-of-line.result at-loop.loop.inv.0
+    after-end-of-line.end-of-line.ensures.0 at-loop.loop.inv.1)) (not-true _ c.if1.taken))
 
 returns-2 : tie.Need-returns-2 Inv-loop μ-loop
-returns-2 c = sym (c .before .before .before .before .before .before .before .loop .inv .2 ∙ splits-last (c .before .before .before .before .before .before .before .before .before .args .p .now) (c .before .before .before .before .before .before .before .loop .i) (c .before .before .before .before .before .before .end-of-line .result) (c .before .before .before .before .before .before .before .loop .inv .0) (c .before .before .before .before .before .before .end-of-line .ensures .0) catalogue (c .before .before .before .before .before .before .before .before .before .args .m) (c .before .before .before .before .deleting .result) (c .before .before .before .before .deleting .ensures .0) (c .before .before .is-boundary .result) (c .before .before .is-boundary .ensures .1 (line-valid (c .before .before .before .before .before .before .before .before .before .args .p .now) (c .before .before .before .before .before .before .before .loop .i) (c .before .before .before .before .before .before .end-of-line .result) (c .before .before .before .before .before .before .before .loop .inv .0) (c .before .before .before .before .before .before .end-of-line .ensures .0) (c .before .before .before .before .before .before .before .loop .inv .1))) (not-false _ (c .before .if1 .left)) (c .if2 .taken))
+returns-2 c =
+    let after-deleting = c .before .before .before .before in
+    let after-end-of-line = after-deleting.before.before in
+    let at-loop = after-end-of-line.before in
+    let entry = at-loop.before.before in
+    sym
+    (at-loop.loop.inv.2
+    ∙ splits-last entry.args.p.now at-loop.loop.i after-end-of-line.end-of-line.result at-loop.loop.inv.0
+    after-end-of-line.end-of-line.ensures.0 catalogue entry.args.m after-deleting.deleting.result after-deleting.deleting.ensures.0
+    c.before.before.is-boundary.result
+    (c.before.before.is-boundary.ensures.1
+    (line-valid entry.args.p.now at-loop.loop.i after-end-of-line.end-of-line.result at-loop.loop.inv.0
+    after-end-of-line.end-of-line.ensures.0 at-loop.loop.inv.1)) (not-false _ c.before.if1.left) c.if2.taken)
 
 add-i : tie.Need-add-i Inv-loop μ-loop
-add-i c = omega (arith, line-in (c .before .before .before .before .before .before .before .before .before .args .p .now) (c .before .before .before .before .before .before .before .loop .i) (c .before .before .before .before .before .before .end-of-line .result) (c .before .before .before .before .before .before .before .loop .inv .0) (c .before .before .before .before .before .before .end-of-line .ensures .0))
+add-i c =
+    let after-end-of-line = c .before .before .before .before .before .before in
+    let at-loop = after-end-of-line.before in
+    let entry = at-loop.before.before in
+    omega (
+      arith,
+      line-in entry.args.p.now at-loop.loop.i after-end-of-line.end-of-line.result at-loop.loop.inv.0
+          after-end-of-line.end-of-line.ensures.0,
+    )
 
 loop-less : tie.Need-loop-less Inv-loop μ-loop
-loop-less c = omega (arith, line-in (c .before .before .before .before .before .before .before .before .before .args .p .now) (c .before .before .before .before .before .before .before .loop .i) (c .before .before .before .before .before .before .end-of-line .result) (c .before .before .before .before .before .before .before .loop .inv .0) (c .before .before .before .before .before .before .end-of-line .ensures .0), c .if2 .left)
+loop-less c =
+    let after-end-of-line = c .before .before .before .before .before .before in
+    let at-loop = after-end-of-line.before in
+    let entry = at-loop.before.before in
+    omega (
+      arith,
+      line-in entry.args.p.now at-loop.loop.i after-end-of-line.end-of-line.result at-loop.loop.inv.0
+          after-end-of-line.end-of-line.ensures.0,
+      c.if2.left,
+    )
 
 loop-again : tie.Need-loop-again Inv-loop μ-loop
-loop-again c = (omega (arith, line-in (c .before .before .before .before .before .before .before .before .before .args .p .now) (c .before .before .before .before .before .before .before .loop .i) (c .before .before .before .before .before .before .end-of-line .result) (c .before .before .before .before .before .before .before .loop .inv .0) (c .before .before .before .before .before .before .end-of-line .ensures .0), c .if2 .left), rest-valid (c .before .before .before .before .before .before .before .before .before .args .p .now) (c .before .before .before .before .before .before .before .loop .i) (c .before .before .before .before .before .before .end-of-line .result) (c .before .before .before .before .before .before .before .loop .inv .0) (c .before .before .before .before .before .before .end-of-line .ensures .0) (c .before .before .before .before .before .before .before .loop .inv .1) (omega (arith, line-in (c .before .before .before .before .before .before .before .before .before .args .p .now) (c .before .before .before .before .before .before .before .loop .i) (c .before .before .before .before .before .before .end-of-line .result) (c .before .before .before .before .before .before .before .loop .inv .0) (c .before .before .before .before .before .before .end-of-line .ensures .0), c .if2 .left)), c .before .before .before .before .before .before .before .loop .inv .2 ∙ splits-more (c .before .before .before .before .before .before .before .before .before .args .p .now) (c .before .before .before .before .before .before .before .loop .i) (c .before .before .before .before .before .before .end-of-line .result) (c .before .before .before .before .before .before .before .loop .inv .0) (c .before .before .before .before .before .before .end-of-line .ensures .0) catalogue (c .before .before .before .before .before .before .before .before .before .args .m) (c .before .before .before .before .deleting .result) (c .before .before .before .before .deleting .ensures .0) (c .before .before .is-boundary .result) (c .before .before .is-boundary .ensures .1 (line-valid (c .before .before .before .before .before .before .before .before .before .args .p .now) (c .before .before .before .before .before .before .before .loop .i) (c .before .before .before .before .before .before .end-of-line .result) (c .before .before .before .before .before .before .before .loop .inv .0) (c .before .before .before .before .before .before .end-of-line .ensures .0) (c .before .before .before .before .before .before .before .loop .inv .1))) (not-false _ (c .before .if1 .left)) (omega (arith, line-in (c .before .before .before .before .before .before .before .before .before .args .p .now) (c .before .before .before .before .before .before .before .loop .i) (c .before .before .before .before .before .before .end-of-line .result) (c .before .before .before .before .before .before .before .loop .inv .0) (c .before .before .before .before .before .before .end-of-line .ensures .0), c .if2 .left)))
+loop-again c =
+    let after-deleting = c .before .before .before .before in
+    let after-end-of-line = after-deleting.before.before in
+    let at-loop = after-end-of-line.before in
+    let entry = at-loop.before.before in
+    let line-in1 = line-in entry.args.p.now at-loop.loop.i after-end-of-line.end-of-line.result at-loop.loop.inv.0
+    after-end-of-line.end-of-line.ensures.0 in (
+      omega (arith, line-in1, c.if2.left),
+      rest-valid entry.args.p.now at-loop.loop.i after-end-of-line.end-of-line.result at-loop.loop.inv.0
+          after-end-of-line.end-of-line.ensures.0 at-loop.loop.inv.1 (omega (arith, line-in1, c.if2.left)),
+      at-loop.loop.inv.2
+          ∙ splits-more entry.args.p.now at-loop.loop.i after-end-of-line.end-of-line.result at-loop.loop.inv.0
+          after-end-of-line.end-of-line.ensures.0 catalogue entry.args.m after-deleting.deleting.result after-deleting.deleting.ensures.0
+          c.before.before.is-boundary.result
+          (c.before.before.is-boundary.ensures.1
+          (line-valid entry.args.p.now at-loop.loop.i after-end-of-line.end-of-line.result at-loop.loop.inv.0
+          after-end-of-line.end-of-line.ensures.0 at-loop.loop.inv.1)) (not-false _ c.before.if1.left)
+          (omega (arith, line-in1, c.if2.left)),
+    )
 
 pub splits-spec : {M : Type 1} → statement M
 splits-spec =

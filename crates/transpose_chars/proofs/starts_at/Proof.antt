@@ -10,16 +10,25 @@ under-two-requires : tie.Need-under-two-requires
 under-two-requires c κs = search needs
 
 returns : tie.Need-returns
-returns c = starts-nowhere catalogue (now (c .before .before .before .args .s)) (c .before .before .before .args .pos) _ (c .before .under-two .ensures (c .before .before .before .pre .0)) (c .if1 .taken)
+returns c =
+    let entry = c .before .before .before in
+    starts-nowhere catalogue (now entry.args.s) entry.args.pos _ (c.before.under-two.ensures entry.pre.0) c.if1.taken
 
 back-from-requires : tie.Need-back-from-requires
 back-from-requires c κs = search needs
 
 returns-2 : tie.Need-returns-2
-returns-2 c = starts-back catalogue (now (c .before .before .before .before .before .args .s)) (c .before .before .before .before .before .args .pos) _ (c .before .before .before .under-two .ensures (c .before .before .before .before .before .pre .0)) (c .before .before .if1 .left) (eq-eqb _ _ (c .before .if2 .taken)) _ (c .back-from .ensures)
+returns-2 c =
+    let after-under-two = c .before .before .before in
+    let entry = after-under-two.before.before in
+    starts-back catalogue (now entry.args.s) entry.args.pos _ (after-under-two.under-two.ensures entry.pre.0) c.before.before.if1.left
+    (eq-eqb _ _ c.before.if2.taken) _ c.back-from.ensures
 
 returns-3 : tie.Need-returns-3
-returns-3 c = starts-here catalogue (now (c .before .before .before .before .args .s)) (c .before .before .before .before .args .pos) _ (c .before .before .under-two .ensures (c .before .before .before .before .pre .0)) (c .before .if1 .left) (ne-eqb _ _ (c .if2 .left))
+returns-3 c =
+    let entry = c .before .before .before .before in
+    starts-here catalogue (now entry.args.s) entry.args.pos _ (c.before.before.under-two.ensures entry.pre.0) c.before.if1.left
+    (ne-eqb _ _ c.if2.left)
 
 pub starts-at-spec : {M : Type 1} → statement M
 starts-at-spec =

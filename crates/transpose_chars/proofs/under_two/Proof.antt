@@ -9,7 +9,9 @@ next-cluster-requires : tie.Need-next-cluster-requires
 next-cluster-requires c κs = search needs
 
 returns : tie.Need-returns
-returns c = λ v. under-two catalogue (now (c .before .before .before .args .s)) v _ (c .before .next-cluster .ensures .0)
+returns c =
+    let entry = c .before .before .before in
+    λ v. under-two catalogue (now entry.args.s) v _ c.before.next-cluster.ensures.0
 
 pub under-two-spec : {M : Type 1} → statement M
 under-two-spec = tie.close (tie.spec next-cluster-requires returns)

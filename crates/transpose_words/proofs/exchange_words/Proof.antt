@@ -6,7 +6,6 @@ use lib.Seq.{length-take-le}
 use denote.Ref.{now}
 use borrow.Author.Tests.{not-true, not-false}
 use Rattle.unicode.specs.Repertoire.{catalogue}
-use Rattle.journal.specs.Layout.{narrow}
 use Rattle.buffer.proofs.Inserted.{copied}
 use Rattle.edit.specs.Calls.{lent}
 use Rattle.edit.proofs.Answers.{length-kept, nine, ten}
@@ -25,7 +24,18 @@ sub-n2 : tie.Need-sub-n2
 sub-n2 c = search needs
 
 sub-left : tie.Need-sub-left
-sub-left c = omega (arith, ((let z : ((c .before .before .before .before .args .w)) .end2 ≤ ((c .before .before .before .before .args .line .len)) = omega (arith, ((c .before .before .before .before .pre .1)) .second .1, ((length-kept narrow (lent (now (c .before .before .before .before .args .text)) (now (c .before .before .before .before .args .records)) (now (c .before .before .before .before .args .texts)) (c .before .before .before .before .args .line) (c .before .before .before .before .args .log)) ((c .before .before .before .before .pre .0))))) in z)))
+sub-left c =
+    let entry = c .before .before .before .before in
+    omega (
+      arith,
+      (let z : entry.args.w.end2 ≤ entry.args.line.len = omega (
+        arith,
+        entry.pre.1.second.1,
+        (length-kept entry.args.f
+            (lent (now entry.args.text) (now entry.args.records) (now entry.args.texts) entry.args.line entry.args.log) entry.pre.0),
+      ) in
+          z),
+    )
 
 sub-if1 : tie.Need-sub-if1
 sub-if1 c = search needs
@@ -34,10 +44,27 @@ says-requires : tie.Need-says-requires
 says-requires c κs = search needs
 
 returns : tie.Need-returns
-returns c = nine narrow (lent (now (c .before .before .before .before .before .before .args .text)) (now (c .before .before .before .before .before .before .args .records)) (now (c .before .before .before .before .before .before .args .texts)) (c .before .before .before .before .before .before .args .line) (c .before .before .before .before .before .before .args .log)) ((wordsPlan ((take ((c .before .before .before .before .before .before .args .line .len)) (now (c .before .before .before .before .before .before .args .text)))) ((c .before .before .before .before .before .before .args .w)))) _ ((words-long catalogue ((take ((c .before .before .before .before .before .before .args .line .len)) (now (c .before .before .before .before .before .before .args .text)))) (((c .before .before .before .before .before .before .pre .0)) .text) ((c .before .before .before .before .before .before .args .w)) ((c .before .before .before .before .before .before .pre .1)) (length (now (c .before .before .before .before .before .before .args .text))) ((text-within (lent (now (c .before .before .before .before .before .before .args .text)) (now (c .before .before .before .before .before .before .args .records)) (now (c .before .before .before .before .before .before .args .texts)) (c .before .before .before .before .before .before .args .line) (c .before .before .before .before .before .before .args .log)) ((c .before .before .before .before .before .before .pre .0)) ((c .before .before .before .before .before .before .args .w)) ((c .before .before .before .before .before .before .pre .1)))) (omega (arith, c .before .if1 .taken, ((length-kept narrow (lent (now (c .before .before .before .before .before .before .args .text)) (now (c .before .before .before .before .before .before .args .records)) (now (c .before .before .before .before .before .before .args .texts)) (c .before .before .before .before .before .before .args .line) (c .before .before .before .before .before .before .args .log)) ((c .before .before .before .before .before .before .pre .0)))), ((c .before .before .before .before .before .before .pre .0)) .used)))) (c .says .ensures)
+returns c =
+    let entry = c .before .before .before .before .before .before in
+    let l = lent (now entry.args.text) (now entry.args.records) (now entry.args.texts) entry.args.line entry.args.log in
+    nine entry.args.f l (wordsPlan (take entry.args.line.len (now entry.args.text)) entry.args.w) _
+    (words-long catalogue (take entry.args.line.len (now entry.args.text)) entry.pre.0.text entry.args.w entry.pre.1
+    (length (now entry.args.text)) (text-within entry.args.f l entry.pre.0 entry.args.w entry.pre.1)
+    (omega (arith, c.before.if1.taken, (length-kept entry.args.f l entry.pre.0), entry.pre.0.used))) c.says.ensures
 
 words-fit-requires : tie.Need-words-fit-requires
-words-fit-requires c κs = (((c .before .before .before .before .before .before .before .before .pre .0)), (((c .before .before .before .before .before .before .before .before .pre .1)), ((words-short catalogue ((take ((c .before .before .before .before .before .before .before .before .args .line .len)) (now (c .before .before .before .before .before .before .before .before .args .text)))) (((c .before .before .before .before .before .before .before .before .pre .0)) .text) ((c .before .before .before .before .before .before .before .before .args .w)) ((c .before .before .before .before .before .before .before .before .pre .1)) (length (now (c .before .before .before .before .before .before .before .before .args .text))) ((text-within (lent (now (c .before .before .before .before .before .before .before .before .args .text)) (now (c .before .before .before .before .before .before .before .before .args .records)) (now (c .before .before .before .before .before .before .before .before .args .texts)) (c .before .before .before .before .before .before .before .before .args .line) (c .before .before .before .before .before .before .before .before .args .log)) ((c .before .before .before .before .before .before .before .before .pre .0)) ((c .before .before .before .before .before .before .before .before .args .w)) ((c .before .before .before .before .before .before .before .before .pre .1)))) (omega (arith, c .before .before .before .if1 .left, ((length-kept narrow (lent (now (c .before .before .before .before .before .before .before .before .args .text)) (now (c .before .before .before .before .before .before .before .before .args .records)) (now (c .before .before .before .before .before .before .before .before .args .texts)) (c .before .before .before .before .before .before .before .before .args .line) (c .before .before .before .before .before .before .before .before .args .log)) ((c .before .before .before .before .before .before .before .before .pre .0)))), ((c .before .before .before .before .before .before .before .before .pre .0)) .used))))))
+words-fit-requires c κs =
+    let else1 = c .before .before .before in
+    let entry = else1 .before .before .before .before .before in
+    let l = lent (now entry.args.text) (now entry.args.records) (now entry.args.texts) entry.args.line entry.args.log in (
+      entry.pre.0,
+      (
+        entry.pre.1,
+        (words-short catalogue (take entry.args.line.len (now entry.args.text)) entry.pre.0.text entry.args.w entry.pre.1
+            (length (now entry.args.text)) (text-within entry.args.f l entry.pre.0 entry.args.w entry.pre.1)
+            (omega (arith, else1.if1.left, (length-kept entry.args.f l entry.pre.0), entry.pre.0.used))),
+      ),
+    )
 
 says-requires-2 : tie.Need-says-requires-2
 says-requires-2 c κs = search needs
@@ -52,7 +79,15 @@ same-length-3 : tie.Need-same-length-3
 same-length-3 c = search needs
 
 returns-2 : tie.Need-returns-2
-returns-2 c = ten narrow (lent (now (c .before .before .before .before .before .before .before .before .before .before .before .args .text)) (now (c .before .before .before .before .before .before .before .before .before .before .before .args .records)) (now (c .before .before .before .before .before .before .before .before .before .before .before .args .texts)) (c .before .before .before .before .before .before .before .before .before .before .before .args .line) (c .before .before .before .before .before .before .before .before .before .before .before .args .log)) ((wordsPlan ((take ((c .before .before .before .before .before .before .before .before .before .before .before .args .line .len)) (now (c .before .before .before .before .before .before .before .before .before .before .before .args .text)))) ((c .before .before .before .before .before .before .before .before .before .before .before .args .w)))) _ ((words-short catalogue ((take ((c .before .before .before .before .before .before .before .before .before .before .before .args .line .len)) (now (c .before .before .before .before .before .before .before .before .before .before .before .args .text)))) (((c .before .before .before .before .before .before .before .before .before .before .before .pre .0)) .text) ((c .before .before .before .before .before .before .before .before .before .before .before .args .w)) ((c .before .before .before .before .before .before .before .before .before .before .before .pre .1)) (length (now (c .before .before .before .before .before .before .before .before .before .before .before .args .text))) ((text-within (lent (now (c .before .before .before .before .before .before .before .before .before .before .before .args .text)) (now (c .before .before .before .before .before .before .before .before .before .before .before .args .records)) (now (c .before .before .before .before .before .before .before .before .before .before .before .args .texts)) (c .before .before .before .before .before .before .before .before .before .before .before .args .line) (c .before .before .before .before .before .before .before .before .before .before .before .args .log)) ((c .before .before .before .before .before .before .before .before .before .before .before .pre .0)) ((c .before .before .before .before .before .before .before .before .before .before .before .args .w)) ((c .before .before .before .before .before .before .before .before .before .before .before .pre .1)))) (omega (arith, c .before .before .before .before .before .before .if1 .left, ((length-kept narrow (lent (now (c .before .before .before .before .before .before .before .before .before .before .before .args .text)) (now (c .before .before .before .before .before .before .before .before .before .before .before .args .records)) (now (c .before .before .before .before .before .before .before .before .before .before .before .args .texts)) (c .before .before .before .before .before .before .before .before .before .before .before .args .line) (c .before .before .before .before .before .before .before .before .before .before .before .args .log)) ((c .before .before .before .before .before .before .before .before .before .before .before .pre .0)))), ((c .before .before .before .before .before .before .before .before .before .before .before .pre .0)) .used)))) (sym (c .before .before .words-fit .ensures) ∙ not-true _ (c .before .if2 .taken)) (c .says2 .ensures)
+returns-2 c =
+    let else1 = c .before .before .before .before .before .before in
+    let entry = else1 .before .before .before .before .before in
+    let l = lent (now entry.args.text) (now entry.args.records) (now entry.args.texts) entry.args.line entry.args.log in
+    ten entry.args.f l (wordsPlan (take entry.args.line.len (now entry.args.text)) entry.args.w) _
+    (words-short catalogue (take entry.args.line.len (now entry.args.text)) entry.pre.0.text entry.args.w entry.pre.1
+    (length (now entry.args.text)) (text-within entry.args.f l entry.pre.0 entry.args.w entry.pre.1)
+    (omega (arith, else1.if1.left, (length-kept entry.args.f l entry.pre.0), entry.pre.0.used)))
+    (sym c.before.before.words-fit.ensures ∙ not-true _ c.before.if2.taken) c.says2.ensures
 
 slice-aggregate-insert-bytes : tie.Need-slice-aggregate-insert-bytes
 slice-aggregate-insert-bytes c = search needs
@@ -64,7 +99,19 @@ part-insert-bytes-start : tie.Need-part-insert-bytes-start
 part-insert-bytes-start c = search needs
 
 part-insert-bytes-end : tie.Need-part-insert-bytes-end
-part-insert-bytes-end c = omega (arith, ((let z : ((c .before .before .before .before .before .before .before .before .before .before .before .before .args .w)) .end1 ≤ ((c .before .before .before .before .before .before .before .before .before .before .before .before .args .line .len)) = omega (arith, ((c .before .before .before .before .before .before .before .before .before .before .before .before .pre .1)) .first .1, ((length-kept narrow (lent (now (c .before .before .before .before .before .before .before .before .before .before .before .before .args .text)) (now (c .before .before .before .before .before .before .before .before .before .before .before .before .args .records)) (now (c .before .before .before .before .before .before .before .before .before .before .before .before .args .texts)) (c .before .before .before .before .before .before .before .before .before .before .before .before .args .line) (c .before .before .before .before .before .before .before .before .before .before .before .before .args .log)) ((c .before .before .before .before .before .before .before .before .before .before .before .before .pre .0))))) in z)), ((c .before .before .before .before .before .before .before .before .before .before .before .before .pre .0)) .used)
+part-insert-bytes-end c =
+    let entry = c .before .before .before .before .before .before .before .before .before .before .before .before in
+    omega (
+      arith,
+      (let z : entry.args.w.end1 ≤ entry.args.line.len = omega (
+        arith,
+        entry.pre.1.first.1,
+        (length-kept entry.args.f
+            (lent (now entry.args.text) (now entry.args.records) (now entry.args.texts) entry.args.line entry.args.log) entry.pre.0),
+      ) in
+          z),
+      entry.pre.0.used,
+    )
 
 insert-bytes-requires : tie.Need-insert-bytes-requires
 insert-bytes-requires c κs = search needs
@@ -79,25 +126,126 @@ part-insert-bytes-start-2 : tie.Need-part-insert-bytes-start-2
 part-insert-bytes-start-2 c = search needs
 
 part-insert-bytes-end-2 : tie.Need-part-insert-bytes-end-2
-part-insert-bytes-end-2 c = omega (arith, ((let z : ((c .before .before .before .before .before .before .before .before .before .before .before .before .before .before .before .before .before .args .w)) .end2 ≤ ((c .before .before .before .before .before .before .before .before .before .before .before .before .before .before .before .before .before .args .line .len)) = omega (arith, ((c .before .before .before .before .before .before .before .before .before .before .before .before .before .before .before .before .before .pre .1)) .second .1, ((length-kept narrow (lent (now (c .before .before .before .before .before .before .before .before .before .before .before .before .before .before .before .before .before .args .text)) (now (c .before .before .before .before .before .before .before .before .before .before .before .before .before .before .before .before .before .args .records)) (now (c .before .before .before .before .before .before .before .before .before .before .before .before .before .before .before .before .before .args .texts)) (c .before .before .before .before .before .before .before .before .before .before .before .before .before .before .before .before .before .args .line) (c .before .before .before .before .before .before .before .before .before .before .before .before .before .before .before .before .before .args .log)) ((c .before .before .before .before .before .before .before .before .before .before .before .before .before .before .before .before .before .pre .0))))) in z)), ((c .before .before .before .before .before .before .before .before .before .before .before .before .before .before .before .before .before .pre .0)) .used)
+part-insert-bytes-end-2 c =
+    let entry = c .before .before .before .before .before .before .before .before .before .before .before .before .before .before
+    .before .before .before in
+    omega (
+      arith,
+      (let z : entry.args.w.end2 ≤ entry.args.line.len = omega (
+        arith,
+        entry.pre.1.second.1,
+        (length-kept entry.args.f
+            (lent (now entry.args.text) (now entry.args.records) (now entry.args.texts) entry.args.line entry.args.log) entry.pre.0),
+      ) in
+          z),
+      entry.pre.0.used,
+    )
 
 insert-bytes-requires-2 : tie.Need-insert-bytes-requires-2
-insert-bytes-requires-2 c κs = (omega arith, omega (arith, ((ap length (sym ((raw-part (now (c .before .before .before .before .before .before .before .before .before .before .before .before .before .before .before .before .before .before .args .text)) ((c .before .before .before .before .before .before .before .before .before .before .before .before .before .before .before .before .before .before .args .line .len)) (((c .before .before .before .before .before .before .before .before .before .before .before .before .before .before .before .before .before .before .args .w)) .beg2) (((c .before .before .before .before .before .before .before .before .before .before .before .before .before .before .before .before .before .before .args .w)) .end2) ((let z : ((c .before .before .before .before .before .before .before .before .before .before .before .before .before .before .before .before .before .before .args .w)) .end2 ≤ ((c .before .before .before .before .before .before .before .before .before .before .before .before .before .before .before .before .before .before .args .line .len)) = omega (arith, ((c .before .before .before .before .before .before .before .before .before .before .before .before .before .before .before .before .before .before .pre .1)) .second .1, ((length-kept narrow (lent (now (c .before .before .before .before .before .before .before .before .before .before .before .before .before .before .before .before .before .before .args .text)) (now (c .before .before .before .before .before .before .before .before .before .before .before .before .before .before .before .before .before .before .args .records)) (now (c .before .before .before .before .before .before .before .before .before .before .before .before .before .before .before .before .before .before .args .texts)) (c .before .before .before .before .before .before .before .before .before .before .before .before .before .before .before .before .before .before .args .line) (c .before .before .before .before .before .before .before .before .before .before .before .before .before .before .before .before .before .before .args .log)) ((c .before .before .before .before .before .before .before .before .before .before .before .before .before .before .before .before .before .before .pre .0))))) in z))))) ∙ part-length catalogue ((take ((c .before .before .before .before .before .before .before .before .before .before .before .before .before .before .before .before .before .before .args .line .len)) (now (c .before .before .before .before .before .before .before .before .before .before .before .before .before .before .before .before .before .before .args .text)))) (((c .before .before .before .before .before .before .before .before .before .before .before .before .before .before .before .before .before .before .args .w)) .beg2) (((c .before .before .before .before .before .before .before .before .before .before .before .before .before .before .before .before .before .before .args .w)) .end2) (((c .before .before .before .before .before .before .before .before .before .before .before .before .before .before .before .before .before .before .pre .1)) .second))), small2 (lent (now (c .before .before .before .before .before .before .before .before .before .before .before .before .before .before .before .before .before .before .args .text)) (now (c .before .before .before .before .before .before .before .before .before .before .before .before .before .before .before .before .before .before .args .records)) (now (c .before .before .before .before .before .before .before .before .before .before .before .before .before .before .before .before .before .before .args .texts)) (c .before .before .before .before .before .before .before .before .before .before .before .before .before .before .before .before .before .before .args .line) (c .before .before .before .before .before .before .before .before .before .before .before .before .before .before .before .before .before .before .args .log)) ((c .before .before .before .before .before .before .before .before .before .before .before .before .before .before .before .before .before .before .pre .0)) ((c .before .before .before .before .before .before .before .before .before .before .before .before .before .before .before .before .before .before .args .w)) ((c .before .before .before .before .before .before .before .before .before .before .before .before .before .before .before .before .before .before .pre .1))))
+insert-bytes-requires-2 c κs =
+    let entry = c .before .before .before .before .before .before .before .before .before .before .before .before .before .before
+    .before .before .before .before in
+    let l = lent (now entry.args.text) (now entry.args.records) (now entry.args.texts) entry.args.line entry.args.log in (
+      omega arith,
+      omega (
+        arith,
+        (ap length
+            (sym
+            (raw-part (now entry.args.text) entry.args.line.len entry.args.w.beg2 entry.args.w.end2
+            (let z : entry.args.w.end2 ≤ entry.args.line.len = omega
+            (arith, entry.pre.1.second.1, (length-kept entry.args.f l entry.pre.0)) in
+            z)))
+            ∙ part-length catalogue (take entry.args.line.len (now entry.args.text)) entry.args.w.beg2 entry.args.w.end2
+            entry.pre.1.second),
+        small2 entry.args.f l entry.pre.0 entry.args.w entry.pre.1,
+      ),
+    )
 
 array-share-prefix-first : tie.Need-array-share-prefix-first
 array-share-prefix-first c = search needs
 
 slice-aggregate-put-words : tie.Need-slice-aggregate-put-words
-slice-aggregate-put-words c = sym (length-take-le _ _ (omega (arith, ((c .before .before .before .before .before .before .before .before .before .before .insert-bytes .kept .0)), small1 (lent (now (c .before .before .before .before .before .before .before .before .before .before .before .before .before .before .before .before .before .before .before .before .before .before .before .before .args .text)) (now (c .before .before .before .before .before .before .before .before .before .before .before .before .before .before .before .before .before .before .before .before .before .before .before .before .args .records)) (now (c .before .before .before .before .before .before .before .before .before .before .before .before .before .before .before .before .before .before .before .before .before .before .before .before .args .texts)) (c .before .before .before .before .before .before .before .before .before .before .before .before .before .before .before .before .before .before .before .before .before .before .before .before .args .line) (c .before .before .before .before .before .before .before .before .before .before .before .before .before .before .before .before .before .before .before .before .before .before .before .before .args .log)) ((c .before .before .before .before .before .before .before .before .before .before .before .before .before .before .before .before .before .before .before .before .before .before .before .before .pre .0)) ((c .before .before .before .before .before .before .before .before .before .before .before .before .before .before .before .before .before .before .before .before .before .before .before .before .args .w)) ((c .before .before .before .before .before .before .before .before .before .before .before .before .before .before .before .before .before .before .before .before .before .before .before .before .pre .1)))))
+slice-aggregate-put-words c =
+    let after-insert-bytes = c .before .before .before .before .before .before .before .before .before .before in
+    let entry = after-insert-bytes .before .before .before .before .before .before .before .before .before .before .before .before
+    .before .before in
+    sym
+    (length-take-le _ _
+    (omega (
+      arith,
+      after-insert-bytes.insert-bytes.kept.0,
+      small1 entry.args.f (lent (now entry.args.text) (now entry.args.records) (now entry.args.texts) entry.args.line entry.args.log)
+          entry.pre.0 entry.args.w entry.pre.1,
+    )))
 
 array-share-prefix-second : tie.Need-array-share-prefix-second
-array-share-prefix-second c = omega (arith, ((c .before .before .before .before .before .insert-bytes2 .kept .0)), small2 (lent (now (c .before .before .before .before .before .before .before .before .before .before .before .before .before .before .before .before .before .before .before .before .before .before .before .before .args .text)) (now (c .before .before .before .before .before .before .before .before .before .before .before .before .before .before .before .before .before .before .before .before .before .before .before .before .args .records)) (now (c .before .before .before .before .before .before .before .before .before .before .before .before .before .before .before .before .before .before .before .before .before .before .before .before .args .texts)) (c .before .before .before .before .before .before .before .before .before .before .before .before .before .before .before .before .before .before .before .before .before .before .before .before .args .line) (c .before .before .before .before .before .before .before .before .before .before .before .before .before .before .before .before .before .before .before .before .before .before .before .before .args .log)) ((c .before .before .before .before .before .before .before .before .before .before .before .before .before .before .before .before .before .before .before .before .before .before .before .before .pre .0)) ((c .before .before .before .before .before .before .before .before .before .before .before .before .before .before .before .before .before .before .before .before .before .before .before .before .args .w)) ((c .before .before .before .before .before .before .before .before .before .before .before .before .before .before .before .before .before .before .before .before .before .before .before .before .pre .1)))
+array-share-prefix-second c =
+    let after-insert-bytes2 = c .before .before .before .before .before in
+    let entry = after-insert-bytes2 .before .before .before .before .before .before .before .before .before .before .before .before
+    .before .before .before .before .before .before .before in
+    omega (
+      arith,
+      after-insert-bytes2.insert-bytes2.kept.0,
+      small2 entry.args.f (lent (now entry.args.text) (now entry.args.records) (now entry.args.texts) entry.args.line entry.args.log)
+          entry.pre.0 entry.args.w entry.pre.1,
+    )
 
 slice-aggregate-put-words-2 : tie.Need-slice-aggregate-put-words-2
-slice-aggregate-put-words-2 c = sym (length-take-le _ _ (omega (arith, ((c .before .before .before .before .before .before .insert-bytes2 .kept .0)), small2 (lent (now (c .before .before .before .before .before .before .before .before .before .before .before .before .before .before .before .before .before .before .before .before .before .before .before .before .before .args .text)) (now (c .before .before .before .before .before .before .before .before .before .before .before .before .before .before .before .before .before .before .before .before .before .before .before .before .before .args .records)) (now (c .before .before .before .before .before .before .before .before .before .before .before .before .before .before .before .before .before .before .before .before .before .before .before .before .before .args .texts)) (c .before .before .before .before .before .before .before .before .before .before .before .before .before .before .before .before .before .before .before .before .before .before .before .before .before .args .line) (c .before .before .before .before .before .before .before .before .before .before .before .before .before .before .before .before .before .before .before .before .before .before .before .before .before .args .log)) ((c .before .before .before .before .before .before .before .before .before .before .before .before .before .before .before .before .before .before .before .before .before .before .before .before .before .pre .0)) ((c .before .before .before .before .before .before .before .before .before .before .before .before .before .before .before .before .before .before .before .before .before .before .before .before .before .args .w)) ((c .before .before .before .before .before .before .before .before .before .before .before .before .before .before .before .before .before .before .before .before .before .before .before .before .before .pre .1)))))
+slice-aggregate-put-words-2 c =
+    let after-insert-bytes2 = c .before .before .before .before .before .before in
+    let entry = after-insert-bytes2 .before .before .before .before .before .before .before .before .before .before .before .before
+    .before .before .before .before .before .before .before in
+    sym
+    (length-take-le _ _
+    (omega (
+      arith,
+      after-insert-bytes2.insert-bytes2.kept.0,
+      small2 entry.args.f (lent (now entry.args.text) (now entry.args.records) (now entry.args.texts) entry.args.line entry.args.log)
+          entry.pre.0 entry.args.w entry.pre.1,
+    )))
 
 put-words-requires : tie.Need-put-words-requires
-put-words-requires c κs = (((c .before .before .before .before .before .before .before .before .before .before .before .before .before .before .before .before .before .before .before .before .before .before .before .before .before .pre .0)), (((c .before .before .before .before .before .before .before .before .before .before .before .before .before .before .before .before .before .before .before .before .before .before .before .before .before .pre .1)), (((copied _ _ _ (sym ((ap length (sym ((raw-part (now (c .before .before .before .before .before .before .before .before .before .before .before .before .before .before .before .before .before .before .before .before .before .before .before .before .before .args .text)) ((c .before .before .before .before .before .before .before .before .before .before .before .before .before .before .before .before .before .before .before .before .before .before .before .before .before .args .line .len)) (((c .before .before .before .before .before .before .before .before .before .before .before .before .before .before .before .before .before .before .before .before .before .before .before .before .before .args .w)) .beg1) (((c .before .before .before .before .before .before .before .before .before .before .before .before .before .before .before .before .before .before .before .before .before .before .before .before .before .args .w)) .end1) ((let z : ((c .before .before .before .before .before .before .before .before .before .before .before .before .before .before .before .before .before .before .before .before .before .before .before .before .before .args .w)) .end1 ≤ ((c .before .before .before .before .before .before .before .before .before .before .before .before .before .before .before .before .before .before .before .before .before .before .before .before .before .args .line .len)) = omega (arith, ((c .before .before .before .before .before .before .before .before .before .before .before .before .before .before .before .before .before .before .before .before .before .before .before .before .before .pre .1)) .first .1, ((length-kept narrow (lent (now (c .before .before .before .before .before .before .before .before .before .before .before .before .before .before .before .before .before .before .before .before .before .before .before .before .before .args .text)) (now (c .before .before .before .before .before .before .before .before .before .before .before .before .before .before .before .before .before .before .before .before .before .before .before .before .before .args .records)) (now (c .before .before .before .before .before .before .before .before .before .before .before .before .before .before .before .before .before .before .before .before .before .before .before .before .before .args .texts)) (c .before .before .before .before .before .before .before .before .before .before .before .before .before .before .before .before .before .before .before .before .before .before .before .before .before .args .line) (c .before .before .before .before .before .before .before .before .before .before .before .before .before .before .before .before .before .before .before .before .before .before .before .before .before .args .log)) ((c .before .before .before .before .before .before .before .before .before .before .before .before .before .before .before .before .before .before .before .before .before .before .before .before .before .pre .0))))) in z))))) ∙ part-length catalogue ((take ((c .before .before .before .before .before .before .before .before .before .before .before .before .before .before .before .before .before .before .before .before .before .before .before .before .before .args .line .len)) (now (c .before .before .before .before .before .before .before .before .before .before .before .before .before .before .before .before .before .before .before .before .before .before .before .before .before .args .text)))) (((c .before .before .before .before .before .before .before .before .before .before .before .before .before .before .before .before .before .before .before .before .before .before .before .before .before .args .w)) .beg1) (((c .before .before .before .before .before .before .before .before .before .before .before .before .before .before .before .before .before .before .before .before .before .before .before .before .before .args .w)) .end1) (((c .before .before .before .before .before .before .before .before .before .before .before .before .before .before .before .before .before .before .before .before .before .before .before .before .before .pre .1)) .first)))) (c .before .before .before .before .before .before .before .before .before .before .before .insert-bytes .ensures) ∙ sym ((raw-part (now (c .before .before .before .before .before .before .before .before .before .before .before .before .before .before .before .before .before .before .before .before .before .before .before .before .before .args .text)) ((c .before .before .before .before .before .before .before .before .before .before .before .before .before .before .before .before .before .before .before .before .before .before .before .before .before .args .line .len)) (((c .before .before .before .before .before .before .before .before .before .before .before .before .before .before .before .before .before .before .before .before .before .before .before .before .before .args .w)) .beg1) (((c .before .before .before .before .before .before .before .before .before .before .before .before .before .before .before .before .before .before .before .before .before .before .before .before .before .args .w)) .end1) ((let z : ((c .before .before .before .before .before .before .before .before .before .before .before .before .before .before .before .before .before .before .before .before .before .before .before .before .before .args .w)) .end1 ≤ ((c .before .before .before .before .before .before .before .before .before .before .before .before .before .before .before .before .before .before .before .before .before .before .before .before .before .args .line .len)) = omega (arith, ((c .before .before .before .before .before .before .before .before .before .before .before .before .before .before .before .before .before .before .before .before .before .before .before .before .before .pre .1)) .first .1, ((length-kept narrow (lent (now (c .before .before .before .before .before .before .before .before .before .before .before .before .before .before .before .before .before .before .before .before .before .before .before .before .before .args .text)) (now (c .before .before .before .before .before .before .before .before .before .before .before .before .before .before .before .before .before .before .before .before .before .before .before .before .before .args .records)) (now (c .before .before .before .before .before .before .before .before .before .before .before .before .before .before .before .before .before .before .before .before .before .before .before .before .before .args .texts)) (c .before .before .before .before .before .before .before .before .before .before .before .before .before .before .before .before .before .before .before .before .before .before .before .before .before .args .line) (c .before .before .before .before .before .before .before .before .before .before .before .before .before .before .before .before .before .before .before .before .before .before .before .before .before .args .log)) ((c .before .before .before .before .before .before .before .before .before .before .before .before .before .before .before .before .before .before .before .before .before .before .before .before .before .pre .0))))) in z)))))), (((copied _ _ _ (sym ((ap length (sym ((raw-part (now (c .before .before .before .before .before .before .before .before .before .before .before .before .before .before .before .before .before .before .before .before .before .before .before .before .before .args .text)) ((c .before .before .before .before .before .before .before .before .before .before .before .before .before .before .before .before .before .before .before .before .before .before .before .before .before .args .line .len)) (((c .before .before .before .before .before .before .before .before .before .before .before .before .before .before .before .before .before .before .before .before .before .before .before .before .before .args .w)) .beg2) (((c .before .before .before .before .before .before .before .before .before .before .before .before .before .before .before .before .before .before .before .before .before .before .before .before .before .args .w)) .end2) ((let z : ((c .before .before .before .before .before .before .before .before .before .before .before .before .before .before .before .before .before .before .before .before .before .before .before .before .before .args .w)) .end2 ≤ ((c .before .before .before .before .before .before .before .before .before .before .before .before .before .before .before .before .before .before .before .before .before .before .before .before .before .args .line .len)) = omega (arith, ((c .before .before .before .before .before .before .before .before .before .before .before .before .before .before .before .before .before .before .before .before .before .before .before .before .before .pre .1)) .second .1, ((length-kept narrow (lent (now (c .before .before .before .before .before .before .before .before .before .before .before .before .before .before .before .before .before .before .before .before .before .before .before .before .before .args .text)) (now (c .before .before .before .before .before .before .before .before .before .before .before .before .before .before .before .before .before .before .before .before .before .before .before .before .before .args .records)) (now (c .before .before .before .before .before .before .before .before .before .before .before .before .before .before .before .before .before .before .before .before .before .before .before .before .before .args .texts)) (c .before .before .before .before .before .before .before .before .before .before .before .before .before .before .before .before .before .before .before .before .before .before .before .before .before .args .line) (c .before .before .before .before .before .before .before .before .before .before .before .before .before .before .before .before .before .before .before .before .before .before .before .before .before .args .log)) ((c .before .before .before .before .before .before .before .before .before .before .before .before .before .before .before .before .before .before .before .before .before .before .before .before .before .pre .0))))) in z))))) ∙ part-length catalogue ((take ((c .before .before .before .before .before .before .before .before .before .before .before .before .before .before .before .before .before .before .before .before .before .before .before .before .before .args .line .len)) (now (c .before .before .before .before .before .before .before .before .before .before .before .before .before .before .before .before .before .before .before .before .before .before .before .before .before .args .text)))) (((c .before .before .before .before .before .before .before .before .before .before .before .before .before .before .before .before .before .before .before .before .before .before .before .before .before .args .w)) .beg2) (((c .before .before .before .before .before .before .before .before .before .before .before .before .before .before .before .before .before .before .before .before .before .before .before .before .before .args .w)) .end2) (((c .before .before .before .before .before .before .before .before .before .before .before .before .before .before .before .before .before .before .before .before .before .before .before .before .before .pre .1)) .second)))) (c .before .before .before .before .before .before .insert-bytes2 .ensures) ∙ sym ((raw-part (now (c .before .before .before .before .before .before .before .before .before .before .before .before .before .before .before .before .before .before .before .before .before .before .before .before .before .args .text)) ((c .before .before .before .before .before .before .before .before .before .before .before .before .before .before .before .before .before .before .before .before .before .before .before .before .before .args .line .len)) (((c .before .before .before .before .before .before .before .before .before .before .before .before .before .before .before .before .before .before .before .before .before .before .before .before .before .args .w)) .beg2) (((c .before .before .before .before .before .before .before .before .before .before .before .before .before .before .before .before .before .before .before .before .before .before .before .before .before .args .w)) .end2) ((let z : ((c .before .before .before .before .before .before .before .before .before .before .before .before .before .before .before .before .before .before .before .before .before .before .before .before .before .args .w)) .end2 ≤ ((c .before .before .before .before .before .before .before .before .before .before .before .before .before .before .before .before .before .before .before .before .before .before .before .before .before .args .line .len)) = omega (arith, ((c .before .before .before .before .before .before .before .before .before .before .before .before .before .before .before .before .before .before .before .before .before .before .before .before .before .pre .1)) .second .1, ((length-kept narrow (lent (now (c .before .before .before .before .before .before .before .before .before .before .before .before .before .before .before .before .before .before .before .before .before .before .before .before .before .args .text)) (now (c .before .before .before .before .before .before .before .before .before .before .before .before .before .before .before .before .before .before .before .before .before .before .before .before .before .args .records)) (now (c .before .before .before .before .before .before .before .before .before .before .before .before .before .before .before .before .before .before .before .before .before .before .before .before .before .args .texts)) (c .before .before .before .before .before .before .before .before .before .before .before .before .before .before .before .before .before .before .before .before .before .before .before .before .before .args .line) (c .before .before .before .before .before .before .before .before .before .before .before .before .before .before .before .before .before .before .before .before .before .before .before .before .before .args .log)) ((c .before .before .before .before .before .before .before .before .before .before .before .before .before .before .before .before .before .before .before .before .before .before .before .before .before .pre .0))))) in z)))))), (((words-short catalogue ((take ((c .before .before .before .before .before .before .before .before .before .before .before .before .before .before .before .before .before .before .before .before .before .before .before .before .before .args .line .len)) (now (c .before .before .before .before .before .before .before .before .before .before .before .before .before .before .before .before .before .before .before .before .before .before .before .before .before .args .text)))) (((c .before .before .before .before .before .before .before .before .before .before .before .before .before .before .before .before .before .before .before .before .before .before .before .before .before .pre .0)) .text) ((c .before .before .before .before .before .before .before .before .before .before .before .before .before .before .before .before .before .before .before .before .before .before .before .before .before .args .w)) ((c .before .before .before .before .before .before .before .before .before .before .before .before .before .before .before .before .before .before .before .before .before .before .before .before .before .pre .1)) (length (now (c .before .before .before .before .before .before .before .before .before .before .before .before .before .before .before .before .before .before .before .before .before .before .before .before .before .args .text))) ((text-within (lent (now (c .before .before .before .before .before .before .before .before .before .before .before .before .before .before .before .before .before .before .before .before .before .before .before .before .before .args .text)) (now (c .before .before .before .before .before .before .before .before .before .before .before .before .before .before .before .before .before .before .before .before .before .before .before .before .before .args .records)) (now (c .before .before .before .before .before .before .before .before .before .before .before .before .before .before .before .before .before .before .before .before .before .before .before .before .before .args .texts)) (c .before .before .before .before .before .before .before .before .before .before .before .before .before .before .before .before .before .before .before .before .before .before .before .before .before .args .line) (c .before .before .before .before .before .before .before .before .before .before .before .before .before .before .before .before .before .before .before .before .before .before .before .before .before .args .log)) ((c .before .before .before .before .before .before .before .before .before .before .before .before .before .before .before .before .before .before .before .before .before .before .before .before .before .pre .0)) ((c .before .before .before .before .before .before .before .before .before .before .before .before .before .before .before .before .before .before .before .before .before .before .before .before .before .args .w)) ((c .before .before .before .before .before .before .before .before .before .before .before .before .before .before .before .before .before .before .before .before .before .before .before .before .before .pre .1)))) (omega (arith, c .before .before .before .before .before .before .before .before .before .before .before .before .before .before .before .before .before .before .before .before .if1 .left, ((length-kept narrow (lent (now (c .before .before .before .before .before .before .before .before .before .before .before .before .before .before .before .before .before .before .before .before .before .before .before .before .before .args .text)) (now (c .before .before .before .before .before .before .before .before .before .before .before .before .before .before .before .before .before .before .before .before .before .before .before .before .before .args .records)) (now (c .before .before .before .before .before .before .before .before .before .before .before .before .before .before .before .before .before .before .before .before .before .before .before .before .before .args .texts)) (c .before .before .before .before .before .before .before .before .before .before .before .before .before .before .before .before .before .before .before .before .before .before .before .before .before .args .line) (c .before .before .before .before .before .before .before .before .before .before .before .before .before .before .before .before .before .before .before .before .before .before .before .before .before .args .log)) ((c .before .before .before .before .before .before .before .before .before .before .before .before .before .before .before .before .before .before .before .before .before .before .before .before .before .pre .0)))), ((c .before .before .before .before .before .before .before .before .before .before .before .before .before .before .before .before .before .before .before .before .before .before .before .before .before .pre .0)) .used)))), ((sym (c .before .before .before .before .before .before .before .before .before .before .before .before .before .before .before .before .words-fit .ensures) ∙ not-false _ (c .before .before .before .before .before .before .before .before .before .before .before .before .before .before .before .if2 .left))))))))
+put-words-requires c κs =
+    let after-insert-bytes2 = c .before .before .before .before .before .before in
+    let after-insert-bytes = after-insert-bytes2 .before .before .before .before .before in
+    let else2 = after-insert-bytes .before .before .before .before in
+    let after-words-fit = else2.before in
+    let else1 = after-words-fit .before .before .before .before in
+    let entry = else1 .before .before .before .before .before in
+    let l = lent (now entry.args.text) (now entry.args.records) (now entry.args.texts) entry.args.line entry.args.log in
+    let length-kept1 = length-kept entry.args.f l entry.pre.0 in
+    let raw-part1 = raw-part (now entry.args.text) entry.args.line.len entry.args.w.beg2 entry.args.w.end2
+    (let z : entry.args.w.end2 ≤ entry.args.line.len = omega (arith, entry.pre.1.second.1, length-kept1) in z) in
+    let raw-part2 = raw-part (now entry.args.text) entry.args.line.len entry.args.w.beg1 entry.args.w.end1
+    (let z : entry.args.w.end1 ≤ entry.args.line.len = omega (arith, entry.pre.1.first.1, length-kept1) in z) in (
+      entry.pre.0,
+      (
+        entry.pre.1,
+        (
+          (copied _ _ _
+              (sym
+              (ap length (sym raw-part2)
+              ∙ part-length catalogue (take entry.args.line.len (now entry.args.text)) entry.args.w.beg1 entry.args.w.end1
+              entry.pre.1.first)) after-insert-bytes.insert-bytes.ensures
+              ∙ sym raw-part2),
+          (
+            (copied _ _ _
+                (sym
+                (ap length (sym raw-part1)
+                ∙ part-length catalogue (take entry.args.line.len (now entry.args.text)) entry.args.w.beg2 entry.args.w.end2
+                entry.pre.1.second)) after-insert-bytes2.insert-bytes2.ensures
+                ∙ sym raw-part1),
+            (
+              (words-short catalogue (take entry.args.line.len (now entry.args.text)) entry.pre.0.text entry.args.w
+                  entry.pre.1 (length (now entry.args.text))
+                  (text-within entry.args.f l entry.pre.0 entry.args.w entry.pre.1)
+                  (omega (arith, else1.if1.left, length-kept1, entry.pre.0.used))),
+              (sym after-words-fit.words-fit.ensures ∙ not-false _ else2.if2.left),
+            ),
+          ),
+        ),
+      ),
+    )
 
 same-length-4 : tie.Need-same-length-4
 same-length-4 c = search needs

@@ -1,3 +1,6 @@
+use Rattle.formats.specs.declared.Format.{Format}
+use Rattle.formats.proofs.Formats.{fit-for}
+use Rattle.edit.proofs.Formats.{in-format}
 use mathlib.Core.Path.{sym, ap, _∙_}
 use mathlib.Core.Bool.{false}
 use lib.ListN.{length, take}
@@ -6,23 +9,27 @@ use denote.Ref.{now}
 use Rattle.unicode.specs.Repertoire.{catalogue}
 use Rattle.unicode.proofs.Text.{text-valid}
 use Rattle.checks.specs.Checks.{ownTests}
-use Rattle.journal.specs.Layout.{narrow}
 use Rattle.edit.specs.declared.Own.{Own}
 use Rattle.edit.specs.Plan.{Plan, edited}
 use Rattle.edit.specs.Calls.{lent, sizesOf, stateOf, own, checked}
 use Rattle.edit.proofs.Answers.{cursor-in, refused-by, passed-by, stays-at}
 use Rattle.edit.proofs.Made.{outcome-as}
-use Rattle.transpose_words.specs.TransposeWords.{transposeWordsPlan}
+use Rattle.transpose_words.specs.TransposeWords.{transposeWordsPlan, transposeWordsCall}
 use Rattle.transpose_words.proofs.Around.{words-one, words-two, words-apart}
 use borrow.Author.Needs.{needs}
 use Rattle.transpose_words.proofs.transpose_words.Statement.{statement}
 use Rattle.transpose_words.proofs.transpose_words.Tie as tie
 
+format-for-requires : tie.Need-format-for-requires
+format-for-requires c κs = search needs
+
 none-requires : tie.Need-none-requires
 none-requires c κs = search needs
 
 refusal-requires : tie.Need-refusal-requires
-refusal-requires c κs = search needs
+refusal-requires c κs =
+    let after-format-for = c .before .before .before .before in
+    fit-for _ after-format-for.format-for.ensures
 
 says-requires : tie.Need-says-requires
 says-requires c κs = search needs
@@ -37,7 +44,21 @@ same-length-3 : tie.Need-same-length-3
 same-length-3 c = search needs
 
 returns : tie.Need-returns
-returns c = refused-by narrow (lent (now (c .before .before .before .before .before .before .before .before .before .before .args .text)) (now (c .before .before .before .before .before .before .before .before .before .before .args .records)) (now (c .before .before .before .before .before .before .before .before .before .before .args .texts)) (c .before .before .before .before .before .before .before .before .before .before .args .line) (c .before .before .before .before .before .before .before .before .before .before .args .log)) (c .before .before .refusal .result) ((checked catalogue narrow (lent (now (c .before .before .before .before .before .before .before .before .before .before .args .text)) (now (c .before .before .before .before .before .before .before .before .before .before .args .records)) (now (c .before .before .before .before .before .before .before .before .before .before .args .texts)) (c .before .before .before .before .before .before .before .before .before .before .args .line) (c .before .before .before .before .before .before .before .before .before .before .args .log)) (ownTests false false false))) ((edited catalogue narrow (sizesOf (lent (now (c .before .before .before .before .before .before .before .before .before .before .args .text)) (now (c .before .before .before .before .before .before .before .before .before .before .args .records)) (now (c .before .before .before .before .before .before .before .before .before .before .args .texts)) (c .before .before .before .before .before .before .before .before .before .before .args .line) (c .before .before .before .before .before .before .before .before .before .before .args .log))) (length (now (c .before .before .before .before .before .before .before .before .before .before .args .text))) ((transposeWordsPlan catalogue ((take (c .before .before .before .before .before .before .before .before .before .before .args .line .len) (now (c .before .before .before .before .before .before .before .before .before .before .args .text)))) (c .before .before .before .before .before .before .before .before .before .before .args .n) ((c .before .before .before .before .before .before .before .before .before .before .args .line .cursor)))) (stateOf catalogue narrow (lent (now (c .before .before .before .before .before .before .before .before .before .before .args .text)) (now (c .before .before .before .before .before .before .before .before .before .before .args .records)) (now (c .before .before .before .before .before .before .before .before .before .before .args .texts)) (c .before .before .before .before .before .before .before .before .before .before .args .line) (c .before .before .before .before .before .before .before .before .before .before .args .log))))) _ ((sym (c .before .before .refusal .ensures .0 ∙ ap (λ (o : Own). checked catalogue narrow (lent (now (c .before .before .before .before .before .before .before .before .before .before .args .text)) (now (c .before .before .before .before .before .before .before .before .before .before .args .records)) (now (c .before .before .before .before .before .before .before .before .before .before .args .texts)) (c .before .before .before .before .before .before .before .before .before .before .args .line) (c .before .before .before .before .before .before .before .before .before .before .args .log)) (own o)) (c .before .before .before .none .ensures)))) (c .before .if1 .taken) (c .says .ensures)
+returns c =
+    let after-none = c .before .before .before in
+    let after-format-for = after-none .before .before .before .before in
+    let entry = after-format-for .before .before .before .before in
+    let l = lent (now entry.args.text) (now entry.args.records) (now entry.args.texts) entry.args.line entry.args.log in
+    in-format l (λ (F : Format). transposeWordsCall catalogue F l entry.args.n) after-format-for.format-for.ensures
+    (refused-by after-format-for.format-for.result l c.before.before.refusal.result
+    (checked catalogue after-format-for.format-for.result l (ownTests false false false))
+    (edited catalogue after-format-for.format-for.result (sizesOf l) (length (now entry.args.text))
+    (transposeWordsPlan catalogue (take entry.args.line.len (now entry.args.text)) entry.args.n entry.args.line.cursor)
+    (stateOf catalogue after-format-for.format-for.result l)) _
+    (sym
+    (c.before.before.refusal.ensures.0
+    ∙ ap (λ (o : Own). checked catalogue after-format-for.format-for.result l (own o)) after-none.none.ensures)) c.before.if1.taken
+    c.says.ensures)
 
 slice-reshare-prefix-words-around : tie.Need-slice-reshare-prefix-words-around
 slice-reshare-prefix-words-around c = ((c .before .refusal .ensures .1 (c .if1 .left))) .used
@@ -46,7 +67,13 @@ slice-aggregate-words-around : tie.Need-slice-aggregate-words-around
 slice-aggregate-words-around c = sym (length-take-le _ _ (((c .before .before .refusal .ensures .1 (c .before .if1 .left))) .used))
 
 words-around-requires : tie.Need-words-around-requires
-words-around-requires c κs = (((text-valid catalogue ((take (c .before .before .before .before .before .before .before .before .before .before .args .line .len) (now (c .before .before .before .before .before .before .before .before .before .before .args .text)))) (((c .before .before .refusal .ensures .1 (c .before .if1 .left))) .text))), ((cursor-in narrow (lent (now (c .before .before .before .before .before .before .before .before .before .before .args .text)) (now (c .before .before .before .before .before .before .before .before .before .before .args .records)) (now (c .before .before .before .before .before .before .before .before .before .before .args .texts)) (c .before .before .before .before .before .before .before .before .before .before .args .line) (c .before .before .before .before .before .before .before .before .before .before .args .log)) ((c .before .before .refusal .ensures .1 (c .before .if1 .left))))) .2, ((cursor-in narrow (lent (now (c .before .before .before .before .before .before .before .before .before .before .args .text)) (now (c .before .before .before .before .before .before .before .before .before .before .args .records)) (now (c .before .before .before .before .before .before .before .before .before .before .args .texts)) (c .before .before .before .before .before .before .before .before .before .before .args .line) (c .before .before .before .before .before .before .before .before .before .before .args .log)) ((c .before .before .refusal .ensures .1 (c .before .if1 .left))))) .1)
+words-around-requires c κs =
+    let after-format-for = c .before .before .before .before .before .before .before in
+    let entry = after-format-for .before .before .before .before in
+    let refusal1 = c.before.before.refusal.ensures.1 c.before.if1.left in
+    let cursor-in1 = cursor-in after-format-for.format-for.result
+    (lent (now entry.args.text) (now entry.args.records) (now entry.args.texts) entry.args.line entry.args.log) refusal1 in
+    ((text-valid catalogue (take entry.args.line.len (now entry.args.text)) refusal1.text), cursor-in1.2, cursor-in1.1)
 
 says-requires-2 : tie.Need-says-requires-2
 says-requires-2 c κs = search needs
@@ -61,10 +88,46 @@ same-length-6 : tie.Need-same-length-6
 same-length-6 c = search needs
 
 returns-2 : tie.Need-returns-2
-returns-2 c = passed-by narrow (lent (now (c .before .before .before .before .before .before .before .before .before .before .before .before .before .before .before .args .text)) (now (c .before .before .before .before .before .before .before .before .before .before .before .before .before .before .before .args .records)) (now (c .before .before .before .before .before .before .before .before .before .before .before .before .before .before .before .args .texts)) (c .before .before .before .before .before .before .before .before .before .before .before .before .before .before .before .args .line) (c .before .before .before .before .before .before .before .before .before .before .before .before .before .before .before .args .log)) (c .before .before .before .before .before .before .before .refusal .result) ((checked catalogue narrow (lent (now (c .before .before .before .before .before .before .before .before .before .before .before .before .before .before .before .args .text)) (now (c .before .before .before .before .before .before .before .before .before .before .before .before .before .before .before .args .records)) (now (c .before .before .before .before .before .before .before .before .before .before .before .before .before .before .before .args .texts)) (c .before .before .before .before .before .before .before .before .before .before .before .before .before .before .before .args .line) (c .before .before .before .before .before .before .before .before .before .before .before .before .before .before .before .args .log)) (ownTests false false false))) ((edited catalogue narrow (sizesOf (lent (now (c .before .before .before .before .before .before .before .before .before .before .before .before .before .before .before .args .text)) (now (c .before .before .before .before .before .before .before .before .before .before .before .before .before .before .before .args .records)) (now (c .before .before .before .before .before .before .before .before .before .before .before .before .before .before .before .args .texts)) (c .before .before .before .before .before .before .before .before .before .before .before .before .before .before .before .args .line) (c .before .before .before .before .before .before .before .before .before .before .before .before .before .before .before .args .log))) (length (now (c .before .before .before .before .before .before .before .before .before .before .before .before .before .before .before .args .text))) ((transposeWordsPlan catalogue ((take (c .before .before .before .before .before .before .before .before .before .before .before .before .before .before .before .args .line .len) (now (c .before .before .before .before .before .before .before .before .before .before .before .before .before .before .before .args .text)))) (c .before .before .before .before .before .before .before .before .before .before .before .before .before .before .before .args .n) ((c .before .before .before .before .before .before .before .before .before .before .before .before .before .before .before .args .line .cursor)))) (stateOf catalogue narrow (lent (now (c .before .before .before .before .before .before .before .before .before .before .before .before .before .before .before .args .text)) (now (c .before .before .before .before .before .before .before .before .before .before .before .before .before .before .before .args .records)) (now (c .before .before .before .before .before .before .before .before .before .before .before .before .before .before .before .args .texts)) (c .before .before .before .before .before .before .before .before .before .before .before .before .before .before .before .args .line) (c .before .before .before .before .before .before .before .before .before .before .before .before .before .before .before .args .log))))) _ _ _ _ ((sym (c .before .before .before .before .before .before .before .refusal .ensures .0 ∙ ap (λ (o : Own). checked catalogue narrow (lent (now (c .before .before .before .before .before .before .before .before .before .before .before .before .before .before .before .args .text)) (now (c .before .before .before .before .before .before .before .before .before .before .before .before .before .before .before .args .records)) (now (c .before .before .before .before .before .before .before .before .before .before .before .before .before .before .before .args .texts)) (c .before .before .before .before .before .before .before .before .before .before .before .before .before .before .before .args .line) (c .before .before .before .before .before .before .before .before .before .before .before .before .before .before .before .args .log)) (own o)) (c .before .before .before .before .before .before .before .before .none .ensures)))) (c .before .before .before .before .before .before .if1 .left) (outcome-as narrow (lent (now (c .before .before .before .before .before .before .before .before .before .before .before .before .before .before .before .args .text)) (now (c .before .before .before .before .before .before .before .before .before .before .before .before .before .before .before .args .records)) (now (c .before .before .before .before .before .before .before .before .before .before .before .before .before .before .before .args .texts)) (c .before .before .before .before .before .before .before .before .before .before .before .before .before .before .before .args .line) (c .before .before .before .before .before .before .before .before .before .before .before .before .before .before .before .args .log)) _ _ _ _ _ _ (ap ((λ (p : Plan). edited catalogue narrow (sizesOf (lent (now (c .before .before .before .before .before .before .before .before .before .before .before .before .before .before .before .args .text)) (now (c .before .before .before .before .before .before .before .before .before .before .before .before .before .before .before .args .records)) (now (c .before .before .before .before .before .before .before .before .before .before .before .before .before .before .before .args .texts)) (c .before .before .before .before .before .before .before .before .before .before .before .before .before .before .before .args .line) (c .before .before .before .before .before .before .before .before .before .before .before .before .before .before .before .args .log))) (length (now (c .before .before .before .before .before .before .before .before .before .before .before .before .before .before .before .args .text))) p (stateOf catalogue narrow (lent (now (c .before .before .before .before .before .before .before .before .before .before .before .before .before .before .before .args .text)) (now (c .before .before .before .before .before .before .before .before .before .before .before .before .before .before .before .args .records)) (now (c .before .before .before .before .before .before .before .before .before .before .before .before .before .before .before .args .texts)) (c .before .before .before .before .before .before .before .before .before .before .before .before .before .before .before .args .line) (c .before .before .before .before .before .before .before .before .before .before .before .before .before .before .before .args .log))))) (words-one catalogue ((take (c .before .before .before .before .before .before .before .before .before .before .before .before .before .before .before .args .line .len) (now (c .before .before .before .before .before .before .before .before .before .before .before .before .before .before .before .args .text)))) (c .before .before .before .before .before .before .before .before .before .before .before .before .before .before .before .args .n) ((c .before .before .before .before .before .before .before .before .before .before .before .before .before .before .before .args .line .cursor)) _ (c .before .before .before .before .words-around .ensures) (c .before .if2 .taken))) (stays-at narrow (lent (now (c .before .before .before .before .before .before .before .before .before .before .before .before .before .before .before .args .text)) (now (c .before .before .before .before .before .before .before .before .before .before .before .before .before .before .before .args .records)) (now (c .before .before .before .before .before .before .before .before .before .before .before .before .before .before .before .args .texts)) (c .before .before .before .before .before .before .before .before .before .before .before .before .before .before .before .args .line) (c .before .before .before .before .before .before .before .before .before .before .before .before .before .before .before .args .log)) ((c .before .before .before .before .before .before .before .refusal .ensures .1 (c .before .before .before .before .before .before .if1 .left))) _ _ (c .says2 .ensures)))
+returns-2 c =
+    let after-words-around = c .before .before .before .before in
+    let else1 = after-words-around.before.before in
+    let after-refusal = else1.before in
+    let after-none = after-refusal.before in
+    let after-format-for = after-none .before .before .before .before in
+    let entry = after-format-for .before .before .before .before in
+    let l = lent (now entry.args.text) (now entry.args.records) (now entry.args.texts) entry.args.line entry.args.log in
+    let stateOf1 = stateOf catalogue after-format-for.format-for.result l in
+    let sizesOf1 = sizesOf l in
+    in-format l (λ (F : Format). transposeWordsCall catalogue F l entry.args.n) after-format-for.format-for.ensures
+    (passed-by after-format-for.format-for.result l after-refusal.refusal.result
+    (checked catalogue after-format-for.format-for.result l (ownTests false false false))
+    (edited catalogue after-format-for.format-for.result sizesOf1 (length (now entry.args.text))
+    (transposeWordsPlan catalogue (take entry.args.line.len (now entry.args.text)) entry.args.n entry.args.line.cursor) stateOf1) _ _ _ _
+    (sym
+    (after-refusal.refusal.ensures.0
+    ∙ ap (λ (o : Own). checked catalogue after-format-for.format-for.result l (own o)) after-none.none.ensures)) else1.if1.left
+    (outcome-as after-format-for.format-for.result l _ _ _ _ _ _
+    (ap (λ (p : Plan). edited catalogue after-format-for.format-for.result sizesOf1 (length (now entry.args.text)) p stateOf1)
+    (words-one catalogue (take entry.args.line.len (now entry.args.text)) entry.args.n entry.args.line.cursor _
+    after-words-around.words-around.ensures c.before.if2.taken))
+    (stays-at after-format-for.format-for.result l (after-refusal.refusal.ensures.1 else1.if1.left) _ _ c.says2.ensures)))
 
 exchange-words-requires : tie.Need-exchange-words-requires
-exchange-words-requires c κs = (((c .before .before .before .before .before .before .before .before .before .refusal .ensures .1 (c .before .before .before .before .before .before .before .before .if1 .left))), words-apart catalogue ((take (c .before .before .before .before .before .before .before .before .before .before .before .before .before .before .before .before .before .args .line .len) (now (c .before .before .before .before .before .before .before .before .before .before .before .before .before .before .before .before .before .args .text)))) (c .before .before .before .before .before .before .before .before .before .before .before .before .before .before .before .before .before .args .n) ((c .before .before .before .before .before .before .before .before .before .before .before .before .before .before .before .before .before .args .line .cursor)) _ (c .before .before .before .before .before .before .words-around .ensures) ((text-valid catalogue ((take (c .before .before .before .before .before .before .before .before .before .before .before .before .before .before .before .before .before .args .line .len) (now (c .before .before .before .before .before .before .before .before .before .before .before .before .before .before .before .before .before .args .text)))) (((c .before .before .before .before .before .before .before .before .before .refusal .ensures .1 (c .before .before .before .before .before .before .before .before .if1 .left))) .text))) ((cursor-in narrow (lent (now (c .before .before .before .before .before .before .before .before .before .before .before .before .before .before .before .before .before .args .text)) (now (c .before .before .before .before .before .before .before .before .before .before .before .before .before .before .before .before .before .args .records)) (now (c .before .before .before .before .before .before .before .before .before .before .before .before .before .before .before .before .before .args .texts)) (c .before .before .before .before .before .before .before .before .before .before .before .before .before .before .before .before .before .args .line) (c .before .before .before .before .before .before .before .before .before .before .before .before .before .before .before .before .before .args .log)) ((c .before .before .before .before .before .before .before .before .before .refusal .ensures .1 (c .before .before .before .before .before .before .before .before .if1 .left))))) (c .before .before .before .if2 .left))
+exchange-words-requires c κs =
+    let else2 = c .before .before .before in
+    let after-words-around = else2 .before .before .before in
+    let else1 = after-words-around.before.before in
+    let after-refusal = else1.before in
+    let after-format-for = after-refusal .before .before .before .before .before in
+    let entry = after-format-for .before .before .before .before in (
+      (after-refusal.refusal.ensures.1 else1.if1.left),
+      words-apart catalogue (take entry.args.line.len (now entry.args.text)) entry.args.n entry.args.line.cursor _
+          after-words-around.words-around.ensures
+          (text-valid catalogue (take entry.args.line.len (now entry.args.text)) ((after-refusal.refusal.ensures.1 else1.if1.left) .text))
+          (cursor-in after-format-for.format-for.result
+          (lent (now entry.args.text) (now entry.args.records) (now entry.args.texts) entry.args.line entry.args.log)
+          (after-refusal.refusal.ensures.1 else1.if1.left)) else2.if2.left,
+    )
 
 same-length-7 : tie.Need-same-length-7
 same-length-7 c = search needs
@@ -76,12 +139,36 @@ same-length-9 : tie.Need-same-length-9
 same-length-9 c = search needs
 
 returns-3 : tie.Need-returns-3
-returns-3 c = passed-by narrow (lent (now (c .before .before .before .before .before .before .before .before .before .before .before .before .before .before .before .before .before .before .before .before .before .before .before .before .args .text)) (now (c .before .before .before .before .before .before .before .before .before .before .before .before .before .before .before .before .before .before .before .before .before .before .before .before .args .records)) (now (c .before .before .before .before .before .before .before .before .before .before .before .before .before .before .before .before .before .before .before .before .before .before .before .before .args .texts)) (c .before .before .before .before .before .before .before .before .before .before .before .before .before .before .before .before .before .before .before .before .before .before .before .before .args .line) (c .before .before .before .before .before .before .before .before .before .before .before .before .before .before .before .before .before .before .before .before .before .before .before .before .args .log)) (c .before .before .before .before .before .before .before .before .before .before .before .before .before .before .before .before .refusal .result) ((checked catalogue narrow (lent (now (c .before .before .before .before .before .before .before .before .before .before .before .before .before .before .before .before .before .before .before .before .before .before .before .before .args .text)) (now (c .before .before .before .before .before .before .before .before .before .before .before .before .before .before .before .before .before .before .before .before .before .before .before .before .args .records)) (now (c .before .before .before .before .before .before .before .before .before .before .before .before .before .before .before .before .before .before .before .before .before .before .before .before .args .texts)) (c .before .before .before .before .before .before .before .before .before .before .before .before .before .before .before .before .before .before .before .before .before .before .before .before .args .line) (c .before .before .before .before .before .before .before .before .before .before .before .before .before .before .before .before .before .before .before .before .before .before .before .before .args .log)) (ownTests false false false))) ((edited catalogue narrow (sizesOf (lent (now (c .before .before .before .before .before .before .before .before .before .before .before .before .before .before .before .before .before .before .before .before .before .before .before .before .args .text)) (now (c .before .before .before .before .before .before .before .before .before .before .before .before .before .before .before .before .before .before .before .before .before .before .before .before .args .records)) (now (c .before .before .before .before .before .before .before .before .before .before .before .before .before .before .before .before .before .before .before .before .before .before .before .before .args .texts)) (c .before .before .before .before .before .before .before .before .before .before .before .before .before .before .before .before .before .before .before .before .before .before .before .before .args .line) (c .before .before .before .before .before .before .before .before .before .before .before .before .before .before .before .before .before .before .before .before .before .before .before .before .args .log))) (length (now (c .before .before .before .before .before .before .before .before .before .before .before .before .before .before .before .before .before .before .before .before .before .before .before .before .args .text))) ((transposeWordsPlan catalogue ((take (c .before .before .before .before .before .before .before .before .before .before .before .before .before .before .before .before .before .before .before .before .before .before .before .before .args .line .len) (now (c .before .before .before .before .before .before .before .before .before .before .before .before .before .before .before .before .before .before .before .before .before .before .before .before .args .text)))) (c .before .before .before .before .before .before .before .before .before .before .before .before .before .before .before .before .before .before .before .before .before .before .before .before .args .n) ((c .before .before .before .before .before .before .before .before .before .before .before .before .before .before .before .before .before .before .before .before .before .before .before .before .args .line .cursor)))) (stateOf catalogue narrow (lent (now (c .before .before .before .before .before .before .before .before .before .before .before .before .before .before .before .before .before .before .before .before .before .before .before .before .args .text)) (now (c .before .before .before .before .before .before .before .before .before .before .before .before .before .before .before .before .before .before .before .before .before .before .before .before .args .records)) (now (c .before .before .before .before .before .before .before .before .before .before .before .before .before .before .before .before .before .before .before .before .before .before .before .before .args .texts)) (c .before .before .before .before .before .before .before .before .before .before .before .before .before .before .before .before .before .before .before .before .before .before .before .before .args .line) (c .before .before .before .before .before .before .before .before .before .before .before .before .before .before .before .before .before .before .before .before .before .before .before .before .args .log))))) _ _ _ _ ((sym (c .before .before .before .before .before .before .before .before .before .before .before .before .before .before .before .before .refusal .ensures .0 ∙ ap (λ (o : Own). checked catalogue narrow (lent (now (c .before .before .before .before .before .before .before .before .before .before .before .before .before .before .before .before .before .before .before .before .before .before .before .before .args .text)) (now (c .before .before .before .before .before .before .before .before .before .before .before .before .before .before .before .before .before .before .before .before .before .before .before .before .args .records)) (now (c .before .before .before .before .before .before .before .before .before .before .before .before .before .before .before .before .before .before .before .before .before .before .before .before .args .texts)) (c .before .before .before .before .before .before .before .before .before .before .before .before .before .before .before .before .before .before .before .before .before .before .before .before .args .line) (c .before .before .before .before .before .before .before .before .before .before .before .before .before .before .before .before .before .before .before .before .before .before .before .before .args .log)) (own o)) (c .before .before .before .before .before .before .before .before .before .before .before .before .before .before .before .before .before .none .ensures)))) (c .before .before .before .before .before .before .before .before .before .before .before .before .before .before .before .if1 .left) (outcome-as narrow (lent (now (c .before .before .before .before .before .before .before .before .before .before .before .before .before .before .before .before .before .before .before .before .before .before .before .before .args .text)) (now (c .before .before .before .before .before .before .before .before .before .before .before .before .before .before .before .before .before .before .before .before .before .before .before .before .args .records)) (now (c .before .before .before .before .before .before .before .before .before .before .before .before .before .before .before .before .before .before .before .before .before .before .before .before .args .texts)) (c .before .before .before .before .before .before .before .before .before .before .before .before .before .before .before .before .before .before .before .before .before .before .before .before .args .line) (c .before .before .before .before .before .before .before .before .before .before .before .before .before .before .before .before .before .before .before .before .before .before .before .before .args .log)) _ _ _ _ _ _ (ap ((λ (p : Plan). edited catalogue narrow (sizesOf (lent (now (c .before .before .before .before .before .before .before .before .before .before .before .before .before .before .before .before .before .before .before .before .before .before .before .before .args .text)) (now (c .before .before .before .before .before .before .before .before .before .before .before .before .before .before .before .before .before .before .before .before .before .before .before .before .args .records)) (now (c .before .before .before .before .before .before .before .before .before .before .before .before .before .before .before .before .before .before .before .before .before .before .before .before .args .texts)) (c .before .before .before .before .before .before .before .before .before .before .before .before .before .before .before .before .before .before .before .before .before .before .before .before .args .line) (c .before .before .before .before .before .before .before .before .before .before .before .before .before .before .before .before .before .before .before .before .before .before .before .before .args .log))) (length (now (c .before .before .before .before .before .before .before .before .before .before .before .before .before .before .before .before .before .before .before .before .before .before .before .before .args .text))) p (stateOf catalogue narrow (lent (now (c .before .before .before .before .before .before .before .before .before .before .before .before .before .before .before .before .before .before .before .before .before .before .before .before .args .text)) (now (c .before .before .before .before .before .before .before .before .before .before .before .before .before .before .before .before .before .before .before .before .before .before .before .before .args .records)) (now (c .before .before .before .before .before .before .before .before .before .before .before .before .before .before .before .before .before .before .before .before .before .before .before .before .args .texts)) (c .before .before .before .before .before .before .before .before .before .before .before .before .before .before .before .before .before .before .before .before .before .before .before .before .args .line) (c .before .before .before .before .before .before .before .before .before .before .before .before .before .before .before .before .before .before .before .before .before .before .before .before .args .log))))) (words-two catalogue ((take (c .before .before .before .before .before .before .before .before .before .before .before .before .before .before .before .before .before .before .before .before .before .before .before .before .args .line .len) (now (c .before .before .before .before .before .before .before .before .before .before .before .before .before .before .before .before .before .before .before .before .before .before .before .before .args .text)))) (c .before .before .before .before .before .before .before .before .before .before .before .before .before .before .before .before .before .before .before .before .before .before .before .before .args .n) ((c .before .before .before .before .before .before .before .before .before .before .before .before .before .before .before .before .before .before .before .before .before .before .before .before .args .line .cursor)) _ (c .before .before .before .before .before .before .before .before .before .before .before .before .before .words-around .ensures) (c .before .before .before .before .before .before .before .before .before .before .if2 .left))) (c .before .before .before .before .before .before .exchange-words .ensures))
+returns-3 c =
+    let after-exchange-words = c .before .before .before .before .before .before in
+    let else2 = after-exchange-words .before .before .before .before in
+    let after-words-around = else2 .before .before .before in
+    let else1 = after-words-around.before.before in
+    let after-refusal = else1.before in
+    let after-none = after-refusal.before in
+    let after-format-for = after-none .before .before .before .before in
+    let entry = after-format-for .before .before .before .before in
+    let l = lent (now entry.args.text) (now entry.args.records) (now entry.args.texts) entry.args.line entry.args.log in
+    let stateOf1 = stateOf catalogue after-format-for.format-for.result l in
+    let sizesOf1 = sizesOf l in
+    in-format l (λ (F : Format). transposeWordsCall catalogue F l entry.args.n) after-format-for.format-for.ensures
+    (passed-by after-format-for.format-for.result l after-refusal.refusal.result
+    (checked catalogue after-format-for.format-for.result l (ownTests false false false))
+    (edited catalogue after-format-for.format-for.result sizesOf1 (length (now entry.args.text))
+    (transposeWordsPlan catalogue (take entry.args.line.len (now entry.args.text)) entry.args.n entry.args.line.cursor) stateOf1) _ _ _ _
+    (sym
+    (after-refusal.refusal.ensures.0
+    ∙ ap (λ (o : Own). checked catalogue after-format-for.format-for.result l (own o)) after-none.none.ensures)) else1.if1.left
+    (outcome-as after-format-for.format-for.result l _ _ _ _ _ _
+    (ap (λ (p : Plan). edited catalogue after-format-for.format-for.result sizesOf1 (length (now entry.args.text)) p stateOf1)
+    (words-two catalogue (take entry.args.line.len (now entry.args.text)) entry.args.n entry.args.line.cursor _
+    after-words-around.words-around.ensures else2.if2.left)) after-exchange-words.exchange-words.ensures))
 
 pub transpose-words-spec : {M : Type 1} → statement M
 transpose-words-spec =
     tie.close
     (tie.spec
+    format-for-requires
     none-requires
     refusal-requires
     says-requires

@@ -6,7 +6,6 @@ use mathlib.Core.Bool.{true}
 use lib.ListN.{length}
 use denote.Ref.{now}
 use Rattle.unicode.specs.Repertoire.{catalogue}
-use Rattle.records.specs.Formats.{asFormat}
 use Rattle.edit.specs.Calls.{stateOf}
 use Rattle.retrace.specs.Records.{SizesOf}
 use Rattle.undo.specs.Undo.{undoWalk, undoOut}
@@ -20,8 +19,8 @@ use Rattle.undo.proofs.undo_noted.Tie as tie
 
 abbrev Inv-loop : tie.InvT-loop
 Inv-loop f text₀ records texts sizes n s₀ g₀ left₀ ends₀ begins₀ text s g left ends begins =
-    Walking (asFormat f) (lentBy text₀ records texts s₀ g₀) true (undoWalk (length text₀) n (stateOf catalogue (asFormat f) (lentBy text₀ records texts s₀ g₀))) text s g (left - 1) ends begins
-    × SizesOf (asFormat f) sizes (stateOf catalogue (asFormat f) (lentBy text records texts s g) .log .undo)
+    Walking f (lentBy text₀ records texts s₀ g₀) true (undoWalk (length text₀) n (stateOf catalogue f (lentBy text₀ records texts s₀ g₀)))
+    text s g (left - 1) ends begins × SizesOf f sizes ((stateOf catalogue f (lentBy text records texts s g)) .log .undo)
 
 abbrev μ-loop : tie.MeasureT-loop
 μ-loop f text₀ records texts sizes n s₀ g₀ left₀ ends₀ begins₀ text s g left ends begins = g .undo .records
@@ -49,8 +48,10 @@ undo-record-requires : tie.Need-undo-record-requires Inv-loop μ-loop
 undo-record-requires c κs =
     let s = c .before .before .before .before .before .before .before .before .before in
     let b = c .before .before .before .before .loop in
-    let k = b .inv .0 in
-    (s .pre .0, (k .come .ready, ((k .come .number, omega (arith, c .before .if1 .left), omega (arith, s .pre .1 .1 .0, k .come .unmoved .fewer)), b .inv .1)))
+    let k = b.inv.0 in (
+      s.pre.0,
+      (k.come.ready, ((k.come.number, omega (arith, c.before.if1.left), omega (arith, s.pre.1.1.0, k.come.unmoved.fewer)), b.inv.1)),
+    )
 
 answer-requires-2 : tie.Need-answer-requires-2 Inv-loop μ-loop
 answer-requires-2 c κs = search needs
@@ -65,11 +66,12 @@ same-length-2 c =
 returns-2 : tie.Need-returns-2 Inv-loop μ-loop
 unfolding undoOut
 returns-2 c =
+    let else1 = c .before .before .before .before .before .before .before .before .before in
     let b = c .before .before .before .before .before .before .before .before .before .before .before .before .loop in
-    let k = b .inv .0 in
-    let n = some-newest (k .come .ready) (omega (arith, c .before .before .before .before .before .before .before .before .before .if1 .left)) in
+    let k = b.inv.0 in
+    let n = some-newest k.come.ready (omega (arith, else1.if1.left)) in
     let u = c .before .before .before .before .before .before .before .undo-record in
-    let w = walked-stop k (n .2) (u .result) (u .last .1 .0) (u .ensures) (c .before .if2 .taken) (c .answer2 .ensures) in
+    let w = walked-stop k n.2 u.result u.last.1.0 u.ensures c.before.if2.taken c.answer2.ensures in
     (edited w, still w)
 
 one-if-requires : tie.Need-one-if-requires Inv-loop μ-loop
@@ -94,27 +96,31 @@ add-ends c =
 
 loop-less : tie.Need-loop-less Inv-loop μ-loop
 loop-less c =
+    let else1 = c .before .before .before .before .before .before .before .before .before .before .before in
     let b = c .before .before .before .before .before .before .before .before .before .before .before .before .before .before .loop in
-    let k = b .inv .0 in
-    let n = some-newest (k .come .ready) (omega (arith, c .before .before .before .before .before .before .before .before .before .before .before .if1 .left)) in
+    let k = b.inv.0 in
+    let n = some-newest k.come.ready (omega (arith, else1.if1.left)) in
     let u = c .before .before .before .before .before .before .before .before .before .undo-record in
     let z = c .before .before .before .if2 .left in
-    falls true (k .come) (n .2) (u .result) (u .last .1 .0) (u .ensures) (u .kept .1 .0) z
+    falls true k.come n.2 u.result u.last.1.0 u.ensures u.kept.1.0 z
 
 loop-again : tie.Need-loop-again Inv-loop μ-loop
 loop-again c =
-    let s = c .before .before .before .before .before .before .before .before .before .before .before .before .before .before .before .before .before .before .before in
+    let else1 = c .before .before .before .before .before .before .before .before .before .before .before in
+    let s = c .before .before .before .before .before .before .before .before .before .before .before .before .before .before
+    .before .before .before .before .before in
     let b = c .before .before .before .before .before .before .before .before .before .before .before .before .before .before .loop in
-    let k = b .inv .0 in
-    let n = some-newest (k .come .ready) (omega (arith, c .before .before .before .before .before .before .before .before .before .before .before .if1 .left)) in
+    let k = b.inv.0 in
+    let n = some-newest k.come.ready (omega (arith, else1.if1.left)) in
     let u = c .before .before .before .before .before .before .before .before .before .undo-record in
-    let i = c .before .before .one-if in
-    let j = c .before .one-if2 in
+    let i = c.before.before.one-if in
+    let j = c.before.one-if2 in
     let z = c .before .before .before .if2 .left in
-    let w = counts-back (u .result .kind) (i .ensures .0) (j .ensures .0) (n .0) (k .waiting) (b .ends) (b .begins) (k .waits) (u .ensures (n .0) (n .1) (n .2) .0) in
-    let few = one-of (u .result .kind) (i .ensures .0) (j .ensures .0) in (
-      walking-on k (n .2) (u .result) (u .last .1 .0) (u .ensures) (u .kept .1 .0) z (b .ends + j .result) (b .begins + i .result) w (omega (arith, few)) (c .if3 .taken),
-      sizes-next (k .come) (n .2) (u .result) (u .last .1 .0) (u .ensures) (u .kept .1 .0) z (now (s .args .sizes)) (b .inv .1),
+    let w = counts-back u.result.kind i.ensures.0 j.ensures.0 n.0 k.waiting b.ends b.begins k.waits (u.ensures n.0 n.1 n.2 .0) in
+    let few = one-of u.result.kind i.ensures.0 j.ensures.0 in (
+      walking-on k n.2 u.result u.last.1.0 u.ensures u.kept.1.0 z (b.ends + j.result) (b.begins + i.result) w (omega (arith, few))
+          c.if3.taken,
+      sizes-next k.come n.2 u.result u.last.1.0 u.ensures u.kept.1.0 z (now s.args.sizes) b.inv.1,
     )
 
 answer-requires-3 : tie.Need-answer-requires-3 Inv-loop μ-loop
@@ -122,24 +128,28 @@ answer-requires-3 c κs = search needs
 
 same-length-3 : tie.Need-same-length-3 Inv-loop μ-loop
 same-length-3 c =
-    let b = c .before .before .before .before .before .before .before .before .before .before .before .before .before .before .before .before .loop in
-    let k = b .inv .0 in
+    let b = c .before .before .before .before .before .before .before .before .before .before .before .before .before .before
+    .before .before .loop in
+    let k = b.inv.0 in
     let u = c .before .before .before .before .before .before .before .before .before .before .before .undo-record in
-    u .kept .1 .0 ∙ k .come .text
+    u.kept.1.0 ∙ k.come.text
 
 returns-3 : tie.Need-returns-3 Inv-loop μ-loop
 unfolding undoOut
 returns-3 c =
-    let b = c .before .before .before .before .before .before .before .before .before .before .before .before .before .before .before .before .loop in
-    let k = b .inv .0 in
-    let n = some-newest (k .come .ready) (omega (arith, c .before .before .before .before .before .before .before .before .before .before .before .before .before .if1 .left)) in
+    let else1 = c .before .before .before .before .before .before .before .before .before .before .before .before .before in
+    let b = c .before .before .before .before .before .before .before .before .before .before .before .before .before .before
+    .before .before .loop in
+    let k = b.inv.0 in
+    let n = some-newest k.come.ready (omega (arith, else1.if1.left)) in
     let u = c .before .before .before .before .before .before .before .before .before .before .before .undo-record in
     let i = c .before .before .before .before .one-if in
     let j = c .before .before .before .one-if2 in
     let z = c .before .before .before .before .before .if2 .left in
-    let w = counts-back (u .result .kind) (i .ensures .0) (j .ensures .0) (n .0) (k .waiting) (b .ends) (b .begins) (k .waits) (u .ensures (n .0) (n .1) (n .2) .0) in
-    let few = one-of (u .result .kind) (i .ensures .0) (j .ensures .0) in
-    let e = walked-last k (n .2) (u .result) (u .last .1 .0) (u .ensures) (u .kept .1 .0) z (b .ends + j .result) (b .begins + i .result) w (omega (arith, few)) (c .before .before .if3 .left) (omega (arith, c .before .if4 .taken)) (c .answer3 .ensures) in
+    let w = counts-back u.result.kind i.ensures.0 j.ensures.0 n.0 k.waiting b.ends b.begins k.waits (u.ensures n.0 n.1 n.2 .0) in
+    let few = one-of u.result.kind i.ensures.0 j.ensures.0 in
+    let e = walked-last k n.2 u.result u.last.1.0 u.ensures u.kept.1.0 z (b.ends + j.result) (b.begins + i.result) w (omega (arith, few))
+    c.before.before.if3.left (omega (arith, c.before.if4.taken)) c.answer3.ensures in
     (edited e, still e)
 
 sub-left : tie.Need-sub-left Inv-loop μ-loop
@@ -147,27 +157,33 @@ sub-left c = omega (arith, c .if4 .left)
 
 loop-less-2 : tie.Need-loop-less-2 Inv-loop μ-loop
 loop-less-2 c =
-    let b = c .before .before .before .before .before .before .before .before .before .before .before .before .before .before .before .loop in
-    let k = b .inv .0 in
-    let n = some-newest (k .come .ready) (omega (arith, c .before .before .before .before .before .before .before .before .before .before .before .before .if1 .left)) in
+    let else1 = c .before .before .before .before .before .before .before .before .before .before .before .before in
+    let b = c .before .before .before .before .before .before .before .before .before .before .before .before .before .before .before
+    .loop in
+    let k = b.inv.0 in
+    let n = some-newest k.come.ready (omega (arith, else1.if1.left)) in
     let u = c .before .before .before .before .before .before .before .before .before .before .undo-record in
     let z = c .before .before .before .before .if2 .left in
-    falls true (k .come) (n .2) (u .result) (u .last .1 .0) (u .ensures) (u .kept .1 .0) z
+    falls true k.come n.2 u.result u.last.1.0 u.ensures u.kept.1.0 z
 
 loop-again-2 : tie.Need-loop-again-2 Inv-loop μ-loop
 loop-again-2 c =
-    let s = c .before .before .before .before .before .before .before .before .before .before .before .before .before .before .before .before .before .before .before .before in
-    let b = c .before .before .before .before .before .before .before .before .before .before .before .before .before .before .before .loop in
-    let k = b .inv .0 in
-    let n = some-newest (k .come .ready) (omega (arith, c .before .before .before .before .before .before .before .before .before .before .before .before .if1 .left)) in
+    let else1 = c .before .before .before .before .before .before .before .before .before .before .before .before in
+    let s = c .before .before .before .before .before .before .before .before .before .before .before .before .before .before
+    .before .before .before .before .before .before in
+    let b = c .before .before .before .before .before .before .before .before .before .before .before .before .before .before .before
+    .loop in
+    let k = b.inv.0 in
+    let n = some-newest k.come.ready (omega (arith, else1.if1.left)) in
     let u = c .before .before .before .before .before .before .before .before .before .before .undo-record in
     let i = c .before .before .before .one-if in
-    let j = c .before .before .one-if2 in
+    let j = c.before.before.one-if2 in
     let z = c .before .before .before .before .if2 .left in
-    let w = counts-back (u .result .kind) (i .ensures .0) (j .ensures .0) (n .0) (k .waiting) (b .ends) (b .begins) (k .waits) (u .ensures (n .0) (n .1) (n .2) .0) in
-    let few = one-of (u .result .kind) (i .ensures .0) (j .ensures .0) in (
-      walking-next k (n .2) (u .result) (u .last .1 .0) (u .ensures) (u .kept .1 .0) z (b .ends + j .result) (b .begins + i .result) w (omega (arith, few)) (c .before .if3 .left) (omega (arith, c .if4 .left)),
-      sizes-next (k .come) (n .2) (u .result) (u .last .1 .0) (u .ensures) (u .kept .1 .0) z (now (s .args .sizes)) (b .inv .1),
+    let w = counts-back u.result.kind i.ensures.0 j.ensures.0 n.0 k.waiting b.ends b.begins k.waits (u.ensures n.0 n.1 n.2 .0) in
+    let few = one-of u.result.kind i.ensures.0 j.ensures.0 in (
+      walking-next k n.2 u.result u.last.1.0 u.ensures u.kept.1.0 z (b.ends + j.result) (b.begins + i.result) w (omega (arith, few))
+          c.before.if3.left (omega (arith, c.if4.left)),
+      sizes-next k.come n.2 u.result u.last.1.0 u.ensures u.kept.1.0 z (now s.args.sizes) b.inv.1,
     )
 
 pub undo-noted-spec : {M : Type 1} → statement M

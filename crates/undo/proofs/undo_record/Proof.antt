@@ -4,9 +4,8 @@ use Prim.Native.Nat.{_-_}
 use mathlib.Core.Path.{refl}
 use mathlib.Core.Bool.{true}
 use denote.Ref.{now}
-use Rattle.records.specs.Formats.{asFormat}
 use Rattle.undo.specs.Steps.{lentBy}
-use Rattle.undo.proofs.Seams.{some-newest}
+use Rattle.undo.proofs.Seams.{some-newest, texts-below}
 use Rattle.undo.proofs.Steps.{size-within, start-whole, texts-within, stands-there, seam-there, space, record-stops, record-passes}
 use Rattle.undo.proofs.undo_record.Statement.{statement}
 use Rattle.undo.proofs.undo_record.Tie as tie
@@ -57,12 +56,12 @@ sub-first c =
 retrace-requires : tie.Need-retrace-requires
 retrace-requires c κs =
     let s = c .before .before .before .before .before .before .before .before .before .before in
-    let a = s .args in
-    let h = s .pre .1 .0 in
-    let z = s .pre .1 .1 .1 in
-    let n = some-newest h (s .pre .1 .1 .0 .1) .2 in
+    let a = s.args in
+    let h = s.pre.1.0 in
+    let z = s.pre.1.1.1 in
+    let n = (some-newest h s.pre.1.1.0.1) .2 in
     let r = c .before .before .before .read-record in
-    ((s .pre .1 .1 .0 .0, h .used, r .ensures .2, space (stands-there h (now (a .sizes)) z n (r .ensures .0)) (r .ensures .0), h .log .texts), h .text)
+    ((s.pre.1.1.0.0, h.used, r.ensures.2, space (stands-there h (now a.sizes) z n r.ensures.0) r.ensures.0, texts-below h), h.text)
 
 same-length : tie.Need-same-length
 same-length c = search needs
@@ -70,39 +69,43 @@ same-length c = search needs
 returns : tie.Need-returns
 returns c =
     let s = c .before .before .before .before .before .before .before .before .before .before .before .before .before .before .before in
-    let a = s .args in
-    let h = s .pre .1 .0 in
-    let z = s .pre .1 .1 .1 in
-    let l = lentBy (now (a .text)) (now (a .records)) (now (a .texts)) (a .s) (a .log) in
+    let a = s.args in
+    let h = s.pre.1.0 in
+    let z = s.pre.1.1.1 in
+    let l = lentBy (now a.text) (now a.records) (now a.texts) a.s a.log in
     let r = c .before .before .before .before .before .before .before .before .read-record in
     let q = c .before .before .before .before .retrace in
-    λ x u e. record-stops (asFormat (a .f)) l true x u (stands-there h (now (a .sizes)) z e (r .ensures .0)) (r .ensures .0) (a .s) (q .result) (q .last .0) (q .ensures) refl (c .if1 .taken)
+    λ x u e. record-stops a.f l true x u (stands-there h (now a.sizes) z e r.ensures.0) r.ensures.0 a.s q.result q.last.0 q.ensures refl
+    c.if1.taken
 
 move-seam-requires : tie.Need-move-seam-requires
 move-seam-requires c κs =
     let s = c .before .before .before .before .before .before .before .before .before .before .before .before .before .before .before in
-    let a = s .args in
-    let h = s .pre .1 .0 in
-    let z = s .pre .1 .1 .1 in
-    let n = some-newest h (s .pre .1 .1 .0 .1) .2 in
+    let a = s.args in
+    let h = s.pre.1.0 in
+    let z = s.pre.1.1.1 in
+    let n = (some-newest h s.pre.1.1.0.1) .2 in
     let r = c .before .before .before .before .before .before .before .before .read-record in
-    let m = seam-there h (now (a .sizes)) z n (r .ensures .0) in
-    ((m .within, omega (arith, h .log .hold .room, h .log .records)), (m .texts, omega (arith, h .log .hold .space, h .log .texts)))
+    let m = seam-there h (now a.sizes) z n r.ensures.0 in (
+      (m.within, omega (arith, h.log.hold.room, h.log.records, h.log.fit.records)),
+      (m.texts, omega (arith, h.log.hold.space, texts-below h)),
+    )
 
 same-length-2 : tie.Need-same-length-2
 same-length-2 c = search needs
 
 returns-2 : tie.Need-returns-2
 returns-2 c =
-    let s = c .before .before .before .before .before .before .before .before .before .before .before .before .before .before .before .before in
-    let a = s .args in
-    let h = s .pre .1 .0 in
-    let z = s .pre .1 .1 .1 in
-    let l = lentBy (now (a .text)) (now (a .records)) (now (a .texts)) (a .s) (a .log) in
+    let s = c .before .before .before .before .before .before .before .before .before .before .before .before .before .before
+    .before .before in
+    let a = s.args in
+    let h = s.pre.1.0 in
+    let z = s.pre.1.1.1 in
+    let l = lentBy (now a.text) (now a.records) (now a.texts) a.s a.log in
     let r = c .before .before .before .before .before .before .before .before .before .read-record in
     let q = c .before .before .before .before .before .retrace in
-    λ x u e. record-passes (asFormat (a .f)) l true x u (stands-there h (now (a .sizes)) z e (r .ensures .0)) (r .ensures .0) (a .s) (q .result) (q .last .0) (q .ensures)
-    (seam-there h (now (a .sizes)) z e (r .ensures .0)) (c .before .if1 .left) (c .move-seam .ensures)
+    λ x u e. record-passes a.f l true x u (stands-there h (now a.sizes) z e r.ensures.0) r.ensures.0 a.s q.result q.last.0 q.ensures
+    (seam-there h (now a.sizes) z e r.ensures.0) c.before.if1.left c.move-seam.ensures
 
 pub undo-record-spec : {M : Type 1} → statement M
 undo-record-spec =

@@ -3,7 +3,6 @@ use native.Mathlib.Omega.{arith}
 use mathlib.Core.Path.{sym}
 use lib.Seq.{length-take-le}
 use denote.Ref.{now}
-use Rattle.records.specs.Formats.{asFormat}
 use Rattle.changeset.proofs.Recorded.{lays, listed}
 use Rattle.edit.specs.Calls.{lent, logLent}
 use Rattle.undo.proofs.undo_units.Statement.{statement}
@@ -25,19 +24,20 @@ note-sizes-requires c κs =
     let h = s .pre .1 in
     let l = lent (now (a .text)) (now (a .records)) (now (a .texts)) (a .line) (a .log) in
     let e = length-take-le (a .log .undo .records) (now (a .records)) (omega (arith, h .log .hold .room)) in
-    (s .pre .0, (listed (asFormat (a .f)) (logLent l) (h .log), omega (arith, e, c .before .before .if1 .taken)))
+    (s .pre .0, (listed (a .f) (logLent l) (h .log), omega (arith, e, c .before .before .if1 .taken)))
 
 slice-aggregate-undo-noted : tie.Need-slice-aggregate-undo-noted
 slice-aggregate-undo-noted c = search needs
 
 undo-noted-requires : tie.Need-undo-noted-requires
 undo-noted-requires c κs =
+    let then1 = c .before .before .before .before .before .before in
     let s = c .before .before .before .before .before .before .before .before .before .before .before in
-    let a = s .args in
-    let h = s .pre .1 in
-    let l = lent (now (a .text)) (now (a .records)) (now (a .texts)) (a .line) (a .log) in
+    let a = s.args in
+    let h = s.pre.1 in
+    let l = lent (now a.text) (now a.records) (now a.texts) a.line a.log in
     let n = c .before .before .before .note-sizes in
-    (s .pre .0, (h, (omega (arith, n .kept .1 .1 .0, c .before .before .before .before .before .before .if1 .taken), n .ensures _ _ (lays (asFormat (a .f)) (logLent l) (h .log)) .1)))
+    (s.pre.0, (h, (omega (arith, n.kept.1.1.0, then1.if1.taken), n.ensures _ _ (lays a.f (logLent l) h.log) .1)))
 
 same-length : tie.Need-same-length
 same-length c = search needs
@@ -61,7 +61,7 @@ note-sizes-requires-2 c κs =
     let h = s .pre .1 in
     let l = lent (now (a .text)) (now (a .records)) (now (a .texts)) (a .line) (a .log) in
     let e = length-take-le (a .log .undo .records) (now (a .records)) (omega (arith, h .log .hold .room)) in
-    (s .pre .0, (listed (asFormat (a .f)) (logLent l) (h .log), omega (arith, e, h .log .hold .room, h .log .records)))
+    (s .pre .0, (listed (a .f) (logLent l) (h .log), omega (arith, e, h .log .hold .room, h .log .records, h .log .fit .records)))
 
 slice-aggregate-undo-noted-2 : tie.Need-slice-aggregate-undo-noted-2
 slice-aggregate-undo-noted-2 c = search needs
@@ -69,11 +69,13 @@ slice-aggregate-undo-noted-2 c = search needs
 undo-noted-requires-2 : tie.Need-undo-noted-requires-2
 undo-noted-requires-2 c κs =
     let s = c .before .before .before .before .before .before .before .before .before .before .before in
-    let a = s .args in
-    let h = s .pre .1 in
-    let l = lent (now (a .text)) (now (a .records)) (now (a .texts)) (a .line) (a .log) in
-    let n = c .before .before .before .note-sizes2 in
-    (s .pre .0, (h, (omega (arith, n .kept .1 .1 .0, h .log .hold .room, h .log .records), n .ensures _ _ (lays (asFormat (a .f)) (logLent l) (h .log)) .1)))
+    let a = s.args in
+    let h = s.pre.1 in
+    let l = lent (now a.text) (now a.records) (now a.texts) a.line a.log in
+    let n = c .before .before .before .note-sizes2 in (
+      s.pre.0,
+      (h, (omega (arith, n.kept.1.1.0, h.log.hold.room, h.log.records, h.log.fit.records), n.ensures _ _ (lays a.f (logLent l) h.log) .1)),
+    )
 
 same-length-2 : tie.Need-same-length-2
 same-length-2 c = search needs

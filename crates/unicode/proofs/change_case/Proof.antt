@@ -7,7 +7,7 @@ use Rattle.utf8.specs.Answer.{asFirst}
 use Rattle.utf8.proofs.Forms.{first-end}
 use Rattle.unicode.specs.Repertoire.{catalogue}
 use Rattle.unicode.proofs.Text.{within-at}
-use Rattle.unicode.proofs.Catalogue.{catalogue-shrinks}
+use Rattle.unicode.proofs.Catalogue.{catalogue-lawful}
 use Rattle.unicode.proofs.Written.{Writing, writing-length, writing-start, writing-fits, writing-step, writing-end, no-room}
 use Rattle.unicode.proofs.change_case.Statement.{statement}
 use Rattle.unicode.proofs.change_case.Tie as tie
@@ -43,10 +43,10 @@ case-of-requires : tie.Need-case-of-requires Inv-loop μ-loop
 case-of-requires c κs = search needs
 
 write-mapped-requires : tie.Need-write-mapped-requires Inv-loop μ-loop
-write-mapped-requires c κs = writing-fits catalogue _ _ _ catalogue-shrinks _ _ _ _ _ _ (c .before .before .before .before .before .before .before .loop .inv) (sym (c .before .before .before .before .before .decode-at .ensures) ∙ ap asFirst (c .before .before .before .d .given .1)) (c .case-of .ensures)
+write-mapped-requires c κs = writing-fits catalogue _ _ _ catalogue-lawful _ _ _ _ _ _ (c .before .before .before .before .before .before .before .loop .inv) (sym (c .before .before .before .before .before .decode-at .ensures) ∙ ap asFirst (c .before .before .before .d .given .1)) (c .case-of .ensures)
 
 loop-again : tie.Need-loop-again Inv-loop μ-loop
-loop-again c = writing-step catalogue _ _ _ catalogue-shrinks _ _ _ _ _ _ (c .before .before .before .before .before .before .before .before .before .before .loop .inv) (sym (c .before .before .before .before .before .before .before .before .decode-at .ensures) ∙ ap asFirst (c .before .before .before .before .before .before .d .given .1)) (c .before .before .before .case-of .ensures) _ _ (c .before .before .write-mapped .ensures)
+loop-again c = writing-step catalogue _ _ _ catalogue-lawful _ _ _ _ _ _ (c .before .before .before .before .before .before .before .before .before .before .loop .inv) (sym (c .before .before .before .before .before .before .before .before .decode-at .ensures) ∙ ap asFirst (c .before .before .before .before .before .before .d .given .1)) (c .before .before .before .case-of .ensures) _ _ (c .before .before .write-mapped .ensures)
 
 add-n : tie.Need-add-n Inv-loop μ-loop
 add-n c = let w = loop-again c in omega (arith, w .under, w .within)

@@ -3,7 +3,6 @@ use mathlib.Core.Path.{sym, ap}
 use lib.Seq.{length-take-le}
 use denote.Ref.{now}
 use Rattle.unicode.specs.Repertoire.{catalogue}
-use Rattle.records.specs.Formats.{asFormat}
 use Rattle.changeset.specs.declared.Log.{Log}
 use Rattle.changeset.specs.Outcomes.{beginOut}
 use Rattle.changeset.specs.Calls.{lent, sizesOf, valueOf}
@@ -18,13 +17,13 @@ says-requires : tie.Need-says-requires
 says-requires c κs = search needs
 
 returns : tie.Need-returns
-returns c = answered-as (asFormat (c .before .before .before .before .before .args .f)) (lent (now (c .before .before .before .before .before .args .records)) (now (c .before .before .before .before .before .args .texts)) (c .before .before .before .before .before .args .self)) (beginOut (asFormat (c .before .before .before .before .before .args .f)) (sizesOf (lent (now (c .before .before .before .before .before .args .records)) (now (c .before .before .before .before .before .args .texts)) (c .before .before .before .before .before .args .self))) (valueOf catalogue (asFormat (c .before .before .before .before .before .args .f)) (lent (now (c .before .before .before .before .before .args .records)) (now (c .before .before .before .before .before .args .texts)) (c .before .before .before .before .before .args .self)))) _ _ _ _ (c .says .ensures) (begin-high (asFormat (c .before .before .before .before .before .args .f)) (lent (now (c .before .before .before .before .before .args .records)) (now (c .before .before .before .before .before .args .texts)) (c .before .before .before .before .before .args .self)) (c .before .before .before .before .before .pre .1) (c .before .if1 .taken))
+returns c = answered-as (c .before .before .before .before .before .args .f) (lent (now (c .before .before .before .before .before .args .records)) (now (c .before .before .before .before .before .args .texts)) (c .before .before .before .before .before .args .self)) (beginOut (c .before .before .before .before .before .args .f) (sizesOf (lent (now (c .before .before .before .before .before .args .records)) (now (c .before .before .before .before .before .args .texts)) (c .before .before .before .before .before .args .self))) (valueOf catalogue (c .before .before .before .before .before .args .f) (lent (now (c .before .before .before .before .before .args .records)) (now (c .before .before .before .before .before .args .texts)) (c .before .before .before .before .before .args .self)))) _ _ _ _ (c .says .ensures) (begin-high (c .before .before .before .before .before .args .f) (lent (now (c .before .before .before .before .before .args .records)) (now (c .before .before .before .before .before .args .texts)) (c .before .before .before .before .before .args .self)) (c .before .before .before .before .before .pre .1) (c .before .if1 .taken))
 
 says-requires-2 : tie.Need-says-requires-2
 says-requires-2 c κs = search needs
 
 returns-2 : tie.Need-returns-2
-returns-2 c = answered-as (asFormat (c .before .before .before .before .before .before .args .f)) (lent (now (c .before .before .before .before .before .before .args .records)) (now (c .before .before .before .before .before .before .args .texts)) (c .before .before .before .before .before .before .args .self)) (beginOut (asFormat (c .before .before .before .before .before .before .args .f)) (sizesOf (lent (now (c .before .before .before .before .before .before .args .records)) (now (c .before .before .before .before .before .before .args .texts)) (c .before .before .before .before .before .before .args .self))) (valueOf catalogue (asFormat (c .before .before .before .before .before .before .args .f)) (lent (now (c .before .before .before .before .before .before .args .records)) (now (c .before .before .before .before .before .before .args .texts)) (c .before .before .before .before .before .before .args .self)))) _ _ _ _ (c .says2 .ensures) (begin-full (asFormat (c .before .before .before .before .before .before .args .f)) (lent (now (c .before .before .before .before .before .before .args .records)) (now (c .before .before .before .before .before .before .args .texts)) (c .before .before .before .before .before .before .args .self)) (c .before .before .before .before .before .before .pre .1) (c .before .before .if1 .left) (c .before .if2 .taken))
+returns-2 c = answered-as (c .before .before .before .before .before .before .args .f) (lent (now (c .before .before .before .before .before .before .args .records)) (now (c .before .before .before .before .before .before .args .texts)) (c .before .before .before .before .before .before .args .self)) (beginOut (c .before .before .before .before .before .before .args .f) (sizesOf (lent (now (c .before .before .before .before .before .before .args .records)) (now (c .before .before .before .before .before .before .args .texts)) (c .before .before .before .before .before .before .args .self))) (valueOf catalogue (c .before .before .before .before .before .before .args .f) (lent (now (c .before .before .before .before .before .before .args .records)) (now (c .before .before .before .before .before .before .args .texts)) (c .before .before .before .before .before .before .args .self)))) _ _ _ _ (c .says2 .ensures) (begin-full (c .before .before .before .before .before .before .args .f) (lent (now (c .before .before .before .before .before .before .args .records)) (now (c .before .before .before .before .before .before .args .texts)) (c .before .before .before .before .before .before .args .self)) (c .before .before .before .before .before .before .pre .1) (c .before .before .if1 .left) (c .before .if2 .taken))
 
 slice-reshare-prefix-walk : tie.Need-slice-reshare-prefix-walk
 slice-reshare-prefix-walk c = search needs
@@ -33,7 +32,7 @@ slice-aggregate-walk : tie.Need-slice-aggregate-walk
 slice-aggregate-walk c = sym (length-take-le _ _ (omega (arith, (c .before .before .before .before .before .before .pre .1) .hold .room)))
 
 walk-requires : tie.Need-walk-requires
-walk-requires c κs = (c .before .before .before .before .before .before .pre .0, (listed (asFormat (c .before .before .before .before .before .before .args .f)) (lent (now (c .before .before .before .before .before .before .args .records)) (now (c .before .before .before .before .before .before .args .texts)) (c .before .before .before .before .before .before .args .self)) (c .before .before .before .before .before .before .pre .1), omega (arith, length-take-le (c .before .before .before .before .before .before .args .self .undo .records) (now (c .before .before .before .before .before .before .args .records)) (omega (arith, (c .before .before .before .before .before .before .pre .1) .hold .room)), (c .before .before .before .before .before .before .pre .1) .records)))
+walk-requires c κs = (c .before .before .before .before .before .before .pre .0, (listed (c .before .before .before .before .before .before .args .f) (lent (now (c .before .before .before .before .before .before .args .records)) (now (c .before .before .before .before .before .before .args .texts)) (c .before .before .before .before .before .before .args .self)) (c .before .before .before .before .before .before .pre .1), omega (arith, length-take-le (c .before .before .before .before .before .before .args .self .undo .records) (now (c .before .before .before .before .before .before .args .records)) (omega (arith, (c .before .before .before .before .before .before .pre .1) .hold .room)), (c .before .before .before .before .before .before .pre .1) .records)))
 
 slice-write-records : tie.Need-slice-write-records
 slice-write-records c = search needs
@@ -51,7 +50,7 @@ same-length : tie.Need-same-length
 same-length c = search needs
 
 returns-3 : tie.Need-returns-3
-returns-3 c = answered-as (asFormat (c .before .before .before .before .before .before .before .before .args .f)) (lent (now (c .before .before .before .before .before .before .before .before .args .records)) (now (c .before .before .before .before .before .before .before .before .args .texts)) (c .before .before .before .before .before .before .before .before .args .self)) (beginOut (asFormat (c .before .before .before .before .before .before .before .before .args .f)) (sizesOf (lent (now (c .before .before .before .before .before .before .before .before .args .records)) (now (c .before .before .before .before .before .before .before .before .args .texts)) (c .before .before .before .before .before .before .before .before .args .self))) (valueOf catalogue (asFormat (c .before .before .before .before .before .before .before .before .args .f)) (lent (now (c .before .before .before .before .before .before .before .before .args .records)) (now (c .before .before .before .before .before .before .before .before .args .texts)) (c .before .before .before .before .before .before .before .before .args .self)))) _ _ _ _ (ap (λ (g : Log). record { number = 0; from = c .before .walk .result .count; to = 0; log = g }) (c .only-undo .ensures)) (begin-takes (asFormat (c .before .before .before .before .before .before .before .before .args .f)) (lent (now (c .before .before .before .before .before .before .before .before .args .records)) (now (c .before .before .before .before .before .before .before .before .args .texts)) (c .before .before .before .before .before .before .before .before .args .self)) (c .before .before .before .before .before .before .before .before .pre .1) (c .before .walk .result .count) (c .before .before .before .before .if1 .left) (c .before .before .before .if2 .left) (begin-mark (asFormat (c .before .before .before .before .before .before .before .before .args .f)) (lent (now (c .before .before .before .before .before .before .before .before .args .records)) (now (c .before .before .before .before .before .before .before .before .args .texts)) (c .before .before .before .before .before .before .before .before .args .self)) (c .before .before .before .before .before .before .before .before .pre .1) (c .before .walk .result) (c .before .walk .ensures)))
+returns-3 c = answered-as (c .before .before .before .before .before .before .before .before .args .f) (lent (now (c .before .before .before .before .before .before .before .before .args .records)) (now (c .before .before .before .before .before .before .before .before .args .texts)) (c .before .before .before .before .before .before .before .before .args .self)) (beginOut (c .before .before .before .before .before .before .before .before .args .f) (sizesOf (lent (now (c .before .before .before .before .before .before .before .before .args .records)) (now (c .before .before .before .before .before .before .before .before .args .texts)) (c .before .before .before .before .before .before .before .before .args .self))) (valueOf catalogue (c .before .before .before .before .before .before .before .before .args .f) (lent (now (c .before .before .before .before .before .before .before .before .args .records)) (now (c .before .before .before .before .before .before .before .before .args .texts)) (c .before .before .before .before .before .before .before .before .args .self)))) _ _ _ _ (ap (λ (g : Log). record { number = 0; from = c .before .walk .result .count; to = 0; log = g }) (c .only-undo .ensures)) (begin-takes (c .before .before .before .before .before .before .before .before .args .f) (lent (now (c .before .before .before .before .before .before .before .before .args .records)) (now (c .before .before .before .before .before .before .before .before .args .texts)) (c .before .before .before .before .before .before .before .before .args .self)) (c .before .before .before .before .before .before .before .before .pre .1) (c .before .walk .result .count) (c .before .before .before .before .if1 .left) (c .before .before .before .if2 .left) (begin-mark (c .before .before .before .before .before .before .before .before .args .f) (lent (now (c .before .before .before .before .before .before .before .before .args .records)) (now (c .before .before .before .before .before .before .before .before .args .texts)) (c .before .before .before .before .before .before .before .before .args .self)) (c .before .before .before .before .before .before .before .before .pre .1) (c .before .walk .result) (c .before .walk .ensures)))
 
 pub begin-spec : {M : Type 1} → statement M
 begin-spec =

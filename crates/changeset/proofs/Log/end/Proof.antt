@@ -6,7 +6,6 @@ use lib.Seq.{length-take-le}
 use borrow.Author.Tests.{lt-ltb, le-ltb}
 use denote.Ref.{now}
 use Rattle.unicode.specs.Repertoire.{catalogue}
-use Rattle.records.specs.Formats.{asFormat}
 use Rattle.changeset.specs.declared.Log.{Log}
 use Rattle.changeset.specs.Outcomes.{endOut}
 use Rattle.changeset.specs.Calls.{lent, sizesOf, says, valueOf}
@@ -24,19 +23,19 @@ slice-aggregate-run-start : tie.Need-slice-aggregate-run-start
 slice-aggregate-run-start c = sym (length-take-le _ _ (omega (arith, (c .before .before .before .before .pre .1) .hold .room)))
 
 run-start-requires : tie.Need-run-start-requires
-run-start-requires c κs = (c .before .before .before .before .pre .0, listed (asFormat (c .before .before .before .before .args .f)) (lent (now (c .before .before .before .before .args .records)) (now (c .before .before .before .before .args .texts)) (c .before .before .before .before .args .self)) (c .before .before .before .before .pre .1))
+run-start-requires c κs = (c .before .before .before .before .pre .0, listed (c .before .before .before .before .args .f) (lent (now (c .before .before .before .before .args .records)) (now (c .before .before .before .before .args .texts)) (c .before .before .before .before .args .self)) (c .before .before .before .before .pre .1))
 
 sub-run : tie.Need-sub-run
-sub-run c = omega (arith, (begins-last (asFormat (c .before .before .before .before .before .args .f)) (lent (now (c .before .before .before .before .before .args .records)) (now (c .before .before .before .before .before .args .texts)) (c .before .before .before .before .before .args .self)) (c .before .before .before .before .before .pre .1) (c .run-start .result) (c .run-start .ensures)))
+sub-run c = omega (arith, (begins-last (c .before .before .before .before .before .args .f) (lent (now (c .before .before .before .before .before .args .records)) (now (c .before .before .before .before .before .args .texts)) (c .before .before .before .before .before .args .self)) (c .before .before .before .before .before .pre .1) (c .run-start .result) (c .run-start .ensures)))
 
 least-requires : tie.Need-least-requires
 least-requires c κs = search needs
 
 sub-kept : tie.Need-sub-kept
-sub-kept c = omega (arith, (dropped (asFormat (c .before .before .before .before .before .before .args .f)) (lent (now (c .before .before .before .before .before .before .args .records)) (now (c .before .before .before .before .before .before .args .texts)) (c .before .before .before .before .before .before .args .self)) (c .before .before .before .before .before .before .pre .1) (c .before .run-start .result) (c .least .result) (c .before .run-start .ensures) (c .least .ensures)) .0, (begins-last (asFormat (c .before .before .before .before .before .before .args .f)) (lent (now (c .before .before .before .before .before .before .args .records)) (now (c .before .before .before .before .before .before .args .texts)) (c .before .before .before .before .before .before .args .self)) (c .before .before .before .before .before .before .pre .1) (c .before .run-start .result) (c .before .run-start .ensures)))
+sub-kept c = omega (arith, (dropped (c .before .before .before .before .before .before .args .f) (lent (now (c .before .before .before .before .before .before .args .records)) (now (c .before .before .before .before .before .before .args .texts)) (c .before .before .before .before .before .before .args .self)) (c .before .before .before .before .before .before .pre .1) (c .before .run-start .result) (c .least .result) (c .before .run-start .ensures) (c .least .ensures)) .0, (begins-last (c .before .before .before .before .before .before .args .f) (lent (now (c .before .before .before .before .before .before .args .records)) (now (c .before .before .before .before .before .before .args .texts)) (c .before .before .before .before .before .before .args .self)) (c .before .before .before .before .before .before .pre .1) (c .before .run-start .result) (c .before .run-start .ensures)))
 
 sub-ends : tie.Need-sub-ends
-sub-ends c = (dropped (asFormat (c .before .before .before .before .before .before .args .f)) (lent (now (c .before .before .before .before .before .before .args .records)) (now (c .before .before .before .before .before .before .args .texts)) (c .before .before .before .before .before .before .args .self)) (c .before .before .before .before .before .before .pre .1) (c .before .run-start .result) (c .least .result) (c .before .run-start .ensures) (c .least .ensures)) .1
+sub-ends c = (dropped (c .before .before .before .before .before .before .args .f) (lent (now (c .before .before .before .before .before .before .args .records)) (now (c .before .before .before .before .before .before .args .texts)) (c .before .before .before .before .before .before .args .self)) (c .before .before .before .before .before .before .pre .1) (c .before .run-start .result) (c .least .result) (c .before .run-start .ensures) (c .least .ensures)) .1
 
 sub-if1 : tie.Need-sub-if1
 sub-if1 c = search needs
@@ -48,7 +47,7 @@ same-length : tie.Need-same-length
 same-length c = search needs
 
 returns : tie.Need-returns
-returns c = answered-as (asFormat (c .before .before .before .before .before .before .before .before .args .f)) (lent (now (c .before .before .before .before .before .before .before .before .args .records)) (now (c .before .before .before .before .before .before .before .before .args .texts)) (c .before .before .before .before .before .before .before .before .args .self)) (endOut (asFormat (c .before .before .before .before .before .before .before .before .args .f)) (sizesOf (lent (now (c .before .before .before .before .before .before .before .before .args .records)) (now (c .before .before .before .before .before .before .before .before .args .texts)) (c .before .before .before .before .before .before .before .before .args .self))) (valueOf catalogue (asFormat (c .before .before .before .before .before .before .before .before .args .f)) (lent (now (c .before .before .before .before .before .before .before .before .args .records)) (now (c .before .before .before .before .before .before .before .before .args .texts)) (c .before .before .before .before .before .before .before .before .args .self)))) _ _ _ _ (c .says .ensures) (end-full (asFormat (c .before .before .before .before .before .before .before .before .args .f)) (lent (now (c .before .before .before .before .before .before .before .before .args .records)) (now (c .before .before .before .before .before .before .before .before .args .texts)) (c .before .before .before .before .before .before .before .before .args .self)) (c .before .before .before .before .before .before .before .before .pre .1) (c .before .before .least .result) (c .before .before .before .before .before .before .before .before .args .self .level - (c .before .before .least .result)) ((dropped (asFormat (c .before .before .before .before .before .before .before .before .args .f)) (lent (now (c .before .before .before .before .before .before .before .before .args .records)) (now (c .before .before .before .before .before .before .before .before .args .texts)) (c .before .before .before .before .before .before .before .before .args .self)) (c .before .before .before .before .before .before .before .before .pre .1) (c .before .before .before .run-start .result) (c .before .before .least .result) (c .before .before .before .run-start .ensures) (c .before .before .least .ensures)) .2) ((dropped (asFormat (c .before .before .before .before .before .before .before .before .args .f)) (lent (now (c .before .before .before .before .before .before .before .before .args .records)) (now (c .before .before .before .before .before .before .before .before .args .texts)) (c .before .before .before .before .before .before .before .before .args .self)) (c .before .before .before .before .before .before .before .before .pre .1) (c .before .before .before .run-start .result) (c .before .before .least .result) (c .before .before .before .run-start .ensures) (c .before .before .least .ensures)) .0) (omega (arith, c .before .if1 .taken)))
+returns c = answered-as (c .before .before .before .before .before .before .before .before .args .f) (lent (now (c .before .before .before .before .before .before .before .before .args .records)) (now (c .before .before .before .before .before .before .before .before .args .texts)) (c .before .before .before .before .before .before .before .before .args .self)) (endOut (c .before .before .before .before .before .before .before .before .args .f) (sizesOf (lent (now (c .before .before .before .before .before .before .before .before .args .records)) (now (c .before .before .before .before .before .before .before .before .args .texts)) (c .before .before .before .before .before .before .before .before .args .self))) (valueOf catalogue (c .before .before .before .before .before .before .before .before .args .f) (lent (now (c .before .before .before .before .before .before .before .before .args .records)) (now (c .before .before .before .before .before .before .before .before .args .texts)) (c .before .before .before .before .before .before .before .before .args .self)))) _ _ _ _ (c .says .ensures) (end-full (c .before .before .before .before .before .before .before .before .args .f) (lent (now (c .before .before .before .before .before .before .before .before .args .records)) (now (c .before .before .before .before .before .before .before .before .args .texts)) (c .before .before .before .before .before .before .before .before .args .self)) (c .before .before .before .before .before .before .before .before .pre .1) (c .before .before .least .result) (c .before .before .before .before .before .before .before .before .args .self .level - (c .before .before .least .result)) ((dropped (c .before .before .before .before .before .before .before .before .args .f) (lent (now (c .before .before .before .before .before .before .before .before .args .records)) (now (c .before .before .before .before .before .before .before .before .args .texts)) (c .before .before .before .before .before .before .before .before .args .self)) (c .before .before .before .before .before .before .before .before .pre .1) (c .before .before .before .run-start .result) (c .before .before .least .result) (c .before .before .before .run-start .ensures) (c .before .before .least .ensures)) .2) ((dropped (c .before .before .before .before .before .before .before .before .args .f) (lent (now (c .before .before .before .before .before .before .before .before .args .records)) (now (c .before .before .before .before .before .before .before .before .args .texts)) (c .before .before .before .before .before .before .before .before .args .self)) (c .before .before .before .before .before .before .before .before .pre .1) (c .before .before .before .run-start .result) (c .before .before .least .result) (c .before .before .before .run-start .ensures) (c .before .before .least .ensures)) .0) (omega (arith, c .before .if1 .taken)))
 
 fill-requires : tie.Need-fill-requires
 fill-requires c κs = omega (arith, c .before .if1 .left, (c .before .before .before .before .before .before .before .before .pre .1) .hold .room)
@@ -66,7 +65,7 @@ same-length-2 : tie.Need-same-length-2
 same-length-2 c = search needs
 
 returns-2 : tie.Need-returns-2
-returns-2 c = ended-as (asFormat (c .before .before .before .before .before .before .before .before .before .before .before .before .before .before .args .f)) (lent (now (c .before .before .before .before .before .before .before .before .before .before .before .before .before .before .args .records)) (now (c .before .before .before .before .before .before .before .before .before .before .before .before .before .before .args .texts)) (c .before .before .before .before .before .before .before .before .before .before .before .before .before .before .args .self)) (endOut (asFormat (c .before .before .before .before .before .before .before .before .before .before .before .before .before .before .args .f)) (sizesOf (lent (now (c .before .before .before .before .before .before .before .before .before .before .before .before .before .before .args .records)) (now (c .before .before .before .before .before .before .before .before .before .before .before .before .before .before .args .texts)) (c .before .before .before .before .before .before .before .before .before .before .before .before .before .before .args .self))) (valueOf catalogue (asFormat (c .before .before .before .before .before .before .before .before .before .before .before .before .before .before .args .f)) (lent (now (c .before .before .before .before .before .before .before .before .before .before .before .before .before .before .args .records)) (now (c .before .before .before .before .before .before .before .before .before .before .before .before .before .before .args .texts)) (c .before .before .before .before .before .before .before .before .before .before .before .before .before .before .args .self)))) _ _ _ _ _ (c .says2 .ensures ∙ ap (says 1) (c .before .before .only-undo .ensures)) (c .before .before .before .before .before .fill .ensures) (end-takes (asFormat (c .before .before .before .before .before .before .before .before .before .before .before .before .before .before .args .f)) (lent (now (c .before .before .before .before .before .before .before .before .before .before .before .before .before .before .args .records)) (now (c .before .before .before .before .before .before .before .before .before .before .before .before .before .before .args .texts)) (c .before .before .before .before .before .before .before .before .before .before .before .before .before .before .args .self)) (c .before .before .before .before .before .before .before .before .before .before .before .before .before .before .pre .1) (c .before .before .before .before .before .before .before .before .least .result) (c .before .before .before .before .before .before .before .before .before .before .before .before .before .before .args .self .level - (c .before .before .before .before .before .before .before .before .least .result)) ((dropped (asFormat (c .before .before .before .before .before .before .before .before .before .before .before .before .before .before .args .f)) (lent (now (c .before .before .before .before .before .before .before .before .before .before .before .before .before .before .args .records)) (now (c .before .before .before .before .before .before .before .before .before .before .before .before .before .before .args .texts)) (c .before .before .before .before .before .before .before .before .before .before .before .before .before .before .args .self)) (c .before .before .before .before .before .before .before .before .before .before .before .before .before .before .pre .1) (c .before .before .before .before .before .before .before .before .before .run-start .result) (c .before .before .before .before .before .before .before .before .least .result) (c .before .before .before .before .before .before .before .before .before .run-start .ensures) (c .before .before .before .before .before .before .before .before .least .ensures)) .2) ((dropped (asFormat (c .before .before .before .before .before .before .before .before .before .before .before .before .before .before .args .f)) (lent (now (c .before .before .before .before .before .before .before .before .before .before .before .before .before .before .args .records)) (now (c .before .before .before .before .before .before .before .before .before .before .before .before .before .before .args .texts)) (c .before .before .before .before .before .before .before .before .before .before .before .before .before .before .args .self)) (c .before .before .before .before .before .before .before .before .before .before .before .before .before .before .pre .1) (c .before .before .before .before .before .before .before .before .before .run-start .result) (c .before .before .before .before .before .before .before .before .least .result) (c .before .before .before .before .before .before .before .before .before .run-start .ensures) (c .before .before .before .before .before .before .before .before .least .ensures)) .0) 1 (omega (arith, c .before .before .before .before .before .before .before .if1 .left, (c .before .before .before .before .before .before .before .before .before .before .before .before .before .before .pre .1) .hold .room)) (sym (ap (λ (b : Bool). cond b 0 1) (le-ltb 0 (c .before .before .before .before .before .before .before .before .before .before .before .before .before .before .args .self .level - (c .before .before .before .before .before .before .before .before .least .result)) (omega (arith, c .before .if2 .taken))))))
+returns-2 c = ended-as (c .before .before .before .before .before .before .before .before .before .before .before .before .before .before .args .f) (lent (now (c .before .before .before .before .before .before .before .before .before .before .before .before .before .before .args .records)) (now (c .before .before .before .before .before .before .before .before .before .before .before .before .before .before .args .texts)) (c .before .before .before .before .before .before .before .before .before .before .before .before .before .before .args .self)) (endOut (c .before .before .before .before .before .before .before .before .before .before .before .before .before .before .args .f) (sizesOf (lent (now (c .before .before .before .before .before .before .before .before .before .before .before .before .before .before .args .records)) (now (c .before .before .before .before .before .before .before .before .before .before .before .before .before .before .args .texts)) (c .before .before .before .before .before .before .before .before .before .before .before .before .before .before .args .self))) (valueOf catalogue (c .before .before .before .before .before .before .before .before .before .before .before .before .before .before .args .f) (lent (now (c .before .before .before .before .before .before .before .before .before .before .before .before .before .before .args .records)) (now (c .before .before .before .before .before .before .before .before .before .before .before .before .before .before .args .texts)) (c .before .before .before .before .before .before .before .before .before .before .before .before .before .before .args .self)))) _ _ _ _ _ (c .says2 .ensures ∙ ap (says 1) (c .before .before .only-undo .ensures)) (c .before .before .before .before .before .fill .ensures) (end-takes (c .before .before .before .before .before .before .before .before .before .before .before .before .before .before .args .f) (lent (now (c .before .before .before .before .before .before .before .before .before .before .before .before .before .before .args .records)) (now (c .before .before .before .before .before .before .before .before .before .before .before .before .before .before .args .texts)) (c .before .before .before .before .before .before .before .before .before .before .before .before .before .before .args .self)) (c .before .before .before .before .before .before .before .before .before .before .before .before .before .before .pre .1) (c .before .before .before .before .before .before .before .before .least .result) (c .before .before .before .before .before .before .before .before .before .before .before .before .before .before .args .self .level - (c .before .before .before .before .before .before .before .before .least .result)) ((dropped (c .before .before .before .before .before .before .before .before .before .before .before .before .before .before .args .f) (lent (now (c .before .before .before .before .before .before .before .before .before .before .before .before .before .before .args .records)) (now (c .before .before .before .before .before .before .before .before .before .before .before .before .before .before .args .texts)) (c .before .before .before .before .before .before .before .before .before .before .before .before .before .before .args .self)) (c .before .before .before .before .before .before .before .before .before .before .before .before .before .before .pre .1) (c .before .before .before .before .before .before .before .before .before .run-start .result) (c .before .before .before .before .before .before .before .before .least .result) (c .before .before .before .before .before .before .before .before .before .run-start .ensures) (c .before .before .before .before .before .before .before .before .least .ensures)) .2) ((dropped (c .before .before .before .before .before .before .before .before .before .before .before .before .before .before .args .f) (lent (now (c .before .before .before .before .before .before .before .before .before .before .before .before .before .before .args .records)) (now (c .before .before .before .before .before .before .before .before .before .before .before .before .before .before .args .texts)) (c .before .before .before .before .before .before .before .before .before .before .before .before .before .before .args .self)) (c .before .before .before .before .before .before .before .before .before .before .before .before .before .before .pre .1) (c .before .before .before .before .before .before .before .before .before .run-start .result) (c .before .before .before .before .before .before .before .before .least .result) (c .before .before .before .before .before .before .before .before .before .run-start .ensures) (c .before .before .before .before .before .before .before .before .least .ensures)) .0) 1 (omega (arith, c .before .before .before .before .before .before .before .if1 .left, (c .before .before .before .before .before .before .before .before .before .before .before .before .before .before .pre .1) .hold .room)) (sym (ap (λ (b : Bool). cond b 0 1) (le-ltb 0 (c .before .before .before .before .before .before .before .before .before .before .before .before .before .before .args .self .level - (c .before .before .before .before .before .before .before .before .least .result)) (omega (arith, c .before .if2 .taken))))))
 
 says-requires-3 : tie.Need-says-requires-3
 says-requires-3 c κs = search needs
@@ -75,7 +74,7 @@ same-length-3 : tie.Need-same-length-3
 same-length-3 c = search needs
 
 returns-3 : tie.Need-returns-3
-returns-3 c = ended-as (asFormat (c .before .before .before .before .before .before .before .before .before .before .before .before .before .before .args .f)) (lent (now (c .before .before .before .before .before .before .before .before .before .before .before .before .before .before .args .records)) (now (c .before .before .before .before .before .before .before .before .before .before .before .before .before .before .args .texts)) (c .before .before .before .before .before .before .before .before .before .before .before .before .before .before .args .self)) (endOut (asFormat (c .before .before .before .before .before .before .before .before .before .before .before .before .before .before .args .f)) (sizesOf (lent (now (c .before .before .before .before .before .before .before .before .before .before .before .before .before .before .args .records)) (now (c .before .before .before .before .before .before .before .before .before .before .before .before .before .before .args .texts)) (c .before .before .before .before .before .before .before .before .before .before .before .before .before .before .args .self))) (valueOf catalogue (asFormat (c .before .before .before .before .before .before .before .before .before .before .before .before .before .before .args .f)) (lent (now (c .before .before .before .before .before .before .before .before .before .before .before .before .before .before .args .records)) (now (c .before .before .before .before .before .before .before .before .before .before .before .before .before .before .args .texts)) (c .before .before .before .before .before .before .before .before .before .before .before .before .before .before .args .self)))) _ _ _ _ _ (c .says3 .ensures ∙ ap (says 0) (c .before .before .only-undo .ensures)) (c .before .before .before .before .before .fill .ensures) (end-takes (asFormat (c .before .before .before .before .before .before .before .before .before .before .before .before .before .before .args .f)) (lent (now (c .before .before .before .before .before .before .before .before .before .before .before .before .before .before .args .records)) (now (c .before .before .before .before .before .before .before .before .before .before .before .before .before .before .args .texts)) (c .before .before .before .before .before .before .before .before .before .before .before .before .before .before .args .self)) (c .before .before .before .before .before .before .before .before .before .before .before .before .before .before .pre .1) (c .before .before .before .before .before .before .before .before .least .result) (c .before .before .before .before .before .before .before .before .before .before .before .before .before .before .args .self .level - (c .before .before .before .before .before .before .before .before .least .result)) ((dropped (asFormat (c .before .before .before .before .before .before .before .before .before .before .before .before .before .before .args .f)) (lent (now (c .before .before .before .before .before .before .before .before .before .before .before .before .before .before .args .records)) (now (c .before .before .before .before .before .before .before .before .before .before .before .before .before .before .args .texts)) (c .before .before .before .before .before .before .before .before .before .before .before .before .before .before .args .self)) (c .before .before .before .before .before .before .before .before .before .before .before .before .before .before .pre .1) (c .before .before .before .before .before .before .before .before .before .run-start .result) (c .before .before .before .before .before .before .before .before .least .result) (c .before .before .before .before .before .before .before .before .before .run-start .ensures) (c .before .before .before .before .before .before .before .before .least .ensures)) .2) ((dropped (asFormat (c .before .before .before .before .before .before .before .before .before .before .before .before .before .before .args .f)) (lent (now (c .before .before .before .before .before .before .before .before .before .before .before .before .before .before .args .records)) (now (c .before .before .before .before .before .before .before .before .before .before .before .before .before .before .args .texts)) (c .before .before .before .before .before .before .before .before .before .before .before .before .before .before .args .self)) (c .before .before .before .before .before .before .before .before .before .before .before .before .before .before .pre .1) (c .before .before .before .before .before .before .before .before .before .run-start .result) (c .before .before .before .before .before .before .before .before .least .result) (c .before .before .before .before .before .before .before .before .before .run-start .ensures) (c .before .before .before .before .before .before .before .before .least .ensures)) .0) 0 (omega (arith, c .before .before .before .before .before .before .before .if1 .left, (c .before .before .before .before .before .before .before .before .before .before .before .before .before .before .pre .1) .hold .room)) (sym (ap (λ (b : Bool). cond b 0 1) (lt-ltb 0 (c .before .before .before .before .before .before .before .before .before .before .before .before .before .before .args .self .level - (c .before .before .before .before .before .before .before .before .least .result)) (omega (arith, c .before .if2 .left))))))
+returns-3 c = ended-as (c .before .before .before .before .before .before .before .before .before .before .before .before .before .before .args .f) (lent (now (c .before .before .before .before .before .before .before .before .before .before .before .before .before .before .args .records)) (now (c .before .before .before .before .before .before .before .before .before .before .before .before .before .before .args .texts)) (c .before .before .before .before .before .before .before .before .before .before .before .before .before .before .args .self)) (endOut (c .before .before .before .before .before .before .before .before .before .before .before .before .before .before .args .f) (sizesOf (lent (now (c .before .before .before .before .before .before .before .before .before .before .before .before .before .before .args .records)) (now (c .before .before .before .before .before .before .before .before .before .before .before .before .before .before .args .texts)) (c .before .before .before .before .before .before .before .before .before .before .before .before .before .before .args .self))) (valueOf catalogue (c .before .before .before .before .before .before .before .before .before .before .before .before .before .before .args .f) (lent (now (c .before .before .before .before .before .before .before .before .before .before .before .before .before .before .args .records)) (now (c .before .before .before .before .before .before .before .before .before .before .before .before .before .before .args .texts)) (c .before .before .before .before .before .before .before .before .before .before .before .before .before .before .args .self)))) _ _ _ _ _ (c .says3 .ensures ∙ ap (says 0) (c .before .before .only-undo .ensures)) (c .before .before .before .before .before .fill .ensures) (end-takes (c .before .before .before .before .before .before .before .before .before .before .before .before .before .before .args .f) (lent (now (c .before .before .before .before .before .before .before .before .before .before .before .before .before .before .args .records)) (now (c .before .before .before .before .before .before .before .before .before .before .before .before .before .before .args .texts)) (c .before .before .before .before .before .before .before .before .before .before .before .before .before .before .args .self)) (c .before .before .before .before .before .before .before .before .before .before .before .before .before .before .pre .1) (c .before .before .before .before .before .before .before .before .least .result) (c .before .before .before .before .before .before .before .before .before .before .before .before .before .before .args .self .level - (c .before .before .before .before .before .before .before .before .least .result)) ((dropped (c .before .before .before .before .before .before .before .before .before .before .before .before .before .before .args .f) (lent (now (c .before .before .before .before .before .before .before .before .before .before .before .before .before .before .args .records)) (now (c .before .before .before .before .before .before .before .before .before .before .before .before .before .before .args .texts)) (c .before .before .before .before .before .before .before .before .before .before .before .before .before .before .args .self)) (c .before .before .before .before .before .before .before .before .before .before .before .before .before .before .pre .1) (c .before .before .before .before .before .before .before .before .before .run-start .result) (c .before .before .before .before .before .before .before .before .least .result) (c .before .before .before .before .before .before .before .before .before .run-start .ensures) (c .before .before .before .before .before .before .before .before .least .ensures)) .2) ((dropped (c .before .before .before .before .before .before .before .before .before .before .before .before .before .before .args .f) (lent (now (c .before .before .before .before .before .before .before .before .before .before .before .before .before .before .args .records)) (now (c .before .before .before .before .before .before .before .before .before .before .before .before .before .before .args .texts)) (c .before .before .before .before .before .before .before .before .before .before .before .before .before .before .args .self)) (c .before .before .before .before .before .before .before .before .before .before .before .before .before .before .pre .1) (c .before .before .before .before .before .before .before .before .before .run-start .result) (c .before .before .before .before .before .before .before .before .least .result) (c .before .before .before .before .before .before .before .before .before .run-start .ensures) (c .before .before .before .before .before .before .before .before .least .ensures)) .0) 0 (omega (arith, c .before .before .before .before .before .before .before .if1 .left, (c .before .before .before .before .before .before .before .before .before .before .before .before .before .before .pre .1) .hold .room)) (sym (ap (λ (b : Bool). cond b 0 1) (lt-ltb 0 (c .before .before .before .before .before .before .before .before .before .before .before .before .before .before .args .self .level - (c .before .before .before .before .before .before .before .before .least .result)) (omega (arith, c .before .if2 .left))))))
 
 pub end-spec : {M : Type 1} → statement M
 end-spec =

@@ -2,7 +2,6 @@ use native.Mathlib.Omega.{arith}
 use mathlib.Core.Path.{sym, _∙_}
 use lib.Seq.{length-take-le}
 use denote.Ref.{now}
-use Rattle.records.specs.Formats.{asFormat}
 use Rattle.changeset.specs.Calls.{lent}
 use Rattle.changeset.proofs.Recorded.{listed}
 use Rattle.changeset.proofs.Groups.{start-within, rest-listed, new-within, finds, finds-none}
@@ -14,25 +13,25 @@ slice-aggregate-run-start : tie.Need-slice-aggregate-run-start
 slice-aggregate-run-start c = sym (length-take-le _ _ (omega (arith, (c .before .before .before .before .pre .1) .hold .room)))
 
 run-start-requires : tie.Need-run-start-requires
-run-start-requires c κs = (c .before .before .before .before .pre .0, listed (asFormat (c .before .before .before .before .args .f)) (lent (now (c .before .before .before .before .args .records)) (now (c .before .before .before .before .args .texts)) (c .before .before .before .before .args .self)) (c .before .before .before .before .pre .1))
+run-start-requires c κs = (c .before .before .before .before .pre .0, listed (c .before .before .before .before .args .f) (lent (now (c .before .before .before .before .args .records)) (now (c .before .before .before .before .args .texts)) (c .before .before .before .before .args .self)) (c .before .before .before .before .pre .1))
 
 slice-aggregate-tail-of : tie.Need-slice-aggregate-tail-of
-slice-aggregate-tail-of c = sym (length-take-le _ _ (omega (arith, (c .before .before .before .before .before .before .pre .1) .hold .room, start-within (asFormat (c .before .before .before .before .before .before .args .f)) (lent (now (c .before .before .before .before .before .before .args .records)) (now (c .before .before .before .before .before .before .args .texts)) (c .before .before .before .before .before .before .args .self)) (c .before .before .before .before .before .before .pre .1) (c .before .run-start .result) (c .before .run-start .ensures))))
+slice-aggregate-tail-of c = sym (length-take-le _ _ (omega (arith, (c .before .before .before .before .before .before .pre .1) .hold .room, start-within (c .before .before .before .before .before .before .args .f) (lent (now (c .before .before .before .before .before .before .args .records)) (now (c .before .before .before .before .before .before .args .texts)) (c .before .before .before .before .before .before .args .self)) (c .before .before .before .before .before .before .pre .1) (c .before .run-start .result) (c .before .run-start .ensures))))
 
 tail-of-requires : tie.Need-tail-of-requires
-tail-of-requires c κs = (c .before .before .before .before .before .before .pre .0, rest-listed (asFormat (c .before .before .before .before .before .before .args .f)) (lent (now (c .before .before .before .before .before .before .args .records)) (now (c .before .before .before .before .before .before .args .texts)) (c .before .before .before .before .before .before .args .self)) (c .before .before .before .before .before .before .pre .1) (c .before .run-start .result) (c .before .run-start .ensures))
+tail-of-requires c κs = (c .before .before .before .before .before .before .pre .0, rest-listed (c .before .before .before .before .before .before .args .f) (lent (now (c .before .before .before .before .before .before .args .records)) (now (c .before .before .before .before .before .before .args .texts)) (c .before .before .before .before .before .before .args .self)) (c .before .before .before .before .before .before .pre .1) (c .before .run-start .result) (c .before .run-start .ensures))
 
 sub-t17 : tie.Need-sub-t17
-sub-t17 c = new-within (asFormat (c .before .before .before .before .before .before .before .before .before .before .before .args .f)) (lent (now (c .before .before .before .before .before .before .before .before .before .before .before .args .records)) (now (c .before .before .before .before .before .before .before .before .before .before .before .args .texts)) (c .before .before .before .before .before .before .before .before .before .before .before .args .self)) (c .before .before .before .before .before .before .before .before .before .before .before .pre .1) (c .before .before .before .before .before .before .run-start .result) (c .before .before .before .before .before .before .run-start .ensures) (c .before .before .before .before .tail-of .result) (c .before .before .before .before .tail-of .ensures)
+sub-t17 c = new-within (c .before .before .before .before .before .before .before .before .before .before .before .args .f) (lent (now (c .before .before .before .before .before .before .before .before .before .before .before .args .records)) (now (c .before .before .before .before .before .before .before .before .before .before .before .args .texts)) (c .before .before .before .before .before .before .before .before .before .before .before .args .self)) (c .before .before .before .before .before .before .before .before .before .before .before .pre .1) (c .before .before .before .before .before .before .run-start .result) (c .before .before .before .before .before .before .run-start .ensures) (c .before .before .before .before .tail-of .result) (c .before .before .before .before .tail-of .ensures)
 
 returns : tie.Need-returns
-returns c = finds (asFormat (c .before .before .before .before .before .before .before .before .before .before .before .args .f)) (lent (now (c .before .before .before .before .before .before .before .before .before .before .before .args .records)) (now (c .before .before .before .before .before .before .before .before .before .before .before .args .texts)) (c .before .before .before .before .before .before .before .before .before .before .before .args .self)) (c .before .before .before .before .before .before .before .before .before .before .before .pre .1) (c .before .before .before .before .before .before .run-start .result) (c .before .before .before .before .before .before .run-start .ensures) (c .before .before .before .before .tail-of .result) (c .before .before .before .before .tail-of .ensures) (c .before .if1 .taken)
+returns c = finds (c .before .before .before .before .before .before .before .before .before .before .before .args .f) (lent (now (c .before .before .before .before .before .before .before .before .before .before .before .args .records)) (now (c .before .before .before .before .before .before .before .before .before .before .before .args .texts)) (c .before .before .before .before .before .before .before .before .before .before .before .args .self)) (c .before .before .before .before .before .before .before .before .before .before .before .pre .1) (c .before .before .before .before .before .before .run-start .result) (c .before .before .before .before .before .before .run-start .ensures) (c .before .before .before .before .tail-of .result) (c .before .before .before .before .tail-of .ensures) (c .before .if1 .taken)
 
 says-requires : tie.Need-says-requires
 says-requires c κs = search needs
 
 returns-2 : tie.Need-returns-2
-returns-2 c = c .says .ensures ∙ finds-none (asFormat (c .before .before .before .before .before .before .before .before .before .before .before .args .f)) (lent (now (c .before .before .before .before .before .before .before .before .before .before .before .args .records)) (now (c .before .before .before .before .before .before .before .before .before .before .before .args .texts)) (c .before .before .before .before .before .before .before .before .before .before .before .args .self)) (c .before .before .before .before .before .before .before .before .before .before .before .pre .1) (c .before .before .before .before .before .before .run-start .result) (c .before .before .before .before .before .before .run-start .ensures) (c .before .before .before .before .tail-of .result) (c .before .before .before .before .tail-of .ensures) (c .before .if1 .left)
+returns-2 c = c .says .ensures ∙ finds-none (c .before .before .before .before .before .before .before .before .before .before .before .args .f) (lent (now (c .before .before .before .before .before .before .before .before .before .before .before .args .records)) (now (c .before .before .before .before .before .before .before .before .before .before .before .args .texts)) (c .before .before .before .before .before .before .before .before .before .before .before .args .self)) (c .before .before .before .before .before .before .before .before .before .before .before .pre .1) (c .before .before .before .before .before .before .run-start .result) (c .before .before .before .before .before .before .run-start .ensures) (c .before .before .before .before .tail-of .result) (c .before .before .before .before .tail-of .ensures) (c .before .if1 .left)
 
 pub last-insert-spec : {M : Type 1} → statement M
 last-insert-spec =

@@ -3,7 +3,6 @@ use mathlib.Core.Path.{sym}
 use lib.Seq.{length-take-le}
 use denote.Ref.{now}
 use Rattle.unicode.specs.Repertoire.{catalogue}
-use Rattle.records.specs.Formats.{asFormat}
 use Rattle.changeset.specs.Outcomes.{truncateOut}
 use Rattle.changeset.specs.Calls.{lent, valueOf}
 use Rattle.changeset.proofs.Answers.{answered-as}
@@ -20,19 +19,19 @@ slice-aggregate-walk : tie.Need-slice-aggregate-walk
 slice-aggregate-walk c = sym (length-take-le _ _ (omega (arith, (c .before .before .before .before .before .pre .1) .hold .room)))
 
 walk-requires : tie.Need-walk-requires
-walk-requires c κs = (c .before .before .before .before .before .pre .0, (listed (asFormat (c .before .before .before .before .before .args .f)) (lent (now (c .before .before .before .before .before .args .records)) (now (c .before .before .before .before .before .args .texts)) (c .before .before .before .before .before .args .self)) (c .before .before .before .before .before .pre .1), omega (arith, length-take-le (c .before .before .before .before .before .args .self .undo .records) (now (c .before .before .before .before .before .args .records)) (omega (arith, (c .before .before .before .before .before .pre .1) .hold .room)), (c .before .before .before .before .before .pre .1) .records)))
+walk-requires c κs = (c .before .before .before .before .before .pre .0, (listed (c .before .before .before .before .before .args .f) (lent (now (c .before .before .before .before .before .args .records)) (now (c .before .before .before .before .before .args .texts)) (c .before .before .before .before .before .args .self)) (c .before .before .before .before .before .pre .1), omega (arith, length-take-le (c .before .before .before .before .before .args .self .undo .records) (now (c .before .before .before .before .before .args .records)) (omega (arith, (c .before .before .before .before .before .pre .1) .hold .room)), (c .before .before .before .before .before .pre .1) .records)))
 
 add-cut-bytes : tie.Need-add-cut-bytes
 add-cut-bytes c = omega (arith, (c .before .before .before .before .before .before .before .before .pre .1) .hold .room, (c .before .before .before .before .before .before .before .before .pre .1) .records)
 
 cut-bytes-requires : tie.Need-cut-bytes-requires
-cut-bytes-requires c κs = (cut-within (asFormat (c .before .before .before .before .before .before .before .before .args .f)) (lent (now (c .before .before .before .before .before .before .before .before .args .records)) (now (c .before .before .before .before .before .before .before .before .args .texts)) (c .before .before .before .before .before .before .before .before .args .self)) (c .before .before .before .before .before .before .before .before .pre .1) (c .before .before .before .before .before .before .before .before .args .len) (c .before .before .walk .result) (c .before .before .walk .ensures) .0, (omega arith, (c .before .before .before .before .before .before .before .before .pre .1) .hold .room))
+cut-bytes-requires c κs = (cut-within (c .before .before .before .before .before .before .before .before .args .f) (lent (now (c .before .before .before .before .before .before .before .before .args .records)) (now (c .before .before .before .before .before .before .before .before .args .texts)) (c .before .before .before .before .before .before .before .before .args .self)) (c .before .before .before .before .before .before .before .before .pre .1) (c .before .before .before .before .before .before .before .before .args .len) (c .before .before .walk .result) (c .before .before .walk .ensures) .0, (omega arith, (c .before .before .before .before .before .before .before .before .pre .1) .hold .room))
 
 add-cut-bytes-2 : tie.Need-add-cut-bytes-2
 add-cut-bytes-2 c = omega (arith, (c .before .before .before .before .before .before .before .before .before .before .before .before .before .pre .1) .hold .space, (c .before .before .before .before .before .before .before .before .before .before .before .before .before .pre .1) .texts)
 
 cut-bytes-requires-2 : tie.Need-cut-bytes-requires-2
-cut-bytes-requires-2 c κs = (cut-within (asFormat (c .before .before .before .before .before .before .before .before .before .before .before .before .before .args .f)) (lent (now (c .before .before .before .before .before .before .before .before .before .before .before .before .before .args .records)) (now (c .before .before .before .before .before .before .before .before .before .before .before .before .before .args .texts)) (c .before .before .before .before .before .before .before .before .before .before .before .before .before .args .self)) (c .before .before .before .before .before .before .before .before .before .before .before .before .before .pre .1) (c .before .before .before .before .before .before .before .before .before .before .before .before .before .args .len) (c .before .before .before .before .before .before .before .walk .result) (c .before .before .before .before .before .before .before .walk .ensures) .1, (omega arith, (c .before .before .before .before .before .before .before .before .before .before .before .before .before .pre .1) .hold .space))
+cut-bytes-requires-2 c κs = (cut-within (c .before .before .before .before .before .before .before .before .before .before .before .before .before .args .f) (lent (now (c .before .before .before .before .before .before .before .before .before .before .before .before .before .args .records)) (now (c .before .before .before .before .before .before .before .before .before .before .before .before .before .args .texts)) (c .before .before .before .before .before .before .before .before .before .before .before .before .before .args .self)) (c .before .before .before .before .before .before .before .before .before .before .before .before .before .pre .1) (c .before .before .before .before .before .before .before .before .before .before .before .before .before .args .len) (c .before .before .before .before .before .before .before .walk .result) (c .before .before .before .before .before .before .before .walk .ensures) .1, (omega arith, (c .before .before .before .before .before .before .before .before .before .before .before .before .before .pre .1) .hold .space))
 
 says-requires : tie.Need-says-requires
 says-requires c κs = search needs
@@ -44,7 +43,7 @@ same-length-2 : tie.Need-same-length-2
 same-length-2 c = search needs
 
 returns : tie.Need-returns
-returns c = answered-as (asFormat (c .before .before .before .before .before .before .before .before .before .before .before .before .before .before .before .before .before .args .f)) (lent (now (c .before .before .before .before .before .before .before .before .before .before .before .before .before .before .before .before .before .args .records)) (now (c .before .before .before .before .before .before .before .before .before .before .before .before .before .before .before .before .before .args .texts)) (c .before .before .before .before .before .before .before .before .before .before .before .before .before .before .before .before .before .args .self)) (truncateOut (c .before .before .before .before .before .before .before .before .before .before .before .before .before .before .before .before .before .args .len) (valueOf catalogue (asFormat (c .before .before .before .before .before .before .before .before .before .before .before .before .before .before .before .before .before .args .f)) (lent (now (c .before .before .before .before .before .before .before .before .before .before .before .before .before .before .before .before .before .args .records)) (now (c .before .before .before .before .before .before .before .before .before .before .before .before .before .before .before .before .before .args .texts)) (c .before .before .before .before .before .before .before .before .before .before .before .before .before .before .before .before .before .args .self)))) _ _ _ _ (c .says .ensures) (truncates (asFormat (c .before .before .before .before .before .before .before .before .before .before .before .before .before .before .before .before .before .args .f)) (lent (now (c .before .before .before .before .before .before .before .before .before .before .before .before .before .before .before .before .before .args .records)) (now (c .before .before .before .before .before .before .before .before .before .before .before .before .before .before .before .before .before .args .texts)) (c .before .before .before .before .before .before .before .before .before .before .before .before .before .before .before .before .before .args .self)) (c .before .before .before .before .before .before .before .before .before .before .before .before .before .before .before .before .before .pre .1) (c .before .before .before .before .before .before .before .before .before .before .before .before .before .before .before .before .before .args .len) (c .before .before .before .before .before .before .before .before .before .before .before .walk .result) (c .before .before .before .before .before .before .before .before .before .before .before .walk .ensures) (c .before .before .before .before .before .before .before .before .cut-bytes .last .0) (c .before .before .before .cut-bytes2 .last .0) (c .before .before .before .before .before .before .before .before .cut-bytes .kept .0) (c .before .before .before .cut-bytes2 .kept .0) (c .before .before .before .before .before .before .before .before .cut-bytes .ensures) (c .before .before .before .cut-bytes2 .ensures))
+returns c = answered-as (c .before .before .before .before .before .before .before .before .before .before .before .before .before .before .before .before .before .args .f) (lent (now (c .before .before .before .before .before .before .before .before .before .before .before .before .before .before .before .before .before .args .records)) (now (c .before .before .before .before .before .before .before .before .before .before .before .before .before .before .before .before .before .args .texts)) (c .before .before .before .before .before .before .before .before .before .before .before .before .before .before .before .before .before .args .self)) (truncateOut (c .before .before .before .before .before .before .before .before .before .before .before .before .before .before .before .before .before .args .len) (valueOf catalogue (c .before .before .before .before .before .before .before .before .before .before .before .before .before .before .before .before .before .args .f) (lent (now (c .before .before .before .before .before .before .before .before .before .before .before .before .before .before .before .before .before .args .records)) (now (c .before .before .before .before .before .before .before .before .before .before .before .before .before .before .before .before .before .args .texts)) (c .before .before .before .before .before .before .before .before .before .before .before .before .before .before .before .before .before .args .self)))) _ _ _ _ (c .says .ensures) (truncates (c .before .before .before .before .before .before .before .before .before .before .before .before .before .before .before .before .before .args .f) (lent (now (c .before .before .before .before .before .before .before .before .before .before .before .before .before .before .before .before .before .args .records)) (now (c .before .before .before .before .before .before .before .before .before .before .before .before .before .before .before .before .before .args .texts)) (c .before .before .before .before .before .before .before .before .before .before .before .before .before .before .before .before .before .args .self)) (c .before .before .before .before .before .before .before .before .before .before .before .before .before .before .before .before .before .pre .1) (c .before .before .before .before .before .before .before .before .before .before .before .before .before .before .before .before .before .args .len) (c .before .before .before .before .before .before .before .before .before .before .before .walk .result) (c .before .before .before .before .before .before .before .before .before .before .before .walk .ensures) (c .before .before .before .before .before .before .before .before .cut-bytes .last .0) (c .before .before .before .cut-bytes2 .last .0) (c .before .before .before .before .before .before .before .before .cut-bytes .kept .0) (c .before .before .before .cut-bytes2 .kept .0) (c .before .before .before .before .before .before .before .before .cut-bytes .ensures) (c .before .before .before .cut-bytes2 .ensures))
 
 pub truncate-spec : {M : Type 1} → statement M
 truncate-spec =

@@ -1,6 +1,5 @@
 use mathlib.Core.Path.{sym, _∙_}
 use borrow.Author.Tests.{not-true, not-false}
-use Rattle.records.specs.Formats.{asFormat}
 use Rattle.recording.proofs.Joins.{may-not, other-kind, follows, no-cut, away, before}
 use borrow.Author.Needs.{needs}
 use Rattle.recording.proofs.Tail.note.Statement.{statement}
@@ -10,13 +9,13 @@ apart-requires : tie.Need-apart-requires
 apart-requires c κs = search needs
 
 returns : tie.Need-returns
-returns c = c .apart .ensures ∙ may-not (asFormat (c .before .before .args .f)) (c .before .before .args .kind) (c .before .before .args .place) (c .before .before .args .old) (c .before .before .args .new) (c .before .before .args .self) (c .before .before .args .joins) (not-true _ (c .before .if1 .taken))
+returns c = c .apart .ensures ∙ may-not (c .before .before .args .f) (c .before .before .args .kind) (c .before .before .args .place) (c .before .before .args .old) (c .before .before .args .new) (c .before .before .args .self) (c .before .before .args .joins) (not-true _ (c .before .if1 .taken))
 
 apart-requires-2 : tie.Need-apart-requires-2
 apart-requires-2 c κs = search needs
 
 returns-2 : tie.Need-returns-2
-returns-2 c = c .apart2 .ensures ∙ other-kind (asFormat (c .before .before .before .before .args .f)) (c .before .before .before .before .args .kind) (c .before .before .before .before .args .place) (c .before .before .before .before .args .old) (c .before .before .before .before .args .new) (c .before .before .before .before .args .self) (c .before .before .before .before .args .joins) (not-false _ (c .before .before .before .if1 .left)) (c .before .if2 .taken)
+returns-2 c = c .apart2 .ensures ∙ other-kind (c .before .before .before .before .args .f) (c .before .before .before .before .args .kind) (c .before .before .before .before .args .place) (c .before .before .before .before .args .old) (c .before .before .before .before .args .new) (c .before .before .before .before .args .self) (c .before .before .before .before .args .joins) (not-false _ (c .before .before .before .if1 .left)) (c .before .if2 .taken)
 
 add-texts : tie.Need-add-texts
 add-texts c = search needs
@@ -37,13 +36,13 @@ sub-t14 : tie.Need-sub-t14
 sub-t14 c = search needs
 
 returns-3 : tie.Need-returns-3
-returns-3 c = follows (asFormat (c .before .before .before .before .before .before .before .before .before .args .f)) (c .before .before .before .before .before .before .before .before .before .args .kind) (c .before .before .before .before .before .before .before .before .before .args .place) (c .before .before .before .before .before .before .before .before .before .args .old) (c .before .before .before .before .before .before .before .before .before .args .new) (c .before .before .before .before .before .before .before .before .before .args .self) (c .before .before .before .before .before .before .before .before .before .args .joins) (not-false _ (c .before .before .before .before .before .before .before .before .if1 .left)) (c .before .before .before .before .before .before .if2 .left) (c .before .before .before .if3 .taken)
+returns-3 c = follows (c .before .before .before .before .before .before .before .before .before .args .f) (c .before .before .before .before .before .before .before .before .before .args .kind) (c .before .before .before .before .before .before .before .before .before .args .place) (c .before .before .before .before .before .before .before .before .before .args .old) (c .before .before .before .before .before .before .before .before .before .args .new) (c .before .before .before .before .before .before .before .before .before .args .self) (c .before .before .before .before .before .before .before .before .before .args .joins) (not-false _ (c .before .before .before .before .before .before .before .before .if1 .left)) (c .before .before .before .before .before .before .if2 .left) (c .before .before .before .if3 .taken)
 
 apart-requires-3 : tie.Need-apart-requires-3
 apart-requires-3 c κs = search needs
 
 returns-4 : tie.Need-returns-4
-returns-4 c = c .apart3 .ensures ∙ no-cut (asFormat (c .before .before .before .before .before .before .before .before .args .f)) (c .before .before .before .before .before .before .before .before .args .kind) (c .before .before .before .before .before .before .before .before .args .place) (c .before .before .before .before .before .before .before .before .args .old) (c .before .before .before .before .before .before .before .before .args .new) (c .before .before .before .before .before .before .before .before .args .self) (c .before .before .before .before .before .before .before .before .args .joins) (not-false _ (c .before .before .before .before .before .before .before .if1 .left)) (c .before .before .before .before .before .if2 .left) (c .before .before .if3 .left) (c .before .if4 .taken)
+returns-4 c = c .apart3 .ensures ∙ no-cut (c .before .before .before .before .before .before .before .before .args .f) (c .before .before .before .before .before .before .before .before .args .kind) (c .before .before .before .before .before .before .before .before .args .place) (c .before .before .before .before .before .before .before .before .args .old) (c .before .before .before .before .before .before .before .before .args .new) (c .before .before .before .before .before .before .before .before .args .self) (c .before .before .before .before .before .before .before .before .args .joins) (not-false _ (c .before .before .before .before .before .before .before .if1 .left)) (c .before .before .before .before .before .if2 .left) (c .before .before .if3 .left) (c .before .if4 .taken)
 
 ends-at-requires : tie.Need-ends-at-requires
 ends-at-requires c κs = search needs
@@ -52,7 +51,7 @@ apart-requires-4 : tie.Need-apart-requires-4
 apart-requires-4 c κs = search needs
 
 returns-5 : tie.Need-returns-5
-returns-5 c = c .apart4 .ensures ∙ away (asFormat (c .before .before .before .before .before .before .before .before .before .before .args .f)) (c .before .before .before .before .before .before .before .before .before .before .args .kind) (c .before .before .before .before .before .before .before .before .before .before .args .place) (c .before .before .before .before .before .before .before .before .before .before .args .old) (c .before .before .before .before .before .before .before .before .before .before .args .new) (c .before .before .before .before .before .before .before .before .before .before .args .self) (c .before .before .before .before .before .before .before .before .before .before .args .joins) (not-false _ (c .before .before .before .before .before .before .before .before .before .if1 .left)) (c .before .before .before .before .before .before .before .if2 .left) (c .before .before .before .before .if3 .left) (c .before .before .before .if4 .left) (sym (c .before .before .ends-at .ensures) ∙ not-true _ (c .before .if5 .taken))
+returns-5 c = c .apart4 .ensures ∙ away (c .before .before .before .before .before .before .before .before .before .before .args .f) (c .before .before .before .before .before .before .before .before .before .before .args .kind) (c .before .before .before .before .before .before .before .before .before .before .args .place) (c .before .before .before .before .before .before .before .before .before .before .args .old) (c .before .before .before .before .before .before .before .before .before .before .args .new) (c .before .before .before .before .before .before .before .before .before .before .args .self) (c .before .before .before .before .before .before .before .before .before .before .args .joins) (not-false _ (c .before .before .before .before .before .before .before .before .before .if1 .left)) (c .before .before .before .before .before .before .before .if2 .left) (c .before .before .before .before .if3 .left) (c .before .before .before .if4 .left) (sym (c .before .before .ends-at .ensures) ∙ not-true _ (c .before .if5 .taken))
 
 add-t10 : tie.Need-add-t10
 add-t10 c = search needs
@@ -67,7 +66,7 @@ sub-t19 : tie.Need-sub-t19
 sub-t19 c = search needs
 
 returns-6 : tie.Need-returns-6
-returns-6 c = before (asFormat (c .before .before .before .before .before .before .before .before .before .before .before .before .before .args .f)) (c .before .before .before .before .before .before .before .before .before .before .before .before .before .args .kind) (c .before .before .before .before .before .before .before .before .before .before .before .before .before .args .place) (c .before .before .before .before .before .before .before .before .before .before .before .before .before .args .old) (c .before .before .before .before .before .before .before .before .before .before .before .before .before .args .new) (c .before .before .before .before .before .before .before .before .before .before .before .before .before .args .self) (c .before .before .before .before .before .before .before .before .before .before .before .before .before .args .joins) (not-false _ (c .before .before .before .before .before .before .before .before .before .before .before .before .if1 .left)) (c .before .before .before .before .before .before .before .before .before .before .if2 .left) (c .before .before .before .before .before .before .before .if3 .left) (c .before .before .before .before .before .before .if4 .left) (sym (c .before .before .before .before .before .ends-at .ensures) ∙ not-false _ (c .before .before .before .before .if5 .left))
+returns-6 c = before (c .before .before .before .before .before .before .before .before .before .before .before .before .before .args .f) (c .before .before .before .before .before .before .before .before .before .before .before .before .before .args .kind) (c .before .before .before .before .before .before .before .before .before .before .before .before .before .args .place) (c .before .before .before .before .before .before .before .before .before .before .before .before .before .args .old) (c .before .before .before .before .before .before .before .before .before .before .before .before .before .args .new) (c .before .before .before .before .before .before .before .before .before .before .before .before .before .args .self) (c .before .before .before .before .before .before .before .before .before .before .before .before .before .args .joins) (not-false _ (c .before .before .before .before .before .before .before .before .before .before .before .before .if1 .left)) (c .before .before .before .before .before .before .before .before .before .before .if2 .left) (c .before .before .before .before .before .before .before .if3 .left) (c .before .before .before .before .before .before .if4 .left) (sym (c .before .before .before .before .before .ends-at .ensures) ∙ not-false _ (c .before .before .before .before .if5 .left))
 
 pub note-spec : {M : Type 1} → statement M
 note-spec =

@@ -1,0 +1,25 @@
+use borrow.Author.Needs.{needs}
+use mathlib.Core.Path.{ap, _∙_}
+use mathlib.Core.Bool.{false}
+use denote.Ref.{now}
+use Rattle.unicode.specs.Repertoire.{catalogue}
+use Rattle.formats.specs.declared.Format.{Format}
+use Rattle.formats.proofs.Formats.{fit-for}
+use Rattle.changeset.specs.Calls.{lent, checked}
+use Rattle.scan_bench.proofs.tlf_bench_check_log.Statement.{statement}
+use Rattle.scan_bench.proofs.tlf_bench_check_log.Tie as tie
+
+format-for-requires : tie.Need-format-for-requires
+format-for-requires c κs = search needs
+
+refusal-requires : tie.Need-refusal-requires
+refusal-requires c κs = fit-for _ c.format-for.ensures
+
+returns : tie.Need-returns
+returns c =
+    let entry = c .before .before .before .before in
+    let l = lent (now entry.args.records) (now entry.args.texts) entry.args.log in
+    c.refusal.ensures.0 ∙ ap (λ (F : Format). checked catalogue F l false) c.before.format-for.ensures
+
+pub tlf-bench-check-log-spec : {M : Type 1} → statement M
+tlf-bench-check-log-spec = tie.close (tie.spec format-for-requires refusal-requires returns)
