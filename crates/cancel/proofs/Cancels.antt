@@ -27,7 +27,7 @@ use Rattle.undo.specs.Undo.{Walked, numberOf, trailOf}
 use Rattle.undo.specs.Steps.{trailBy, lineOf, PassesOne}
 use Rattle.undo.proofs.Seams.{held}
 use Rattle.undo.proofs.Walks.{walked, Come, come-first, outOf, edited, still, ended, stopped-there, stop-ended, goes, come-next, from-there, to-there, trail-there, tried-there}
-use Rattle.cancel.specs.Cancel.{opens, walkTo, beginsDown, cancelled, cancelOut}
+use Rattle.cancel.specs.Cancel.{opens, walkTo, beginsDown, cancelOut}
 use Rattle.cancel.specs.Open.{openBegins}
 
 -- ---- a group that is open

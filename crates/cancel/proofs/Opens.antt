@@ -12,13 +12,16 @@ use Rattle.lists.proofs.Bools.{and-both, by-test}
 use Rattle.unicode.specs.Repertoire.{Repertoire}
 use Rattle.journal.specs.Change.{Change, begin, end, edit, insert, delete, replace}
 use Rattle.formats.specs.declared.Format.{Format}
-use Rattle.journal.specs.Layout.{kindOf, recordOf, encodeTexts, Layout}
+use Rattle.journal.specs.Layout.{recordOf, encodeTexts, Layout}
 use Rattle.journal.specs.Undo.{undoRecords}
 use Rattle.journal.proofs.Decode.{record-pos}
 use Rattle.journal.proofs.Newest.{undo-reverse, undo-nil}
 use Rattle.journal.proofs.Undo.{records-size}
 use Rattle.journal.proofs.Walk.{reads-at, whole-at}
-use Rattle.retrace.specs.Records.{SizesOf, Noted}
+use Rattle.records.specs.declared.Record.{Record}
+use Rattle.records.specs.Records.{numbersOf, recordAt}
+use Rattle.records.specs.Walks.{SizesOf, SizesNoted}
+use Rattle.records.proofs.Records.{record-behind}
 use Rattle.cancel.specs.Cancel.{opens, beginsDown}
 use Rattle.cancel.specs.Open.{openBegins}
 
@@ -28,14 +31,14 @@ openDown b m u = cond (opens m u) (b + beginsDown m u) 0
 
 -- ---- a record by its kind k
 -- an edit is passed
-kind-edit : (F : Format) (k : ℕ) (c : Change) → k ≡ kindOf F c → (k ≡ 1 → ⊥) → (k ≡ 2 → ⊥) → (m : ℕ) (u : List Change) (b : ℕ) → openDown b m (c ∷ u) ≡ openDown b m u
+kind-edit : (F : Format) (k : ℕ) (c : Change) → k ≡ numbersOf F c .kind → (k ≡ 1 → ⊥) → (k ≡ 2 → ⊥) → (m : ℕ) (u : List Change) (b : ℕ) → openDown b m (c ∷ u) ≡ openDown b m u
 unfolding opens beginsDown
 kind-edit F k begin e f g m u b = absurd (f e)
 kind-edit F k end e f g m u b = absurd (g e)
 kind-edit F k (edit x) e f g m u b = refl
 
 -- an End closes what is before it
-kind-end : (F : Format) (k : ℕ) (c : Change) → k ≡ kindOf F c → k ≡ 2 → (m : ℕ) (u : List Change) (b : ℕ) → openDown b m (c ∷ u) ≡ 0
+kind-end : (F : Format) (k : ℕ) (c : Change) → k ≡ numbersOf F c .kind → k ≡ 2 → (m : ℕ) (u : List Change) (b : ℕ) → openDown b m (c ∷ u) ≡ 0
 unfolding opens
 kind-end F k begin e f m u b = absurd (omega arith)
 kind-end F k end e f m u b = refl
@@ -44,7 +47,7 @@ kind-end F k (edit (delete p s)) e f m u b = absurd (omega arith)
 kind-end F k (edit (replace p o n)) e f m u b = absurd (omega arith)
 
 -- a Begin
-kind-begin : (F : Format) (k : ℕ) (c : Change) → k ≡ kindOf F c → k ≡ 1 → c ≡ begin
+kind-begin : (F : Format) (k : ℕ) (c : Change) → k ≡ numbersOf F c .kind → k ≡ 1 → c ≡ begin
 kind-begin F k begin e f = refl
 kind-begin F k end e f = absurd (omega arith)
 kind-begin F k (edit (insert p s)) e f = absurd (omega arith)
@@ -80,7 +83,7 @@ pub record Downto (F : Format) (sizes : List ℕ) (m at left begins : ℕ) (us :
   pub noted : SizesOf F sizes rest
   pub same : openBegins m (reverse us) ≡ openDown begins m rest
 
--- the record that ends at at: its size, where it begins, its kind
+-- the record that ends at at: its size, where it begins, its numbers
 pub record Last (F : Format) (rs : List ℕ) (n at left : ℕ) (rest : List Change) : Type 0 where
   pub change : Change
   pub before : List Change
@@ -89,10 +92,9 @@ pub record Last (F : Format) (rs : List ℕ) (n at left : ℕ) (rest : List Chan
   pub within : n ≤ at
   pub some : 0 < n
   pub fewer : left - 1 ≡ length before
-  pub inside : at - n < length rs
   pub whole : at ≤ length rs
   pub more : 0 < left
-  pub kind : getD rs (at - n) 0 ≡ kindOf F change
+  pub numbers : recordAt F rs (at - n) ≡ numbersOf F change
   pub place : at - n ≡ length (undoRecords F before)
 
 module _ (R : Repertoire) (F : Format) (rs sizes : List ℕ) (m : ℕ) where
@@ -101,7 +103,7 @@ module _ (R : Repertoire) (F : Format) (rs sizes : List ℕ) (m : ℕ) where
   Downs at left begins = (ts : List ℕ) (us : List Change) → Layout R F rs ts us → Downto F sizes m at left begins us
 
   -- at its beginning
-  pub down-first : (count : ℕ) → Noted R F rs count sizes → Downs (length rs) count 0
+  pub down-first : (count : ℕ) → SizesNoted R F rs count sizes → Downs (length rs) count 0
   down-first count w ts us l =
       record {
         rest = reverse us;
@@ -126,11 +128,11 @@ module _ {R : Repertoire} {F : Format} {rs sizes : List ℕ} {m at left begins :
   split : (c : Change) (u : List Change) → d .rest ≡ c ∷ u → us ≡ reverse u ++ (c ∷ d .passed)
   split c u e = d .row ∙ ap (λ (a : List Change). reverse a ++ d .passed) e ∙ ap (λ (a : List Change). a ++ d .passed) (reverse-cons c u) ∙ append-assoc (reverse u) (c ∷ []) (d .passed)
 
-  -- its kind is read there, and its bytes lie in the list
+  -- its numbers are read there, and its bytes lie in the list
   module _ (c : Change) (u : List Change) (e : d .rest ≡ c ∷ u) (i : ℕ) (p : i ≡ length (undoRecords F u)) where
-    kind-at : getD rs i 0 ≡ kindOf F c
+    numbers-at : recordAt F rs i ≡ numbersOf F c
     unfolding undoRecords
-    kind-at = reads-at R F rs ts (reverse u) (d .passed) c i (length (encodeTexts (reverse u))) (subst (Layout R F rs ts) (split c u e) l) p refl .kind
+    numbers-at = record-behind R F rs ts (reverse u) (d .passed) c i (subst (Layout R F rs ts) (split c u e) l) p
 
     inside-at : i + length (recordOf F c) ≤ length rs
     unfolding undoRecords
@@ -157,48 +159,55 @@ module _ {R : Repertoire} {F : Format} {rs sizes : List ℕ} {m at left begins :
             within = omega (arith, z, p, records-size F c u);
             some = omega (arith, z, record-pos F c);
             fewer = omega (arith, d .count, ap length e);
-            inside = omega (arith, z, record-pos F c, inside-at c u e (at - getD sizes (at - 1) 0) q);
             whole = omega (arith, z, q, p, records-size F c u, inside-at c u e (at - getD sizes (at - 1) 0) q);
             more = omega (arith, d .count, ap length e);
-            kind = kind-at c u e (at - getD sizes (at - 1) 0) q;
+            numbers = numbers-at c u e (at - getD sizes (at - 1) 0) q;
             place = q;
           }
 
-  module _ (h : 0 < at) {k i : ℕ} (q : k ≡ getD rs (at - getD sizes (at - 1) 0) 0) (f : i ≡ cond (eqb k 1) 1 0) where
+  -- it is read as r
+  module _ (h : 0 < at) {r : Record} (q : r ≡ recordAt F rs (at - getD sizes (at - 1) 0)) where
+    abbrev k : ℕ
+    k = r .kind
+
     abbrev x : Last F rs (getD sizes (at - 1) 0) at left (d .rest)
     x = last h
 
+    kind-is : k ≡ numbersOf F (x .change) .kind
+    kind-is = ap (λ (a : Record). a .kind) (q ∙ x .numbers)
+
     -- an End comes before the mark
     pub down-end : k ≡ 2 → 0 ≡ openBegins m (reverse us)
-    down-end z = sym (d .same ∙ ap (openDown begins m) (x .is) ∙ kind-end F k (x .change) (q ∙ x .kind) z m (x .before) begins)
+    down-end z = sym (d .same ∙ ap (openDown begins m) (x .is) ∙ kind-end F k (x .change) kind-is z m (x .before) begins)
 
-    -- the Begin of the mark
-    pub down-found : (eqb k 1 && eqb (left - 1) m) ≡ true → begins + i ≡ openBegins m (reverse us)
-    down-found z =
-        let b = and-both (eqb k 1) (eqb (left - 1) m) z in
-        sym
-        (d .same ∙ ap (openDown begins m) (x .is ∙ ap (λ (a : Change). a ∷ x .before) (kind-begin F k (x .change) (q ∙ x .kind) (eqb-true k 1 (b .0))))
-        ∙ begin-mark begins m (x .before) (ap (λ (a : ℕ). eqb a m) (sym (x .fewer)) ∙ b .1) ∙ ap (λ (a : ℕ). begins + a) (sym (f ∙ ap (λ (a : Bool). cond a 1 0) (b .0))))
+    module _ {i : ℕ} (f : i ≡ cond (eqb k 1) 1 0) where
+      -- the Begin of the mark
+      pub down-found : (eqb k 1 && eqb (left - 1) m) ≡ true → begins + i ≡ openBegins m (reverse us)
+      down-found z =
+          let b = and-both (eqb k 1) (eqb (left - 1) m) z in
+          sym
+          (d .same ∙ ap (openDown begins m) (x .is ∙ ap (λ (a : Change). a ∷ x .before) (kind-begin F k (x .change) kind-is (eqb-true k 1 (b .0))))
+          ∙ begin-mark begins m (x .before) (ap (λ (a : ℕ). eqb a m) (sym (x .fewer)) ∙ b .1) ∙ ap (λ (a : ℕ). begins + a) (sym (f ∙ ap (λ (a : Bool). cond a 1 0) (b .0))))
 
-    -- neither
-    pub down-on : (k ≡ 2 → ⊥) → (eqb k 1 && eqb (left - 1) m) ≡ false → Downto F sizes m (at - getD sizes (at - 1) 0) (left - 1) (begins + i) us
-    down-on z w =
-        record {
-          rest = x .before;
-          passed = x .change ∷ d .passed;
-          row = split (x .change) (x .before) (x .is);
-          place = x .place;
-          count = x .fewer;
-          noted = subst (SizesOf F sizes) (x .is) (d .noted) .1;
-          same = d .same ∙ ap (openDown begins m) (x .is) ∙ by-test (openDown begins m (x .change ∷ x .before) ≡ openDown (begins + i) m (x .before)) (eqb k 1) one other;
-        }
-      where
-        one : eqb k 1 ≡ true → openDown begins m (x .change ∷ x .before) ≡ openDown (begins + i) m (x .before)
-        one b =
-            ap (λ (a : Change). openDown begins m (a ∷ x .before)) (kind-begin F k (x .change) (q ∙ x .kind) (eqb-true k 1 b))
-            ∙ begin-on begins m (x .before) (ap (λ (a : ℕ). eqb a m) (sym (x .fewer)) ∙ (rw b at w)) ∙ ap (λ (a : ℕ). openDown (begins + a) m (x .before)) (sym (f ∙ ap (λ (a : Bool). cond a 1 0) b))
+      -- neither
+      pub down-on : (k ≡ 2 → ⊥) → (eqb k 1 && eqb (left - 1) m) ≡ false → Downto F sizes m (at - getD sizes (at - 1) 0) (left - 1) (begins + i) us
+      down-on z w =
+          record {
+            rest = x .before;
+            passed = x .change ∷ d .passed;
+            row = split (x .change) (x .before) (x .is);
+            place = x .place;
+            count = x .fewer;
+            noted = subst (SizesOf F sizes) (x .is) (d .noted) .1;
+            same = d .same ∙ ap (openDown begins m) (x .is) ∙ by-test (openDown begins m (x .change ∷ x .before) ≡ openDown (begins + i) m (x .before)) (eqb k 1) one other;
+          }
+        where
+          one : eqb k 1 ≡ true → openDown begins m (x .change ∷ x .before) ≡ openDown (begins + i) m (x .before)
+          one b =
+              ap (λ (a : Change). openDown begins m (a ∷ x .before)) (kind-begin F k (x .change) kind-is (eqb-true k 1 b))
+              ∙ begin-on begins m (x .before) (ap (λ (a : ℕ). eqb a m) (sym (x .fewer)) ∙ (rw b at w)) ∙ ap (λ (a : ℕ). openDown (begins + a) m (x .before)) (sym (f ∙ ap (λ (a : Bool). cond a 1 0) b))
 
-        other : eqb k 1 ≡ false → openDown begins m (x .change ∷ x .before) ≡ openDown (begins + i) m (x .before)
-        other b =
-            kind-edit F k (x .change) (q ∙ x .kind) (eqb-false k 1 b) z m (x .before) begins
-            ∙ ap (λ (a : ℕ). openDown a m (x .before)) (sym (ap (λ (a : ℕ). begins + a) (f ∙ ap (λ (a : Bool). cond a 1 0) b) ∙ add-zero begins))
+          other : eqb k 1 ≡ false → openDown begins m (x .change ∷ x .before) ≡ openDown (begins + i) m (x .before)
+          other b =
+              kind-edit F k (x .change) kind-is (eqb-false k 1 b) z m (x .before) begins
+              ∙ ap (λ (a : ℕ). openDown a m (x .before)) (sym (ap (λ (a : ℕ). begins + a) (f ∙ ap (λ (a : Bool). cond a 1 0) b) ∙ add-zero begins))

@@ -8,20 +8,18 @@ use Rattle.journal.specs.Change.{Change}
 use Rattle.formats.specs.declared.Format.{Format}
 use Rattle.journal.specs.Layout.{Layout}
 use Rattle.journal.specs.Hold.{Listed}
-use Rattle.retrace.specs.Records.{Noted}
+use Rattle.records.specs.Walks.{SizesNoted}
 use Rattle.cancel.specs.Cancel.{opens, beginsDown}
 
 -- the Begins down to the mark m, where the group of that mark is open; else 0
 unfoldable pub openBegins : ℕ → List Change → ℕ
 openBegins m u = cond (opens m u) (beginsDown m u) 0
 
--- these bytes are the records of a list in some format, and their number and sizes are noted
-pub record NotedIn (rs : List ℕ) (count : ℕ) (sizes : List ℕ) : Type 0 where
-  pub format : Format
-  pub listed : Listed catalogue format rs
-  pub noted : Noted catalogue format rs count sizes
+-- these bytes are the records of a list, and their number and sizes are noted
+pub record NotedIn (F : Format) (rs : List ℕ) (count : ℕ) (sizes : List ℕ) : Type 0 where
+  pub listed : Listed catalogue F rs
+  pub noted : SizesNoted catalogue F rs count sizes
 
--- of every list that has these records, in every format that they are noted in
-abbrev pub OpenAt : List ℕ → ℕ → List ℕ → ℕ → ℕ → Type 0
-OpenAt rs count sizes m n =
-    (F : Format) → Noted catalogue F rs count sizes → (ts : List ℕ) (us : List Change) → Layout catalogue F rs ts us → n ≡ openBegins m (reverse us)
+-- of every list that has these records
+abbrev pub OpenAt : Format → List ℕ → ℕ → ℕ → Type 0
+OpenAt F rs m n = (ts : List ℕ) (us : List Change) → Layout catalogue F rs ts us → n ≡ openBegins m (reverse us)

@@ -7,7 +7,7 @@ ghost use lib.ListN.{length};
 ghost use Rattle.unicode.specs.Repertoire.{catalogue};
 ghost use Rattle.formats.specs.Formats.{Fit, recordsMax};
 ghost use Rattle.edit.specs.Calls.{lent, formatOf, stateOf, Edited, Ready};
-ghost use Rattle.retrace.specs.Records.{SizesOf};
+ghost use Rattle.records.specs.Walks.{SizesOf};
 ghost use Rattle.cancel.specs.Cancel.{opens, beginsDown, cancelOut, cancelCall};
 ghost use Rattle.cancel.specs.Open.{NotedIn, OpenAt};
 use changeset::Log;
@@ -19,18 +19,20 @@ use edit::says;
 use formats::Format;
 use formats::RECORDS_MAX;
 use formats::format_for;
+use records::note_sizes;
+use records::read_record;
 use retrace::Step;
-use retrace::note_sizes;
 use undo::answer;
 use undo::one_if;
 use undo::undo_record;
 
 // The Begins from the newest record of a list down to a mark, where the record of that number, from 0, is a Begin with no End
 // after it; else 0. The sizes of the records are noted.
-fn open_begins(records: &[u8], sizes: &[u8], count: usize, mark: usize) -> usize
-    requires { ⌜ NotedIn (now records) count (now sizes) ⌝ }
+fn open_begins(f: Format, records: &[u8], sizes: &[u8], count: usize, mark: usize) -> usize
+    requires { ⌜ Fit f ⌝ }
+    requires { ⌜ NotedIn f (now records) count (now sizes) ⌝ }
     requires { ⌜ (length (now records) ≤ length (now sizes)) × (length (now records) ≤ recordsMax) ⌝ }
-    ensures { λ r. ⌜ OpenAt (now (records .entry)) count (now (sizes .entry)) mark r ⌝ }
+    ensures { λ r. ⌜ OpenAt f (now (records .entry)) mark r ⌝ }
 {
     let mut at = records.len();
     let mut left = count;
@@ -38,7 +40,8 @@ fn open_begins(records: &[u8], sizes: &[u8], count: usize, mark: usize) -> usize
     while 0 < at {
         at -= sizes[at - 1] as usize;
         left -= 1;
-        let kind = records[at] as usize;
+        let r = read_record(f, records, at);
+        let kind = r.kind;
         if kind == 2 {
             return 0;
         }
@@ -121,7 +124,7 @@ fn note_and_cancel(
     let u = log.undo;
     let ur = u.records;
     let count = note_sizes(f, &records[..ur], sizes);
-    let begins = open_begins(&records[..ur], sizes, count, mark);
+    let begins = open_begins(f, &records[..ur], sizes, count, mark);
     if begins == 0 {
         return says(1, line, log);
     }

@@ -2,6 +2,7 @@ pub mod Sums
 pub mod Answers
 pub mod Passed
 pub mod Recorded
+pub mod Newest
 pub mod Groups
 pub mod Single
 pub mod Examples

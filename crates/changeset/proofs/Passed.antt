@@ -1,15 +1,15 @@
 -- What holds of a lent log that checks 2 and 8 pass. Assumes nothing.
 use Prim.Native.Nat.{ℕ, zero, suc, _+_, _≤_, _<_}
 use native.Mathlib.Omega.{arith}
-use mathlib.Core.Path.{_≡_, refl}
-use mathlib.Core.Bool.{Bool, true, false, not}
+use mathlib.Core.Path.{_≡_, refl, ap, ap₂, _∙_}
+use mathlib.Core.Bool.{Bool, true, false, not, _&&_, _||_}
 use mathlib.Core.List.{List, [], _∷_}
 use mathlib.Core.Option.{Option, some, none}
-use lib.Dec.{ltb}
+use lib.Dec.{ltb, leb}
 use lib.ListN.{length, take, drop}
 use lib.Seq.{getD-drop}
-use borrow.Author.Tests.{ltb-false}
-use Rattle.lists.proofs.Bools.{never, or-none}
+use borrow.Author.Tests.{ltb-false, lt-ltb, le-ltb, lt-leb, le-leb}
+use Rattle.lists.proofs.Bools.{never, or-none, by-less, and-both}
 use Rattle.unicode.specs.Repertoire.{catalogue}
 use Rattle.journal.specs.Change.{Change}
 use Rattle.formats.specs.Formats.{Fit}
@@ -101,3 +101,19 @@ module _ (F : Format) (l : Lent) (foreign : Bool) where
     pub says-passed : foreign ≡ false → damaged catalogue F (l .log) (l .records) (l .texts) ≡ false → 0 ≡ number
     unfolding refusal
     says-passed e f = rw (fine, e, f)
+
+-- ---- check 8 by its tests: the level v, and whether each of the two lists is one
+low-level : (v : ℕ) → leb v 255 ≡ not (ltb 255 v)
+low-level v = by-less _ 255 v (λ h. rw (lt-ltb 255 v h, lt-leb v 255 h)) (λ h. rw (le-ltb 255 v h, le-leb v 255 h))
+
+pub sound-is : (v : ℕ) (a b x y : Bool) → a ≡ x → b ≡ y → leb v 255 && (a && b) ≡ not (ltb 255 v || (not x || not y))
+sound-is v a b x y e f = ap₂ (λ (c d : Bool). leb v 255 && (c && d)) e f ∙ ap (λ (c : Bool). c && (x && y)) (low-level v) ∙ tests (ltb 255 v) x y
+  where
+    tests : (a x y : Bool) → not a && (x && y) ≡ not (a || (not x || not y))
+    tests true x y = refl
+    tests false true true = refl
+    tests false true false = refl
+    tests false false y = refl
+
+pub both-sound : (a x y : Bool) → a && (x && y) ≡ true → x ≡ true
+both-sound a x y e = and-both x y (and-both a (x && y) e .1) .0

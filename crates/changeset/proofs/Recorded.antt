@@ -16,7 +16,8 @@ use Rattle.journal.specs.Hold.{Holds, Listed}
 use Rattle.journal.specs.Undo.{undoRecords, undoTexts, fits}
 use Rattle.journal.proofs.Holds.{front, cleared}
 use Rattle.journal.proofs.Undo.{good-newest, fits-yes}
-use Rattle.recording.specs.Tails.{kindNumber, tailOf, tailFor, TailFor, noted, InRange, Wrote}
+use Rattle.records.specs.Records.{kindNumber}
+use Rattle.recording.specs.Tails.{tailOf, tailFor, TailFor, noted, InRange, Wrote}
 use Rattle.recording.specs.declared.Tail.{Tail}
 use Rattle.recording.specs.declared.Noted.{Noted}
 use Rattle.recording.proofs.Joins.{noted-for, in-range-for}

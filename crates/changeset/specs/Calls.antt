@@ -19,7 +19,7 @@ use Rattle.journal.specs.Recording.{recordInsert, recordInsertStr, recordDelete
 use Rattle.journal.specs.Hold.{Holds}
 use Rattle.journal.specs.Groups as groups
 use Rattle.journal.specs.Undo.{Sizes}
-use Rattle.recording.specs.Tails.{kindNumber}
+use Rattle.records.specs.Records.{kindNumber}
 use Rattle.changeset.specs.declared.Log.{Log}
 use Rattle.changeset.specs.declared.Used.{Used}
 use Rattle.changeset.specs.declared.LogAnswer.{LogAnswer}

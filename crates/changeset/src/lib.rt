@@ -1,19 +1,23 @@
 // The log: Changeset of undo.rs over two lent buffers. The log's state goes in by value and comes back. Here are the checks of a
 // lent log, and what is done with one that they pass, in any format of its records.
 ghost use mathlib.Core.Path.{_≡_};
-ghost use mathlib.Core.Bool.{true, false, cond};
-ghost use Prim.Native.Nat.{_+_, _-_, _≤_, _<_};
+ghost use mathlib.Core.Bool.{true, false, cond, not};
+ghost use mathlib.Core.List.{List, reverse};
+ghost use Prim.Native.Nat.{ℕ, _+_, _-_, _≤_, _<_};
 ghost use lib.Dec.{ltb};
-ghost use lib.ListN.{length};
+ghost use lib.ListN.{length, take, drop};
 ghost use Rattle.unicode.specs.Repertoire.{catalogue};
 ghost use Rattle.unicode.specs.Text.{isText};
 ghost use Rattle.cluster.specs.Clusters.{clustersOf};
 ghost use Rattle.checks.specs.Checks.{refusal as Checks·refusal, both, ownTests};
-ghost use Rattle.journal.specs.Change.{edit};
+ghost use Rattle.journal.specs.Change.{Change, edit};
+ghost use Rattle.journal.specs.Undo.{undoRecords};
+ghost use Rattle.journal.specs.Hold.{Listed};
+ghost use Rattle.records.specs.Walks.{LastAt, NewestAt};
 ghost use Rattle.numbers.specs.Numbers.{top};
-ghost use Rattle.journal.specs.Layout.{okChange};
+ghost use Rattle.journal.specs.Layout.{Layout, okChange};
 ghost use Rattle.journal.specs.Recording.{note, isSingle};
-ghost use Rattle.formats.specs.Formats.{Fit};
+ghost use Rattle.formats.specs.Formats.{Fit, recordsMax};
 ghost use Rattle.changeset.specs.Logs.{overSizes, damaged, logTests};
 ghost use Rattle.changeset.specs.Outcomes.{beginOut, endOut, recordOut, truncateOut, lastInsertOut};
 ghost use Rattle.changeset.specs.Calls.{lent, sizesOf, valueOf, says as Calls·says, Logged, Ready, editOf, Numbered, answerOf};
@@ -23,10 +27,11 @@ use cluster::next_cluster;
 use formats::Format;
 use numbers::top_of;
 use recording::tail_for;
-use recording::tail_of;
 use recording::write_noted;
+use records::Looked;
+use records::Newest;
 use records::check_list;
-use records::run_start;
+use records::read_record;
 use records::walk;
 
 // The used lengths of a list in the two buffers.
@@ -72,25 +77,26 @@ pub fn over_sizes(f: Format, records: &[u8], texts: &[u8], log: Log) -> bool
     is_over(texts.len(), u.texts, r.texts)
 }
 
-// Check 8 of a lent log that check 2 passes.
-pub fn is_damaged(f: Format, records: &[u8], texts: &[u8], log: Log) -> bool
+// Check 8 of a lent log that check 2 passes, and what stands at the end of its undo list.
+pub fn look(f: Format, records: &[u8], texts: &[u8], log: Log) -> Looked
     requires { ⌜ Fit f ⌝ }
     requires { ⌜ (log .undo .records + log .redo .records ≤ length (now records)) × (log .undo .texts + log .redo .texts ≤ length (now texts)) ⌝ }
-    ensures { λ r. ⌜ r ≡ damaged catalogue f log (now (records .entry)) (now (texts .entry)) ⌝ }
+    ensures sound { λ r. ⌜ r .sound ≡ not (damaged catalogue f log (now (records .entry)) (now (texts .entry))) ⌝ }
+    ensures newest { λ r. ⌜ (r .sound ≡ true → NewestAt catalogue f (take (log .undo .records) (now (records .entry))) (r .newest)) ⌝ }
 {
-    if 255 < log.level {
-        return true;
-    }
     let u = log.undo;
     let r = log.redo;
     let ur = u.records;
     let ut = u.texts;
-    if !check_list(f, &records[..ur], &texts[..ut]) {
-        return true;
-    }
+    let undo = check_list(f, &records[..ur], &texts[..ut]);
     let re = ur + r.records;
     let te = ut + r.texts;
-    !check_list(f, &records[ur..re], &texts[ut..te])
+    let redo = check_list(f, &records[ur..re], &texts[ut..te]);
+    let newest = undo.newest;
+    Looked {
+        sound: (log.level <= 255) & (undo.sound & redo.sound),
+        newest,
+    }
 }
 
 #[repr(C)]
@@ -113,23 +119,47 @@ pub fn says(number: u32, log: Log) -> LogAnswer
     }
 }
 
-// The number of the first of the checks 2, 4 and 8 that a lent log meets, 0 where they pass. `foreign` says that an argument
-// is outside the repertoire.
-pub fn refusal(f: Format, records: &[u8], texts: &[u8], log: Log, foreign: bool) -> u32
+// The number of the first check that a lent log meets, 0 where they pass; then also what stands at the end of its undo list.
+pub struct Checked {
+    pub number: u32,
+    pub newest: Newest,
+}
+
+// A check refuses.
+pub fn refused(number: u32) -> Checked
+    ensures { λ r. ⌜ r .number ≡ number ⌝ }
+{
+    Checked {
+        number,
+        newest: Newest {
+            count: 0,
+            last: 0,
+            begins: 0,
+            opened: 0,
+            shown: 0,
+        },
+    }
+}
+
+// Checks 2, 4 and 8 of a lent log. `foreign` says that an argument is outside the repertoire.
+pub fn check(f: Format, records: &[u8], texts: &[u8], log: Log, foreign: bool) -> Checked
     requires { ⌜ Fit f ⌝ }
-    ensures number { λ r. ⌜ r ≡ Checks·refusal (both (logTests catalogue f log (now (records .entry)) (now (texts .entry))) (ownTests false foreign false)) ⌝ }
-    ensures ready { λ r. ⌜ (r ≡ 0 → Ready f (lent (now (records .entry)) (now (texts .entry)) log)) ⌝ }
+    ensures number { λ r. ⌜ r .number ≡ Checks·refusal (both (logTests catalogue f log (now (records .entry)) (now (texts .entry))) (ownTests false foreign false)) ⌝ }
+    ensures ready { λ r. ⌜ (r .number ≡ 0 → Ready f (lent (now (records .entry)) (now (texts .entry)) log)) ⌝ }
+    ensures newest { λ r. ⌜ (r .number ≡ 0 → NewestAt catalogue f (take (log .undo .records) (now (records .entry))) (r .newest)) ⌝ }
 {
     if over_sizes(f, records, texts, log) {
-        return 2;
+        return refused(2);
     }
     if foreign {
-        return 4;
+        return refused(4);
     }
-    if is_damaged(f, records, texts, log) {
-        return 8;
+    let seen = look(f, records, texts, log);
+    if !seen.sound {
+        return refused(8);
     }
-    0
+    let newest = seen.newest;
+    Checked { number: 0, newest }
 }
 
 // single_char: is the text one cluster, all alphanumeric?
@@ -146,6 +176,25 @@ fn least(a: usize, b: usize) -> usize
     ensures { λ r. ⌜ r ≡ cond (ltb a b) a b ⌝ }
 {
     if a < b { a } else { b }
+}
+
+// Where a list ends without its newest records, all of them Begins: so many, of those that stand last.
+fn end_of(f: Format, records: &[u8], newest: Newest, dropped: usize) -> usize
+    requires { ⌜ Fit f ⌝ }
+    requires { ⌜ Listed catalogue f (now records) ⌝ }
+    requires { ⌜ length (now records) ≤ recordsMax ⌝ }
+    requires { ⌜ NewestAt catalogue f (now records) newest ⌝ }
+    requires { ⌜ dropped ≤ newest .begins ⌝ }
+    ensures { λ r. ⌜ ((ts : List ℕ) (us : List Change) → Layout catalogue f (now (records .entry)) ts us → r ≡ length (undoRecords f (drop dropped (reverse us)))) ⌝ }
+{
+    if dropped == 0 {
+        return records.len();
+    }
+    if dropped == newest.begins {
+        return newest.opened;
+    }
+    let kept = walk(f, records, newest.count - dropped);
+    kept.records
 }
 
 impl Log {
@@ -213,12 +262,14 @@ impl Log {
         self
     }
 
-    // A change recorded, by its kind 3, 4 or 5, its place, its old and its new text: merged where it may be and follows.
+    // A change recorded, by its kind 3, 4 or 5, its place, its old and its new text: merged where it may be and follows. The newest
+    // record begins at last.
     pub fn record(
         self,
         f: Format,
         records: &mut [u8],
         texts: &mut [u8],
+        last: usize,
         joins: bool,
         kind: usize,
         place: usize,
@@ -227,6 +278,7 @@ impl Log {
     ) -> LogAnswer
         requires { ⌜ Fit f ⌝ }
         requires { ⌜ Ready f (lent (now records) (now texts) self) ⌝ }
+        requires { ⌜ (joins ≡ true → LastAt catalogue f (take (self .undo .records) (now records)) last) ⌝ }
         requires { ⌜ Numbered (editOf kind place (now old) (now new)) kind place (now old) (now new) ⌝ }
         requires { ⌜ okChange catalogue (edit (editOf kind place (now old) (now new))) ≡ true ⌝ }
         ensures { λ r. ⌜ Logged f (lent (now (records .entry)) (now (texts .entry)) self)
@@ -245,7 +297,7 @@ impl Log {
         if space - old.len() < new.len() {
             return says(10, self);
         }
-        let tail = tail_for(f, joins, &records[..ur], ut);
+        let tail = tail_for(f, joins, &records[..ur], last, ut);
         let n = tail.note(f, joins, kind, place, old.len(), new.len());
         let t = n.tail;
         if records.len() < t.records {
@@ -259,9 +311,10 @@ impl Log {
     }
 
     // begin on a log that the checks pass.
-    pub fn begin(mut self, f: Format, records: &mut [u8], texts: &[u8]) -> LogAnswer
+    pub fn begin(mut self, f: Format, records: &mut [u8], texts: &[u8], newest: Newest) -> LogAnswer
         requires { ⌜ Fit f ⌝ }
         requires { ⌜ Ready f (lent (now records) (now texts) self) ⌝ }
+        requires { ⌜ NewestAt catalogue f (take (self .undo .records) (now records)) newest ⌝ }
         ensures { λ r. ⌜ Logged f (lent (now (records .entry)) (now (texts .entry)) self)
             (beginOut f (sizesOf (lent (now (records .entry)) (now (texts .entry)) self)) (valueOf catalogue f (lent (now (records .entry)) (now (texts .entry)) self)))
             r (now (records .exit)) (now (texts .entry)) ⌝ }
@@ -276,21 +329,21 @@ impl Log {
         if records.len() <= ur {
             return says(10, self);
         }
-        let before = walk(f, &records[..ur], ur);
         records[ur] = 1;
         self.level = level + 1;
         LogAnswer {
             number: 0,
-            from: before.count,
+            from: newest.count,
             to: 0,
             log: self.only_undo(ur + 1, ut),
         }
     }
 
     // end on a log that the checks pass: Begins that stand last are dropped, and for each level left an End is put.
-    pub fn end(mut self, f: Format, records: &mut [u8], texts: &[u8]) -> LogAnswer
+    pub fn end(mut self, f: Format, records: &mut [u8], texts: &[u8], newest: Newest) -> LogAnswer
         requires { ⌜ Fit f ⌝ }
         requires { ⌜ Ready f (lent (now records) (now texts) self) ⌝ }
+        requires { ⌜ NewestAt catalogue f (take (self .undo .records) (now records)) newest ⌝ }
         ensures { λ r. ⌜ Logged f (lent (now (records .entry)) (now (texts .entry)) self)
             (endOut f (sizesOf (lent (now (records .entry)) (now (texts .entry)) self)) (valueOf catalogue f (lent (now (records .entry)) (now (texts .entry)) self)))
             r (now (records .exit)) (now (texts .entry)) ⌝ }
@@ -299,10 +352,9 @@ impl Log {
         let ur = u.records;
         let ut = u.texts;
         let level = self.level;
-        let run = ur - run_start(f, &records[..ur], 1);
-        let empty = least(run, level);
-        let kept = ur - empty;
+        let empty = least(newest.begins, level);
         let ends = level - empty;
+        let kept = end_of(f, &records[..ur], newest, empty);
         if records.len() - kept < ends {
             return says(10, self);
         }
@@ -345,21 +397,21 @@ impl Log {
     }
 
     // last_insert on a log that the checks pass: the Ends that stand last are passed.
-    pub fn last_insert(self, f: Format, records: &[u8], texts: &[u8]) -> LogAnswer
+    pub fn last_insert(self, f: Format, records: &[u8], texts: &[u8], newest: Newest) -> LogAnswer
         requires { ⌜ Fit f ⌝ }
         requires { ⌜ Ready f (lent (now records) (now texts) self) ⌝ }
+        requires { ⌜ NewestAt catalogue f (take (self .undo .records) (now records)) newest ⌝ }
         ensures { λ r. ⌜ r ≡ answerOf f (lent (now (records .entry)) (now (texts .entry)) self)
             (lastInsertOut (valueOf catalogue f (lent (now (records .entry)) (now (texts .entry)) self))) ⌝ }
     {
         let u = self.undo;
         let ur = u.records;
         let ut = u.texts;
-        let start = run_start(f, &records[..ur], 2);
-        let t = tail_of(f, &records[..start], ut);
-        if (t.kind == 3) | (t.kind == 5) {
+        let r = read_record(f, &records[..ur], newest.shown);
+        if (r.kind == 3) | (r.kind == 5) {
             return LogAnswer {
                 number: 0,
-                from: ut - t.new,
+                from: ut - r.new,
                 to: ut,
                 log: self,
             };

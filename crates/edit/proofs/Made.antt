@@ -21,7 +21,7 @@ use Rattle.journal.specs.Recording.{note}
 use Rattle.journal.specs.Groups as groups
 use Rattle.journal.specs.Undo.{fits}
 use mathlib.Core.Logic.{_⊎_, inl, inr, ⊎-elim}
-use Rattle.recording.specs.Tails.{kindNumber}
+use Rattle.records.specs.Records.{kindNumber}
 use Rattle.changeset.specs.Outcomes.{recordOut}
 use Rattle.changeset.specs.declared.Log.{Log}
 use Rattle.changeset.specs.declared.LogAnswer.{LogAnswer}

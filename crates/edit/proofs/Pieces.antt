@@ -23,7 +23,8 @@ use Rattle.formats.specs.declared.Format.{Format}
 use Rattle.journal.specs.Layout.{okChange, AllGood}
 use Rattle.journal.specs.Recording.{isSingle, note, recordInsert, recordReplace}
 use Rattle.journal.specs.Undo.{undoRecords, undoTexts}
-use Rattle.recording.specs.Tails.{kindNumber, tailOf, noted}
+use Rattle.records.specs.Records.{kindNumber}
+use Rattle.recording.specs.Tails.{tailOf, noted}
 use Rattle.recording.specs.declared.Tail.{Tail}
 use Rattle.recording.proofs.Numbers.{tail-records, tail-texts, tail-place}
 use Rattle.recording.proofs.Put.{put, put-records, put-texts, put-good}

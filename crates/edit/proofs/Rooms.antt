@@ -23,7 +23,8 @@ use Rattle.journal.specs.Layout.{AllGood}
 use Rattle.journal.specs.Recording.{isSingle}
 use Rattle.journal.specs.Undo.{undoRecords, undoTexts, Sizes, fits}
 use Rattle.journal.proofs.Undo.{fits-yes}
-use Rattle.recording.specs.Tails.{kindNumber, tailOf, TailAt, noted, InRange}
+use Rattle.records.specs.Records.{kindNumber}
+use Rattle.recording.specs.Tails.{tailOf, TailAt, noted, InRange}
 use Rattle.recording.specs.declared.Tail.{Tail}
 use Rattle.recording.specs.declared.Noted.{Noted}
 use Rattle.recording.proofs.Numbers.{tail-records, tail-texts, tail-within, tail-place}

@@ -12,21 +12,25 @@ ghost use Rattle.numbers.specs.Numbers.{top};
 ghost use Rattle.journal.specs.Layout.{okChange};
 ghost use Rattle.formats.specs.Formats.{Fit};
 ghost use Rattle.changeset.specs.Calls.{editOf, Numbered, lent as Log·lent, valueOf, Ready as Log·Ready};
+ghost use Rattle.records.specs.Walks.{LastAt, NewestAt};
 ghost use Rattle.recording.specs.Tails.{InRange, tailOf};
 ghost use Rattle.edit.specs.Plan.{cutting, pasted, once, edited, changeOut};
 ghost use Rattle.edit.specs.Room.{sizesBy, tailCut, tailPut, roomCut, roomPut};
 ghost use Rattle.edit.specs.Calls.{lent, sizesOf, stateOf, says as Calls·says, checked, own, Edited, Ready};
 use buffer::cut_bytes;
 use buffer::insert_bytes;
+use changeset::Checked;
 use changeset::Log;
-use changeset::is_damaged;
 use changeset::is_single;
+use changeset::look;
 use changeset::over_sizes;
+use changeset::refused;
 use checks::Line;
 use checks::refusal_in;
 use formats::Format;
 use recording::Tail;
-use recording::tail_of;
+use recording::last_for;
+use recording::tail_at;
 use utf8::is_boundary;
 
 #[repr(C)]
@@ -81,7 +85,44 @@ pub struct Room {
     pub tail: Tail,
 }
 
-// The number of the first of the checks 2 to 8 that a lent text, a lent log or the call's own tests meet, 0 where they pass.
+// The number of the first of the checks 2 to 8 that a lent text, a lent log or the call's own tests meet, 0 where they pass; then
+// also what stands at the end of the undo list.
+pub fn check(
+    f: Format,
+    text: &[u8],
+    records: &[u8],
+    texts: &[u8],
+    line: Line,
+    log: Log,
+    o: Own,
+) -> Checked
+    requires { ⌜ Fit f ⌝ }
+    ensures number { λ r. ⌜ r .number ≡ checked catalogue f (lent (now (text .entry)) (now (records .entry)) (now (texts .entry)) line log) (own o) ⌝ }
+    ensures ready { λ r. ⌜ (r .number ≡ 0 → Ready f (lent (now (text .entry)) (now (records .entry)) (now (texts .entry)) line log)) ⌝ }
+    ensures newest { λ r. ⌜ (r .number ≡ 0 → NewestAt catalogue f (take (log .undo .records) (now (records .entry))) (r .newest)) ⌝ }
+{
+    if over_sizes(f, records, texts, log) {
+        return refused(2);
+    }
+    if o.sizes {
+        return refused(2);
+    }
+    let k = refusal_in(f, text, line, o.code, o.foreign, o.place);
+    if k != 0 {
+        return refused(k);
+    }
+    if o.split {
+        return refused(6);
+    }
+    let seen = look(f, records, texts, log);
+    if !seen.sound {
+        return refused(8);
+    }
+    let newest = seen.newest;
+    Checked { number: 0, newest }
+}
+
+// The number alone.
 pub fn refusal(
     f: Format,
     text: &[u8],
@@ -95,23 +136,8 @@ pub fn refusal(
     ensures number { λ r. ⌜ r ≡ checked catalogue f (lent (now (text .entry)) (now (records .entry)) (now (texts .entry)) line log) (own o) ⌝ }
     ensures ready { λ r. ⌜ (r ≡ 0 → Ready f (lent (now (text .entry)) (now (records .entry)) (now (texts .entry)) line log)) ⌝ }
 {
-    if over_sizes(f, records, texts, log) {
-        return 2;
-    }
-    if o.sizes {
-        return 2;
-    }
-    let k = refusal_in(f, text, line, o.code, o.foreign, o.place);
-    if k != 0 {
-        return k;
-    }
-    if o.split {
-        return 6;
-    }
-    if is_damaged(f, records, texts, log) {
-        return 8;
-    }
-    0
+    let c = check(f, text, records, texts, line, log, o);
+    c.number
 }
 
 // Does a place lie inside a character of the text's first len bytes?
@@ -124,8 +150,8 @@ pub fn is_split(text: &[u8], len: usize, pos: usize) -> bool
     !is_boundary(&text[..len], pos)
 }
 
-// The bytes from a place up to another replaced by a text, and recorded: kind 3 Insert, 4 Delete, 5 Replace. The cursor goes to
-// a place.
+// The bytes from a place up to another replaced by a text, and recorded: kind 3 Insert, 4 Delete, 5 Replace. The newest record
+// begins at last. The cursor goes to a place.
 pub fn change(
     f: Format,
     text: &mut [u8],
@@ -133,6 +159,7 @@ pub fn change(
     texts: &mut [u8],
     line: Line,
     log: Log,
+    last: usize,
     joins: bool,
     kind: usize,
     from: usize,
@@ -143,6 +170,7 @@ pub fn change(
     requires { ⌜ Fit f ⌝ }
     requires { ⌜ Ready f (lent (now text) (now records) (now texts) line log) ⌝ }
     requires { ⌜ (from ≤ to) × (to ≤ line .len) ⌝ }
+    requires { ⌜ (joins ≡ true → LastAt catalogue f (take (log .undo .records) (now records)) last) ⌝ }
     requires { ⌜ Numbered (editOf kind from (part (take (line .len) (now text)) from to) (now new)) kind from (part (take (line .len) (now text)) from to) (now new) ⌝ }
     requires { ⌜ okChange catalogue (edit (editOf kind from (part (take (line .len) (now text)) from to) (now new))) ≡ true ⌝ }
     ensures { λ r. ⌜ Edited f (lent (now (text .entry)) (now (records .entry)) (now (texts .entry)) line log)
@@ -159,7 +187,17 @@ pub fn change(
     if (kind != 5) & (from == to) & (new.len() == 0) {
         return says(0, Line { len, cursor }, log.drop_redo());
     }
-    let a = log.record(f, records, texts, joins, kind, from, &text[from..to], new);
+    let a = log.record(
+        f,
+        records,
+        texts,
+        last,
+        joins,
+        kind,
+        from,
+        &text[from..to],
+        new,
+    );
     if a.number != 0 {
         return says(10, line, log);
     }
@@ -195,6 +233,9 @@ pub fn cut_out(
         r (now (text .exit)) (now (records .exit)) (now (texts .exit)) ⌝ }
 {
     let joins = is_single(&text[from..to]);
+    let u = log.undo;
+    let ur = u.records;
+    let last = last_for(f, joins, &records[..ur]);
     let none = [0u8; 1];
     change(
         f,
@@ -203,6 +244,7 @@ pub fn cut_out(
         texts,
         line,
         log,
+        last,
         joins,
         4,
         from,
@@ -240,6 +282,7 @@ pub fn put_in(
         texts,
         line,
         log,
+        0,
         false,
         3,
         at,
@@ -257,9 +300,10 @@ pub fn room_now(f: Format, records: &[u8], texts: &[u8], log: Log) -> Room
 {
     let u = log.undo;
     let ur = u.records;
+    let last = last_for(f, true, &records[..ur]);
     Room {
         fits: true,
-        tail: tail_of(f, &records[..ur], u.texts),
+        tail: tail_at(f, &records[..ur], last, u.texts),
     }
 }
 

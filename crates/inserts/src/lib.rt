@@ -9,6 +9,7 @@ use changeset::Log;
 use checks::Line;
 use edit::EditAnswer;
 use edit::Own;
+use edit::check;
 use edit::is_split;
 use edit::refusal;
 use edit::says;
@@ -44,15 +45,16 @@ pub fn insert(
         split: false,
     };
     let f = format_for(text.len());
-    let k = refusal(f, text, records, texts, line, log, own);
-    if k != 0 {
-        return says(k, line, log);
+    let c = check(f, text, records, texts, line, log, own);
+    if c.number != 0 {
+        return says(c.number, line, log);
     }
     let mut buf = [0u8; 4];
     let size = encode_at(&mut buf, 0, ch);
     let s = &buf[..size];
     if n == 1 {
-        return type_char(f, text, records, texts, line, log, ch, s);
+        let newest = c.newest;
+        return type_char(f, text, records, texts, line, log, newest.last, ch, s);
     }
     put_copies(f, text, records, texts, line, log, s, n as usize)
 }

@@ -5,7 +5,7 @@ use mathlib.Core.Path.{_≡_, refl, sym, ap, ap₂, _∙_}
 use mathlib.Core.List.{List, [], _∷_, _++_, reverse, reverse-cons, reverse-reverse, append-assoc, append-nil}
 use mathlib.Core.Bool.{Bool, true, false, cond}
 use mathlib.Core.Option.{Option, some, none}
-use lib.ListN.{length, take, drop, replicate, length-append, length-reverse, length-replicate, drop-of-length-le}
+use lib.ListN.{length, take, drop, replicate, length-append, length-reverse, drop-of-length-le}
 use lib.Seq.{take-all, drop-at, drop-append-le}
 use Rattle.lists.specs.Lists.{part}
 use Rattle.lists.proofs.Bools.{by-less}
@@ -25,12 +25,6 @@ abbrev pub run : (Change → Bool) → List Change → ℕ
 run f [] = 0
 run f (c ∷ u) = cond (f c) (suc (run f u)) 0
 
--- the test may be said in another way
-pub passed-same : (f g : Change → Bool) → ((c : Change) → f c ≡ g c) → (u : List Change) → passed f u ≡ passed g u
-unfolding passed
-passed-same f g e [] = refl
-passed-same f g e (c ∷ u) = ap₂ (λ (b : Bool) (v : List Change). cond b v (c ∷ u)) (e c) (passed-same f g e u)
-
 pub passed-run : (f : Change → Bool) (u : List Change) → passed f u ≡ drop (run f u) u
 unfolding passed
 passed-run f [] = refl
@@ -39,6 +33,16 @@ passed-run f (c ∷ u) = go (f c) (passed-run f u)
     go : (b : Bool) → passed f u ≡ drop (run f u) u → cond b (passed f u) (c ∷ u) ≡ drop (cond b (suc (run f u)) 0) (c ∷ u)
     go true e = e
     go false e = refl
+
+pub run-count : (f : Change → Bool) (u : List Change) → run f u + length (passed f u) ≡ length u
+unfolding passed
+run-count f [] = refl
+run-count f (c ∷ u) = go (f c) (run-count f u)
+  where
+    go : (b : Bool) → run f u + length (passed f u) ≡ length u
+        → cond b (suc (run f u)) 0 + length (cond b (passed f u) (c ∷ u)) ≡ suc (length u)
+    go true e = omega arith
+    go false e = omega arith
 
 pub passed-short : (f : Change → Bool) (u : List Change) → length (passed f u) ≤ length u
 unfolding passed
@@ -58,44 +62,25 @@ passed-twice f (c ∷ u) = go (f c) refl (passed-twice f u)
     go true e g = g
     go false e g = rw e
 
--- a run of one byte, and one more
+-- ---- Begins that stand last: the first m of them have no text
+pub begins-texts : (m : ℕ) (u : List Change) → m ≤ run isBegin u → undoTexts u ≡ undoTexts (drop m u)
+begins-texts zero u h = refl
+begins-texts (suc m) [] h = absurd (omega arith)
+begins-texts (suc m) (begin ∷ u) h = texts-cons begin u ∙ append-nil (undoTexts u) ∙ begins-texts m u (omega arith)
+begins-texts (suc m) (end ∷ u) h = absurd (omega arith)
+begins-texts (suc m) (edit x ∷ u) h = absurd (omega arith)
+
+-- ---- Ends put: one byte each, and no text
 one-more : (k b : ℕ) → replicate k b ++ (b ∷ []) ≡ b ∷ replicate k b
 one-more zero b = refl
 one-more (suc k) b = ap (λ (l : List ℕ). b ∷ l) (one-more k b)
 
--- ---- Begins that stand last
--- the first m of them are one byte each, and have no text
-module _ (F : Format) where
-  pub begins-records : (m : ℕ) (u : List Change) → m ≤ run isBegin u → undoRecords F u ≡ undoRecords F (drop m u) ++ replicate m 1
-  begins-records zero u h = sym (append-nil (undoRecords F u))
-  begins-records (suc m) [] h = absurd (omega arith)
-  begins-records (suc m) (begin ∷ u) h =
-      records-cons F begin u ∙ ap (λ (l : List ℕ). l ++ (1 ∷ [])) (begins-records m u (omega arith))
-      ∙ append-assoc (undoRecords F (drop m u)) (replicate m 1) (1 ∷ [])
-      ∙ ap (λ (l : List ℕ). undoRecords F (drop m u) ++ l) (one-more m 1)
-  begins-records (suc m) (end ∷ u) h = absurd (omega arith)
-  begins-records (suc m) (edit x ∷ u) h = absurd (omega arith)
-
-  pub begins-texts : (m : ℕ) (u : List Change) → m ≤ run isBegin u → undoTexts u ≡ undoTexts (drop m u)
-  begins-texts zero u h = refl
-  begins-texts (suc m) [] h = absurd (omega arith)
-  begins-texts (suc m) (begin ∷ u) h = texts-cons begin u ∙ append-nil (undoTexts u) ∙ begins-texts m u (omega arith)
-  begins-texts (suc m) (end ∷ u) h = absurd (omega arith)
-  begins-texts (suc m) (edit x ∷ u) h = absurd (omega arith)
-
-  pub begins-size : (u : List Change) → length (undoRecords F u) ≡ length (undoRecords F (passed isBegin u)) + run isBegin u
-  begins-size u =
-      ap length (begins-records (run isBegin u) u (omega arith))
-      ∙ length-append (undoRecords F (drop (run isBegin u) u)) (replicate (run isBegin u) 1)
-      ∙ ap₂ _+_ (ap (λ (v : List Change). length (undoRecords F v)) (sym (passed-run isBegin u))) (length-replicate (run isBegin u) 1)
-
-  -- Ends put
-  pub ends-records : (k : ℕ) (u : List Change) → undoRecords F (replicate k end ++ u) ≡ undoRecords F u ++ replicate k 2
-  ends-records zero u = sym (append-nil (undoRecords F u))
-  ends-records (suc k) u =
-      records-cons F end (replicate k end ++ u) ∙ ap (λ (l : List ℕ). l ++ (2 ∷ [])) (ends-records k u)
-      ∙ append-assoc (undoRecords F u) (replicate k 2) (2 ∷ [])
-      ∙ ap (λ (l : List ℕ). undoRecords F u ++ l) (one-more k 2)
+pub ends-records : (F : Format) (k : ℕ) (u : List Change) → undoRecords F (replicate k end ++ u) ≡ undoRecords F u ++ replicate k 2
+ends-records F zero u = sym (append-nil (undoRecords F u))
+ends-records F (suc k) u =
+    records-cons F end (replicate k end ++ u) ∙ ap (λ (l : List ℕ). l ++ (2 ∷ [])) (ends-records F k u)
+    ∙ append-assoc (undoRecords F u) (replicate k 2) (2 ∷ [])
+    ∙ ap (λ (l : List ℕ). undoRecords F u ++ l) (one-more k 2)
 
 pub ends-texts : (k : ℕ) (u : List Change) → undoTexts (replicate k end ++ u) ≡ undoTexts u
 ends-texts zero u = refl

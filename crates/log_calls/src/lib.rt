@@ -6,8 +6,8 @@ ghost use Rattle.formats.specs.Formats.{logFormat};
 ghost use Rattle.changeset.specs.Calls.{lent, Logged, answerOf, beginCall, endCall, insertCall, insertStrCall, deleteCall, replaceCall, truncateCall, lastInsertCall};
 use changeset::Log;
 use changeset::LogAnswer;
+use changeset::check;
 use changeset::is_single;
-use changeset::refusal;
 use changeset::says;
 use formats::format_for;
 use unicode::check_char;
@@ -21,11 +21,12 @@ pub fn begin(records: &mut [u8], texts: &mut [u8], log: Log) -> LogAnswer
         (beginCall catalogue logFormat (lent (now (records .entry)) (now (texts .entry)) log)) r (now (records .exit)) (now (texts .exit)) ⌝ }
 {
     let f = format_for(0);
-    let k = refusal(f, records, texts, log, false);
-    if k != 0 {
-        return says(k, log);
+    let c = check(f, records, texts, log, false);
+    if c.number != 0 {
+        return says(c.number, log);
     }
-    log.begin(f, records, texts)
+    let newest = c.newest;
+    log.begin(f, records, texts, newest)
 }
 
 // Wrong answers ruled out: the level kept; an empty group closed by an End.
@@ -34,11 +35,12 @@ pub fn end(records: &mut [u8], texts: &mut [u8], log: Log) -> LogAnswer
         (endCall catalogue logFormat (lent (now (records .entry)) (now (texts .entry)) log)) r (now (records .exit)) (now (texts .exit)) ⌝ }
 {
     let f = format_for(0);
-    let k = refusal(f, records, texts, log, false);
-    if k != 0 {
-        return says(k, log);
+    let c = check(f, records, texts, log, false);
+    if c.number != 0 {
+        return says(c.number, log);
     }
-    log.end(f, records, texts)
+    let newest = c.newest;
+    log.end(f, records, texts, newest)
 }
 
 // Wrong answers ruled out: a space merged with the letters before it; a letter merged across a Begin.
@@ -47,14 +49,25 @@ pub fn insert(records: &mut [u8], texts: &mut [u8], log: Log, idx: usize, ch: u3
         (insertCall catalogue logFormat (lent (now (records .entry)) (now (texts .entry)) log) idx ch) r (now (records .exit)) (now (texts .exit)) ⌝ }
 {
     let f = format_for(0);
-    let k = refusal(f, records, texts, log, !check_char(ch));
-    if k != 0 {
-        return says(k, log);
+    let c = check(f, records, texts, log, !check_char(ch));
+    if c.number != 0 {
+        return says(c.number, log);
     }
     let mut buf = [0u8; 4];
     let n = encode_at(&mut buf, 0, ch);
     let s = &buf[..n];
-    log.record(f, records, texts, is_alnum(ch), 3, idx, &s[..0], s)
+    let newest = c.newest;
+    log.record(
+        f,
+        records,
+        texts,
+        newest.last,
+        is_alnum(ch),
+        3,
+        idx,
+        &s[..0],
+        s,
+    )
 }
 
 // Wrong answers ruled out: the redo list kept where the text is empty; a text merged with the one before it.
@@ -69,14 +82,14 @@ pub fn insert_str(
         (insertStrCall catalogue logFormat (lent (now (records .entry)) (now (texts .entry)) log) idx (now (buf .entry))) r (now (records .exit)) (now (texts .exit)) ⌝ }
 {
     let f = format_for(0);
-    let k = refusal(f, records, texts, log, !check_text(buf));
-    if k != 0 {
-        return says(k, log);
+    let c = check(f, records, texts, log, !check_text(buf));
+    if c.number != 0 {
+        return says(c.number, log);
     }
     if buf.len() == 0 {
         return says(0, log.drop_redo());
     }
-    log.record(f, records, texts, false, 3, idx, &buf[..0], buf)
+    log.record(f, records, texts, 0, false, 3, idx, &buf[..0], buf)
 }
 
 // Wrong answers ruled out: a backspaced letter put behind the one cut before; a cut of two letters merged.
@@ -85,14 +98,25 @@ pub fn delete(records: &mut [u8], texts: &mut [u8], log: Log, idx: usize, buf: &
         (deleteCall catalogue logFormat (lent (now (records .entry)) (now (texts .entry)) log) idx (now (buf .entry))) r (now (records .exit)) (now (texts .exit)) ⌝ }
 {
     let f = format_for(0);
-    let k = refusal(f, records, texts, log, !check_text(buf));
-    if k != 0 {
-        return says(k, log);
+    let c = check(f, records, texts, log, !check_text(buf));
+    if c.number != 0 {
+        return says(c.number, log);
     }
     if buf.len() == 0 {
         return says(0, log.drop_redo());
     }
-    log.record(f, records, texts, is_single(buf), 4, idx, buf, &buf[..0])
+    let newest = c.newest;
+    log.record(
+        f,
+        records,
+        texts,
+        newest.last,
+        is_single(buf),
+        4,
+        idx,
+        buf,
+        &buf[..0],
+    )
 }
 
 // Wrong answers ruled out: nothing recorded where both texts are empty; the new text merged in front of the one before.
@@ -108,11 +132,12 @@ pub fn replace(
         (replaceCall catalogue logFormat (lent (now (records .entry)) (now (texts .entry)) log) idx (now (old .entry)) (now (new .entry))) r (now (records .exit)) (now (texts .exit)) ⌝ }
 {
     let f = format_for(0);
-    let k = refusal(f, records, texts, log, !check_text(old) | !check_text(new));
-    if k != 0 {
-        return says(k, log);
+    let c = check(f, records, texts, log, !check_text(old) | !check_text(new));
+    if c.number != 0 {
+        return says(c.number, log);
     }
-    log.record(f, records, texts, true, 5, idx, old, new)
+    let newest = c.newest;
+    log.record(f, records, texts, newest.last, true, 5, idx, old, new)
 }
 
 // Wrong answers ruled out: the redo list dropped; the level lowered by the Begins cut off.
@@ -121,9 +146,9 @@ pub fn truncate(records: &mut [u8], texts: &mut [u8], log: Log, len: usize) -> L
         (truncateCall catalogue logFormat (lent (now (records .entry)) (now (texts .entry)) log) len) r (now (records .exit)) (now (texts .exit)) ⌝ }
 {
     let f = format_for(0);
-    let k = refusal(f, records, texts, log, false);
-    if k != 0 {
-        return says(k, log);
+    let c = check(f, records, texts, log, false);
+    if c.number != 0 {
+        return says(c.number, log);
     }
     log.truncate(f, records, texts, len)
 }
@@ -134,9 +159,10 @@ pub fn last_insert(records: &[u8], texts: &[u8], log: Log) -> LogAnswer
         (lastInsertCall catalogue logFormat (lent (now (records .entry)) (now (texts .entry)) log)) ⌝ }
 {
     let f = format_for(0);
-    let k = refusal(f, records, texts, log, false);
-    if k != 0 {
-        return says(k, log);
+    let c = check(f, records, texts, log, false);
+    if c.number != 0 {
+        return says(c.number, log);
     }
-    log.last_insert(f, records, texts)
+    let newest = c.newest;
+    log.last_insert(f, records, texts, newest)
 }

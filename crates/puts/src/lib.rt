@@ -2,11 +2,12 @@
 ghost use mathlib.Core.Path.{_≡_};
 ghost use mathlib.Core.Bool.{true};
 ghost use Prim.Native.Nat.{_+_, _-_, _*_, _≤_};
-ghost use lib.ListN.{length};
+ghost use lib.ListN.{length, take};
 ghost use Rattle.utf8.specs.Encode.{encode};
 ghost use Rattle.unicode.specs.Repertoire.{catalogue};
 ghost use Rattle.unicode.specs.Text.{isText, isChar};
 ghost use Rattle.formats.specs.Formats.{textMax};
+ghost use Rattle.records.specs.Walks.{LastAt};
 ghost use Rattle.edit.specs.Plan.{typed, pasted, once, edited};
 ghost use Rattle.edit.specs.Calls.{lent, sizesOf, stateOf, Edited, Ready};
 ghost use Rattle.buffer.specs.Edit.{copies as Inserts·copies};
@@ -22,7 +23,7 @@ use edit::says;
 use formats::Format;
 use unicode::is_alnum;
 
-// A character typed at the cursor, which goes behind it; s are its bytes.
+// A character typed at the cursor, which goes behind it; s are its bytes. The newest record begins at last.
 pub fn type_char(
     f: Format,
     text: &mut [u8],
@@ -30,10 +31,12 @@ pub fn type_char(
     texts: &mut [u8],
     line: Line,
     log: Log,
+    last: usize,
     ch: u32,
     s: &[u8],
 ) -> EditAnswer
     requires { ⌜ Ready f (lent (now text) (now records) (now texts) line log) ⌝ }
+    requires { ⌜ LastAt catalogue f (take (log .undo .records) (now records)) last ⌝ }
     requires { ⌜ isChar catalogue ch ≡ true ⌝ }
     requires { ⌜ now s ≡ encode ch ⌝ }
     ensures { λ r. ⌜ Edited f (lent (now (text .entry)) (now (records .entry)) (now (texts .entry)) line log)
@@ -50,6 +53,7 @@ pub fn type_char(
         texts,
         line,
         log,
+        last,
         is_alnum(ch),
         3,
         pos,
@@ -100,6 +104,7 @@ pub fn put_copies(
         f,
         records,
         texts,
+        0,
         false,
         3,
         pos,

@@ -13,6 +13,7 @@ use edit::is_split;
 use edit::refusal;
 use edit::says;
 use formats::format_for;
+use recording::last_for;
 use unicode::check_text;
 
 // Wrong answers ruled out: the redo list kept for an empty range; the cursor left behind the cut.
@@ -75,6 +76,9 @@ pub fn replace(
     if k != 0 {
         return says(k, line, log);
     }
+    let u = log.undo;
+    let ur = u.records;
+    let last = last_for(f, true, &records[..ur]);
     change(
         f,
         text,
@@ -82,6 +86,7 @@ pub fn replace(
         texts,
         line,
         log,
+        last,
         true,
         5,
         start,

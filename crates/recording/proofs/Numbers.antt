@@ -17,7 +17,8 @@ use Rattle.journal.specs.Undo.{undoRecords, undoTexts}
 use Rattle.numbers.proofs.Numbers.{length-le}
 use Rattle.journal.proofs.Undo.{texts-size}
 use Rattle.records.specs.Written.{recordBytes, editSize}
-use Rattle.recording.specs.Tails.{kindNumber, tail, tailOf}
+use Rattle.records.specs.Records.{kindNumber}
+use Rattle.recording.specs.Tails.{tail, tailOf}
 
 -- ---- the record and the texts of an edit
 pub record-bytes : (F : Format) (x : Edit) → recordOf F (edit x) ≡ recordBytes F (kindNumber x) (place x) (length (old x)) (length (new x))

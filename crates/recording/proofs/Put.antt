@@ -24,7 +24,8 @@ use Rattle.journal.proofs.Holds.{front, holds-alone}
 use Rattle.journal.proofs.Undo.{records-cons, texts-cons, records-size, texts-size, good-newest, good-oldest, fits-yes, full-records, full-texts, full-place}
 use Rattle.records.specs.Written.{recordBytes, editSize}
 use Rattle.recording.specs.Tails as tails
-use Rattle.recording.specs.Tails.{kindNumber, tailOf, noted, Wrote}
+use Rattle.records.specs.Records.{kindNumber}
+use Rattle.recording.specs.Tails.{tailOf, noted, Wrote}
 use Rattle.recording.specs.declared.Tail.{Tail}
 use Rattle.recording.specs.declared.Noted.{Noted}
 use Rattle.recording.proofs.Numbers.{record-bytes, record-size, texts-are, ok-texts, texts-ok, small-edit, tail-edit, tail-records, tail-texts}

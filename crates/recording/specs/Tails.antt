@@ -8,19 +8,14 @@ use lib.ListN.{length, take}
 use lib.Seq.{sets}
 use Rattle.unicode.specs.Repertoire.{Repertoire}
 use Rattle.buffer.specs.Edit.{inserted}
-use Rattle.journal.specs.Change.{Edit, insert, delete, replace, Change, begin, end, edit, place, old, new}
+use Rattle.journal.specs.Change.{Change, begin, end, edit, place, old, new}
 use Rattle.formats.specs.declared.Format.{Format}
 use Rattle.journal.specs.Layout.{Layout}
 use Rattle.journal.specs.Undo.{undoRecords, undoTexts}
+use Rattle.records.specs.Records.{kindNumber}
 use Rattle.records.specs.Written.{recordBytes, editSize}
 use Rattle.recording.specs.declared.Tail.{Tail}
 use Rattle.recording.specs.declared.Noted.{Noted}
-
--- 3 Insert, 4 Delete, 5 Replace
-abbrev pub kindNumber : Edit → ℕ
-kindNumber (insert p s) = 3
-kindNumber (delete p s) = 4
-kindNumber (replace p o n) = 5
 
 abbrev pub tail : ℕ → ℕ → ℕ → ℕ → ℕ → ℕ → Tail
 tail r t k p o n = record { records = r; texts = t; kind = k; place = p; old = o; new = n }

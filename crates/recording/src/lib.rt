@@ -1,18 +1,20 @@
 // Recording a change: the dry run, which says where its record and its texts go, and the writing. undo.rs, Changeset.
 ghost use mathlib.Core.Path.{_≡_};
+ghost use mathlib.Core.Bool.{true};
 ghost use Prim.Native.Nat.{_+_, _≤_};
 ghost use lib.Dec.{eqb};
 ghost use lib.ListN.{length};
 ghost use Rattle.unicode.specs.Repertoire.{catalogue};
 ghost use Rattle.journal.specs.Hold.{Listed};
 ghost use Rattle.formats.specs.Formats.{Fit};
+ghost use Rattle.records.specs.Walks.{LastAt};
 ghost use Rattle.records.specs.Written.{editSize};
 ghost use Rattle.recording.specs.Tails.{tail, TailAt, TailFor, apart as Tails·apart, noted, InRange, Wrote};
 use buffer::insert_bytes;
 use formats::Format;
-use numbers::read_num;
 use records::edit_size;
 use records::last_start;
+use records::read_record;
 use records::write_record;
 
 // An undo list by its used lengths and its newest record: 3 Insert, 4 Delete, 5 Replace, 0 any other or none.
@@ -45,66 +47,49 @@ fn no_edit(records: usize, texts: usize) -> Tail
     }
 }
 
-// The tail of the undo list in records, whose texts are texts bytes long.
-pub fn tail_of(f: Format, records: &[u8], texts: usize) -> Tail
+// The tail of the undo list in records, whose newest record begins at last and whose texts are texts bytes long.
+pub fn tail_at(f: Format, records: &[u8], last: usize, texts: usize) -> Tail
     requires { ⌜ Fit f ⌝ }
-    requires { ⌜ Listed catalogue f (now records) ⌝ }
+    requires { ⌜ LastAt catalogue f (now records) last ⌝ }
     ensures { λ r. ⌜ TailAt catalogue f (now (records .entry)) texts r ⌝ }
 {
     let used = records.len();
-    if used == 0 {
+    let r = read_record(f, records, last);
+    if r.kind <= 2 {
         return no_edit(used, texts);
     }
-    let w = f.width;
-    let o = f.offset;
-    let last = last_start(f, records);
-    let kind = records[last] as usize;
-    if kind <= 2 {
-        return no_edit(used, texts);
-    }
-    let place = read_num(records, last + 1, w);
-    let first = read_num(records, last + 1 + w, w);
-    if kind == 3 + o {
-        return Tail {
-            records: used,
-            texts,
-            kind: 3,
-            place,
-            old: 0,
-            new: first,
-        };
-    }
-    if kind == 4 + o {
-        return Tail {
-            records: used,
-            texts,
-            kind: 4,
-            place,
-            old: first,
-            new: 0,
-        };
-    }
-    let second = read_num(records, last + 1 + w + w, w);
     Tail {
         records: used,
         texts,
-        kind: 5,
-        place,
-        old: first,
-        new: second,
+        kind: r.kind,
+        place: r.place,
+        old: r.old,
+        new: r.new,
     }
 }
 
-// The tail as far as recording a change looks at it: the newest record is sought only where the change may be joined to it.
-pub fn tail_for(f: Format, joins: bool, records: &[u8], texts: usize) -> Tail
+// Where the newest record begins, as far as recording a change asks: it is sought only where the change may be joined to it.
+pub fn last_for(f: Format, joins: bool, records: &[u8]) -> usize
     requires { ⌜ Fit f ⌝ }
     requires { ⌜ Listed catalogue f (now records) ⌝ }
+    ensures { λ r. ⌜ (joins ≡ true → LastAt catalogue f (now (records .entry)) r) ⌝ }
+{
+    if !joins {
+        return 0;
+    }
+    last_start(f, records)
+}
+
+// The tail as far as recording a change looks at it: the newest record is read only where the change may be joined to it.
+pub fn tail_for(f: Format, joins: bool, records: &[u8], last: usize, texts: usize) -> Tail
+    requires { ⌜ Fit f ⌝ }
+    requires { ⌜ (joins ≡ true → LastAt catalogue f (now records) last) ⌝ }
     ensures { λ r. ⌜ TailFor catalogue f joins (now (records .entry)) texts r ⌝ }
 {
     if !joins {
         return no_edit(records.len(), texts);
     }
-    tail_of(f, records, texts)
+    tail_at(f, records, last, texts)
 }
 
 // Does a cut of size bytes at a place end at next?

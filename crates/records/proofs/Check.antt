@@ -1,39 +1,44 @@
 -- The check of a list at a record, by the tests of the code. Assumes nothing.
-use Prim.Native.Nat.{ℕ, _+_, _-_, _≤_, _<_}
+use Prim.Native.Nat.{ℕ, _+_, _≤_, _<_}
 use native.Mathlib.Omega.{arith}
-use mathlib.Core.Path.{_≡_, sym, ap, _∙_}
+use mathlib.Core.Path.{_≡_, refl, sym, ap, _∙_}
 use mathlib.Core.List.{List}
-use mathlib.Core.Bool.{Bool, true, false, not, _||_}
+use mathlib.Core.Bool.{Bool, true, false, not, _&&_, and-true}
 use lib.Dec.{leb, eqb}
 use lib.ListN.{length, getD, take, drop, take-append-drop}
 use lib.Seq.{drop-drop, getD-drop}
-use borrow.Author.Tests.{leb-true, le-leb, lt-leb, eqb-true, eqb-false}
-use Rattle.lists.proofs.Bools.{and-both, never, or-none, by-test, by-less}
+use borrow.Author.Tests.{leb-true, le-leb, lt-leb}
+use Rattle.lists.proofs.Bools.{and-both, never}
 use Rattle.utf8.specs.Utf8.{tail}
 use Rattle.utf8.specs.Chars.{noTail}
 use Rattle.unicode.specs.Repertoire.{Repertoire}
 use Rattle.unicode.specs.Text.{isText}
-use Rattle.unicode.proofs.Text.{text-append, text-front}
+use Rattle.unicode.proofs.Text.{text-nil, text-append, text-front}
 use Rattle.formats.specs.declared.Format.{Format}
-use Rattle.journal.specs.Layout.{sizeOf, firstLen, secondLen, isSome, decodeAt}
-use Rattle.journal.proofs.Decode.{KindIs, is-begin, is-end, is-insert, is-delete, is-replace, kind-is, size-low, texts-low, texts-mid, texts-high, fine-low, fine-mid, fine-high, Whole, whole, whole-true, whole-false, some-step}
+use Rattle.journal.specs.Layout.{okChange, firstLen, sizeOf, textsAt, changeAt, wholeAt, isSome, decodeAt, decode}
+use Rattle.journal.proofs.Decode.{KindIs, is-begin, is-end, is-insert, is-delete, is-replace, kind-is, change-begin, change-end, change-insert, change-delete, change-replace, Whole, whole-false, some-end, some-bad, some-step}
 use Rattle.journal.proofs.Texts.{whole-text}
-use Rattle.records.specs.Check.{isTextAt, PassedAt}
-use Rattle.records.specs.declared.Passed.the-variants.{To, Broken}
-use Rattle.records.proofs.Records.{size-of}
+use Rattle.journal.proofs.Walk.{Come, come-end}
+use Rattle.records.specs.declared.Record.{Record}
+use Rattle.records.specs.declared.Newest.{Newest}
+use Rattle.records.specs.Records.{recordBy, IsWhole, recordAt}
+use Rattle.records.specs.Check.{isTextAt, areTextsAt}
+use Rattle.records.specs.Walks.{passing, NewestAt}
+use Rattle.records.proofs.Records.{by-begin, by-end, by-insert, by-delete, by-replace, is-whole, some-kind, size-is, texts-size-is, whole-by}
+use Rattle.records.proofs.Walks.{NewestOf, newest, newest-none, pass-count, newest-on}
 
 -- ---- n bytes at t
 module _ (R : Repertoire) (ts : List ℕ) (t n : ℕ) where
-  text-at : t + n ≤ length ts → isText R (take n (drop t ts)) ≡ true → isTextAt R ts t n ≡ true
-  text-at h e = rw (le-leb (t + n) (length ts) h, e)
+  pub none-at : n ≡ 0 → t ≤ length ts → true ≡ isTextAt R ts t n
+  none-at e h = rw e (sym (rw (le-leb (t + 0) (length ts) (omega arith), text-nil R)))
 
   pub no-room : length ts < t + n → false ≡ isTextAt R ts t n
   no-room h = sym (rw (lt-leb (t + n) (length ts) h))
 
   module _ (text : isText R (drop t ts) ≡ true) where
     -- of a text, by the byte behind them
-    pub by-end : (r : Bool) → t + n ≤ length ts → r ≡ noTail ts (t + n) → r ≡ isTextAt R ts t n
-    by-end r h e =
+    pub by-end-of : (r : Bool) → t + n ≤ length ts → r ≡ noTail ts (t + n) → r ≡ isTextAt R ts t n
+    by-end-of r h e =
         let f = text-front R (drop t ts) n text ∙ ap (λ (b : ℕ). not (tail b)) (getD-drop t ts n 256) in
         sym (rw (le-leb (t + n) (length ts) h) (f ∙ sym e))
 
@@ -45,113 +50,131 @@ module _ (R : Repertoire) (ts : List ℕ) (t n : ℕ) where
           ap (isText R) (sym (drop-drop n t ts)) ∙ sym (text-append R (take n (drop t ts)) (drop n (drop t ts)) (b .1)) ∙ ap (isText R) (take-append-drop n (drop t ts)) ∙ text,
         )
 
--- ---- the record at at, of the kind k, and its texts at t
-module _ (F : Format) (k : ℕ) where
-  group-is : (eqb k 1 || eqb k 2) ≡ true → KindIs F k × (k ≤ 2)
-  group-is g =
-      by-test (KindIs F k × (k ≤ 2)) (eqb k 1)
-      (λ y. let z = eqb-true k 1 y in (is-begin z, omega arith))
-      (λ n. let z : k ≡ 2 = eqb-true k 2 (rw n at g) in (is-end z, omega arith))
+-- ---- o bytes at t, and n bytes behind them
+module _ (R : Repertoire) (ts : List ℕ) (t o n : ℕ) where
+  pub first-bad : isTextAt R ts t o ≡ false → false ≡ areTextsAt R ts t o n
+  first-bad e = sym (rw e)
 
-  edit-is : (eqb k 1 || eqb k 2) ≡ false → KindIs F k → 2 < k
-  edit-is g (is-begin z) = absurd (eqb-false k 1 (or-none (eqb k 1) (eqb k 2) g .0) z)
-  edit-is g (is-end z) = absurd (eqb-false k 2 (or-none (eqb k 1) (eqb k 2) g .1) z)
-  edit-is g (is-insert z) = omega arith
-  edit-is g (is-delete z) = omega arith
-  edit-is g (is-replace z) = omega arith
+  pub second-says : (r : Bool) → isTextAt R ts t o ≡ true → r ≡ isTextAt R ts (t + o) n → r ≡ areTextsAt R ts t o n
+  second-says r e f = f ∙ sym (rw e)
 
-module _ (R : Repertoire) (F : Format) (rs ts : List ℕ) (at t : ℕ) where
-  -- its first text and its second are texts
-  abbrev one : Bool
-  one = isText R (take (firstLen F rs at) (drop t ts))
-
+  -- they are texts
   abbrev two : Bool
-  two = isText R (take (secondLen F rs at) (drop (t + firstLen F rs at) ts))
+  two = isText R (take o (drop t ts)) && isText R (take n (drop (t + o) ts))
 
-module _ (R : Repertoire) (F : Format) (rs ts : List ℕ) (at t k : ℕ) (e : k ≡ getD rs at 0) where
-  -- a Begin or an End
-  pub group-passed : (eqb k 1 || eqb k 2) ≡ true → at < length rs → t ≤ length ts → PassedAt R F rs ts at t (To (at + 1) t)
-  group-passed g h i =
-      let q = group-is F (getD rs at 0) (rw e at g) in
-      let s = size-low F (getD rs at 0) (q .0) (q .1) in
-      let m = texts-low F rs at (getD rs at 0) (q .0) (q .1) in
-      (whole-true R F rs ts at t (record { kind = omega arith; body = omega arith; room = omega arith; fine = fine-low R F rs ts at t (getD rs at 0) (q .0) (q .1) }), omega arith, omega arith)
+  texts-at : t + (o + n) ≤ length ts → two ≡ true → areTextsAt R ts t o n ≡ true
+  texts-at h e =
+      let b = and-both (isText R (take o (drop t ts))) (isText R (take n (drop (t + o) ts))) e in
+      rw (le-leb (t + o) (length ts) (omega arith), le-leb (t + o + n) (length ts) (omega arith), b .0, b .1)
 
-  module _ (n : ℕ) (f : n ≡ sizeOf F k) where
-    size : n ≡ sizeOf F (getD rs at 0)
-    size = size-of F rs at k n e f
+  at-texts : areTextsAt R ts t o n ≡ true → (t + (o + n) ≤ length ts) × (two ≡ true)
+  at-texts e =
+      let b = and-both (isTextAt R ts t o) (isTextAt R ts (t + o) n) e in
+      let x = and-both (leb (t + o) (length ts)) (isText R (take o (drop t ts))) (b .0) in
+      let y = and-both (leb (t + o + n) (length ts)) (isText R (take n (drop (t + o) ts))) (b .1) in
+      (omega (arith, leb-true (t + o + n) (length ts) (y .0)), rw (x .1, y .1))
 
-    pub no-kind : n ≡ 0 → PassedAt R F rs ts at t Broken
-    no-kind z = whole-false R F rs ts at t (λ q. omega (arith, q .kind, size))
+-- one of them is empty, or both
+module _ (R : Repertoire) (ts : List ℕ) (t : ℕ) where
+  two-none : true ≡ two R ts t 0 0
+  two-none = sym (rw (text-nil R))
 
-    pub no-body : length rs - at < n → PassedAt R F rs ts at t Broken
-    no-body z = whole-false R F rs ts at t (λ q. omega (arith, q .body, size))
+  two-new : (n : ℕ) → isText R (take n (drop t ts)) ≡ two R ts t 0 n
+  two-new n =
+      let z : t + 0 ≡ t = omega arith in
+      sym (rw (text-nil R, z))
 
-    -- an edit, whose record is whole
-    module _ (g : (eqb k 1 || eqb k 2) ≡ false) (p : n ≡ 0 → ⊥) (h : at < length rs) (b : n ≤ length rs - at) where
-      pub some-size : (0 < sizeOf F (getD rs at 0)) × (at + sizeOf F (getD rs at 0) ≤ length rs)
-      some-size = (omega (arith, size), omega (arith, size))
+  two-old : (o : ℕ) → isText R (take o (drop t ts)) ≡ two R ts t o 0
+  two-old o = sym (rw (text-nil R, and-true (isText R (take o (drop t ts)))))
 
-      kind : KindIs F (getD rs at 0)
-      kind = kind-is F (getD rs at 0) (some-size .0)
+-- ---- the record r at at, and its texts at t
+module _ (R : Repertoire) (F : Format) (rs ts : List ℕ) (at t : ℕ) where
+  abbrev twoOf : Record → Bool
+  twoOf r = two R ts t (r .old) (r .new)
 
-      pub is-edit : 2 < k
-      is-edit = omega (arith, edit-is F (getD rs at 0) (rw e at g) kind)
+  fine-by : (k : ℕ) → KindIs F k → okChange R (changeAt F rs ts at t k) ≡ twoOf (recordBy F rs at k)
+  fine-by k (is-begin e) = ap (okChange R) (change-begin F rs ts at t k e) ∙ two-none R ts t ∙ sym (ap twoOf (by-begin F rs at k e))
+  fine-by k (is-end e) = ap (okChange R) (change-end F rs ts at t k e) ∙ two-none R ts t ∙ sym (ap twoOf (by-end F rs at k e))
+  fine-by k (is-insert e) = ap (okChange R) (change-insert F rs ts at t k e) ∙ two-new R ts t (firstLen F rs at) ∙ sym (ap twoOf (by-insert F rs at k e))
+  fine-by k (is-delete e) = ap (okChange R) (change-delete F rs ts at t k e) ∙ two-old R ts t (firstLen F rs at) ∙ sym (ap twoOf (by-delete F rs at k e))
+  fine-by k (is-replace e) = ap (okChange R) (change-replace F rs ts at t k e) ∙ sym (ap twoOf (by-replace F rs at k e))
 
-      module _ (a : ℕ) (i : a ≡ firstLen F rs at) where
-        -- its first text is one
-        first-of : Whole R F rs ts at t → isTextAt R ts t (firstLen F rs at) ≡ true
-        first-of q =
-            by-less (isTextAt R ts t (firstLen F rs at) ≡ true) (4 + F .offset) (getD rs at 0)
-            (λ x. text-at R ts t (firstLen F rs at) (omega (arith, q .room, texts-high F rs at (getD rs at 0) kind x)) (and-both (one R F rs ts at t) (two R F rs ts at t) (sym (fine-high R F rs ts at t (getD rs at 0) kind x) ∙ q .fine) .0))
-            (λ x. let l : 2 < getD rs at 0 = omega (arith, is-edit) in
-            text-at R ts t (firstLen F rs at) (omega (arith, q .room, texts-mid F rs at (getD rs at 0) kind l x)) (sym (fine-mid R F rs ts at t (getD rs at 0) kind l x) ∙ q .fine))
+  module _ (r : Record) (e : r ≡ recordAt F rs at) where
+    fine-is : IsWhole F rs at → okChange R (changeAt F rs ts at t (getD rs at 0)) ≡ twoOf r
+    fine-is w = fine-by (getD rs at 0) (kind-is F (getD rs at 0) (w .0)) ∙ sym (ap twoOf (e ∙ is-whole F rs at w))
 
-        pub first-bad : isTextAt R ts t a ≡ false → PassedAt R F rs ts at t Broken
-        first-bad z = whole-false R F rs ts at t (λ q. never ⊥ (isTextAt R ts t (firstLen F rs at)) (first-of q) (rw i at z))
+    -- no record
+    pub no-record : r .kind ≡ 0 → wholeAt R F rs ts at t ≡ false
+    no-record z = whole-false R F rs ts at t (λ q. omega (arith, some-kind F rs at r e (q .kind, q .body)))
 
-        pub one-passed : k ≤ 4 + F .offset → isTextAt R ts t a ≡ true → PassedAt R F rs ts at t (To (at + n) (t + a))
-        one-passed l z =
-            let x : 2 < getD rs at 0 = omega (arith, is-edit) in
-            let y : getD rs at 0 ≤ 4 + F .offset = omega arith in
-            let m = texts-mid F rs at (getD rs at 0) kind x y in
-            let w = and-both (leb (t + firstLen F rs at) (length ts)) (one R F rs ts at t) (rw i at z) in (
-              whole-true R F rs ts at t (record { kind = some-size .0; body = some-size .1; room = omega (arith, leb-true (t + firstLen F rs at) (length ts) (w .0)); fine = fine-mid R F rs ts at t (getD rs at 0) kind x y ∙ w .1 }),
-              omega (arith, size),
-              omega (arith, i),
-            )
+    -- its texts do not stand there
+    texts-of : Whole R F rs ts at t → areTextsAt R ts t (r .old) (r .new) ≡ true
+    texts-of q =
+        let w : IsWhole F rs at = (q .kind, q .body) in
+        texts-at R ts t (r .old) (r .new) (omega (arith, q .room, texts-size-is F rs at r e w)) (sym (fine-is w) ∙ q .fine)
 
-        -- and its second
-        module _ (l : 4 + F .offset < k) (c : ℕ) (j : c ≡ secondLen F rs at) where
-          second-of : Whole R F rs ts at t → isTextAt R ts (t + firstLen F rs at) (secondLen F rs at) ≡ true
-          second-of q =
-              let x : 4 + F .offset < getD rs at 0 = omega arith in
-              text-at R ts (t + firstLen F rs at) (secondLen F rs at) (omega (arith, q .room, texts-high F rs at (getD rs at 0) kind x)) (and-both (one R F rs ts at t) (two R F rs ts at t) (sym (fine-high R F rs ts at t (getD rs at 0) kind x) ∙ q .fine) .1)
+    pub no-texts : areTextsAt R ts t (r .old) (r .new) ≡ false → wholeAt R F rs ts at t ≡ false
+    no-texts z = whole-false R F rs ts at t (λ q. never ⊥ (areTextsAt R ts t (r .old) (r .new)) (texts-of q) z)
 
-          pub second-bad : isTextAt R ts (t + a) c ≡ false → PassedAt R F rs ts at t Broken
-          second-bad z = whole-false R F rs ts at t (λ q. never ⊥ (isTextAt R ts (t + firstLen F rs at) (secondLen F rs at)) (second-of q) (rw (i, j) at z))
+    -- it is passed
+    module _ (k : r .kind ≡ 0 → ⊥) (z : areTextsAt R ts t (r .old) (r .new) ≡ true) where
+      stands : IsWhole F rs at
+      stands = whole-by F rs at r e k
 
-          pub two-passed : isTextAt R ts t a ≡ true → isTextAt R ts (t + a) c ≡ true → PassedAt R F rs ts at t (To (at + n) (t + a + c))
-          two-passed y z =
-              let x : 4 + F .offset < getD rs at 0 = omega arith in
-              let m = texts-high F rs at (getD rs at 0) kind x in
-              let v = and-both (leb (t + firstLen F rs at) (length ts)) (one R F rs ts at t) (rw i at y) in
-              let w = and-both (leb (t + firstLen F rs at + secondLen F rs at) (length ts)) (two R F rs ts at t) (rw (i, j) at z) in (
-                whole-true R F rs ts at t (record { kind = some-size .0; body = some-size .1; room = omega (arith, leb-true (t + firstLen F rs at + secondLen F rs at) (length ts) (w .0)); fine = fine-high R F rs ts at t (getD rs at 0) kind x ∙ rw (v .1, w .1) }),
-                omega (arith, size),
-                omega (arith, i, j),
-              )
+      sizes : (r .size ≡ sizeOf F (getD rs at 0)) × (r .old + r .new ≡ textsAt F rs at (getD rs at 0))
+      sizes = (size-is F rs at r e stands, texts-size-is F rs at r e stands)
 
--- ---- behind a whole record
-module _ (R : Repertoire) (F : Format) (rs ts : List ℕ) (at t a e : ℕ) (p : PassedAt R F rs ts at t (To a e)) where
-  is-whole : Whole R F rs ts at t
-  is-whole = whole R F rs ts at t (p .0)
+      all : Whole R F rs ts at t
+      all =
+          let b = at-texts R ts t (r .old) (r .new) z in
+          record { kind = stands .0; body = stands .1; room = omega (arith, sizes .1, b .0); fine = fine-is stands ∙ b .1 }
 
-  pub further : (at < a) × (a ≤ length rs) × (e ≤ length ts)
-  further = (omega (arith, is-whole .kind, p .1), omega (arith, is-whole .body, p .1), omega (arith, is-whole .room, p .2))
+      pub further : (at < at + r .size) × (at + r .size ≤ length rs) × (t + (r .old + r .new) ≤ length ts)
+      further = (omega (arith, stands .0, sizes .0), omega (arith, stands .1, sizes .0), at-texts R ts t (r .old) (r .new) z .0)
 
-  pub text-on : isText R (drop t ts) ≡ true → isText R (drop e ts) ≡ true
-  text-on h = rw (p .2) (sym (whole-text R F rs ts at t is-whole) ∙ h)
+      text-on : isText R (drop t ts) ≡ true → isText R (drop (t + (r .old + r .new)) ts) ≡ true
+      text-on h = rw (sizes .1) (sym (whole-text R F rs ts at t all) ∙ h)
 
-  pub decode-on : isSome (decodeAt R F rs ts a e) ≡ isSome (decodeAt R F rs ts at t)
-  decode-on = rw (p .1, p .2) (sym (some-step R F rs ts at t is-whole))
+      decode-on : isSome (decodeAt R F rs ts (at + r .size) (t + (r .old + r .new))) ≡ isSome (decodeAt R F rs ts at t)
+      decode-on = rw (sizes .0, sizes .1) (sym (some-step R F rs ts at t all))
+
+-- ---- the check has come to at and t, and n is what stands at the end there
+pub record Looks (R : Repertoire) (F : Format) (rs ts : List ℕ) (n : Newest) (at t : ℕ) : Type 0 where
+  pub records : at ≤ length rs
+  pub texts : t ≤ length ts
+  pub text : isText R (drop t ts) ≡ true
+  pub decodes : isSome (decodeAt R F rs ts at t) ≡ isSome (decode R F rs ts)
+  pub count : n .count ≤ at
+  pub begins : n .begins ≤ n .count
+  pub newest : Come R F rs at (NewestOf F n)
+
+module _ (R : Repertoire) (F : Format) (rs ts : List ℕ) where
+  pub looks-first : isText R ts ≡ true → Looks R F rs ts (newest 0 0 0 0 0) 0 0
+  looks-first e = record { records = omega arith; texts = omega arith; text = e; decodes = refl; count = omega arith; begins = omega arith; newest = newest-none R F rs }
+
+  module _ (n : Newest) (at t : ℕ) (l : Looks R F rs ts n at t) where
+    -- no whole record stands there
+    pub looks-bad : at < length rs → wholeAt R F rs ts at t ≡ false → false ≡ isSome (decode R F rs ts)
+    looks-bad h e = sym (some-bad R F rs ts at t h e) ∙ l .decodes
+
+    -- the record r is passed
+    pub looks-on : (r : Record) → r ≡ recordAt F rs at → at < length rs → (r .kind ≡ 0 → ⊥) → areTextsAt R ts t (r .old) (r .new) ≡ true → (m : Newest) → m ≡ passing (r .kind) at (at + r .size) n
+        → Looks R F rs ts m (at + r .size) (t + (r .old + r .new))
+    looks-on r e h k z m g =
+        let f = further R F rs ts at t r e k z in
+        let c = pass-count (r .kind) at (at + r .size) n (l .begins) in
+        let a = ap (λ (x : Newest). x .count) g in
+        let b = ap (λ (x : Newest). x .begins) g in
+        record {
+          records = f .1;
+          texts = f .2;
+          text = text-on R F rs ts at t r e k z (l .text);
+          decodes = decode-on R F rs ts at t r e k z ∙ l .decodes;
+          count = omega (arith, l .count, f .0, c .0, a);
+          begins = omega (arith, c .0, c .1, a, b);
+          newest = newest-on R F rs at r h e (whole-by F rs at r e k) n m g (l .newest);
+        }
+
+    -- all records are passed
+    pub looks-end : length rs ≤ at → (eqb t (length ts) ≡ isSome (decode R F rs ts)) × NewestAt R F rs n
+    looks-end h = (sym (some-end R F rs ts at t (omega (arith, l .records))) ∙ l .decodes, come-end R F rs at (NewestOf F n) h (l .newest))

@@ -1,4 +1,5 @@
 pub mod Records
 pub mod Check
 pub mod Walks
+pub mod Sizes
 pub mod Written

@@ -1,5 +1,5 @@
 -- Numbers and records written: byte by byte, number by number, and an edit's record by its kind. Assumes nothing.
-use Prim.Native.Nat.{ℕ, suc, _+_, _-_, _*_, _/_, _%_, _≤_, _<_}
+use Prim.Native.Nat.{ℕ, _+_, _-_, _≤_}
 use native.Mathlib.Omega.{arith}
 use native.Mathlib.Numerals.{add-one}
 use mathlib.Core.Path.{_≡_, _∙_}
@@ -10,7 +10,7 @@ use lib.Dec.{eqb}
 use borrow.Author.Tests.{eq-eqb, ne-eqb, eqb-true, eqb-false}
 use Rattle.lists.proofs.Bools.{by-test}
 use Rattle.lists.proofs.Stores.{sets-append}
-use Rattle.numbers.specs.Numbers.{top, le}
+use Rattle.numbers.specs.Numbers.{le}
 use Rattle.formats.specs.declared.Format.{Format}
 use Rattle.numbers.proofs.Numbers.{length-le}
 use Rattle.records.specs.Written.{recordBytes, editSize}

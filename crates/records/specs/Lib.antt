@@ -1,3 +1,4 @@
+pub mod Records
 pub mod Check
 pub mod Walks
 pub mod Written

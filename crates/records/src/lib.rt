@@ -1,17 +1,18 @@
-// Records: document 01, "Log and ring". A list of changes in bytes is checked, walked over from its front, and written record by record.
+// Records: document 01, "Log and ring". A record is read at its place by its kind; a list of changes in bytes is checked, walked over
+// from its front, and written record by record.
 ghost use mathlib.Core.Path.{_≡_};
 ghost use mathlib.Core.Bool.{true};
 ghost use Prim.Native.Nat.{_+_, _≤_, _<_};
-ghost use lib.ListN.{length, getD, drop};
+ghost use lib.ListN.{length, drop};
 ghost use lib.Seq.{sets};
 ghost use Rattle.unicode.specs.Repertoire.{catalogue};
 ghost use Rattle.unicode.specs.Text.{isText};
-ghost use Rattle.numbers.specs.Numbers.{top, le, numAt};
-ghost use Rattle.journal.specs.Layout.{sizeOf, textsAt, decode, isSome};
+ghost use Rattle.journal.specs.Layout.{sizeOf, decode, isSome};
 ghost use Rattle.journal.specs.Hold.{Listed};
 ghost use Rattle.formats.specs.Formats.{Fit, recordsMax};
-ghost use Rattle.records.specs.Check.{isTextAt, PassedAt};
-ghost use Rattle.records.specs.Walks.{Walks, LastAt, RunAt};
+ghost use Rattle.records.specs.Records.{noRecord, Read};
+ghost use Rattle.records.specs.Check.{isTextAt, areTextsAt};
+ghost use Rattle.records.specs.Walks.{Walks, LastAt, NewestAt, passing, SizesNoted};
 ghost use Rattle.records.specs.Written.{recordBytes, editSize};
 use formats::Format;
 use numbers::read_num;
@@ -20,8 +21,29 @@ use numbers::write_num;
 use unicode::check_text;
 use utf8::is_boundary;
 
-// The size of a record by its kind; 0 for a byte that is no kind.
-pub fn record_size(f: Format, kind: usize) -> usize
+// A record by its numbers: the kind 1 to 5, the place, the lengths of the old and of the new text, and its size in bytes.
+pub struct Record {
+    pub kind: usize,
+    pub place: usize,
+    pub old: usize,
+    pub new: usize,
+    pub size: usize,
+}
+
+fn no_record() -> Record
+    ensures { λ r. ⌜ r ≡ noRecord ⌝ }
+{
+    Record {
+        kind: 0,
+        place: 0,
+        old: 0,
+        new: 0,
+        size: 0,
+    }
+}
+
+// The size of a record by its byte of kind; 0 for a byte that is no kind.
+fn record_size(f: Format, kind: usize) -> usize
     requires { ⌜ Fit f ⌝ }
     ensures { λ r. ⌜ (r ≡ sizeOf f kind) × (r ≤ 13) ⌝ }
 {
@@ -45,29 +67,61 @@ pub fn record_size(f: Format, kind: usize) -> usize
     0
 }
 
-// The size of the texts of the whole record at a place.
-pub fn texts_size(f: Format, records: &[u8], at: usize) -> usize
+// The record at a place; kind and size are 0 where no whole record stands there. A Begin and an End have no body.
+pub fn read_record(f: Format, records: &[u8], at: usize) -> Record
     requires { ⌜ Fit f ⌝ }
-    requires { ⌜ (0 < sizeOf f (getD (now records) at 0)) × (at + sizeOf f (getD (now records) at 0) ≤ length (now records)) ⌝ }
-    ensures { λ r. ⌜ (r ≡ textsAt f (now (records .entry)) at (getD (now (records .entry)) at 0)) × (r < 8589934592) ⌝ }
+    ensures { λ r. ⌜ Read f (now (records .entry)) at r ⌝ }
 {
+    if records.len() <= at {
+        return no_record();
+    }
     let kind = wide(records[at]);
+    if (kind == 1) | (kind == 2) {
+        return Record {
+            kind,
+            place: 0,
+            old: 0,
+            new: 0,
+            size: 1,
+        };
+    }
+    let size = record_size(f, kind);
+    if size == 0 {
+        return no_record();
+    }
+    if records.len() - at < size {
+        return no_record();
+    }
     let w = f.width;
     let o = f.offset;
-    if kind <= 2 {
-        return 0;
-    }
+    let place = read_num(records, at + 1, w);
     let first = read_num(records, at + 1 + w, w);
-    if kind <= 4 + o {
-        return first;
+    if kind == 3 + o {
+        return Record {
+            kind: 3,
+            place,
+            old: 0,
+            new: first,
+            size,
+        };
     }
-    first + read_num(records, at + 1 + w + w, w)
-}
-
-// Where the next record and its texts stand; or no whole record stood at the place.
-pub enum Passed {
-    To(usize, usize),
-    Broken,
+    if kind == 4 + o {
+        return Record {
+            kind: 4,
+            place,
+            old: first,
+            new: 0,
+            size,
+        };
+    }
+    let second = read_num(records, at + 1 + w + w, w);
+    Record {
+        kind: 5,
+        place,
+        old: first,
+        new: second,
+        size,
+    }
 }
 
 // Do n bytes stand at t, and are they a text? All from t on are one: the n are where they end between two of its characters.
@@ -75,65 +129,122 @@ fn is_text_at(texts: &[u8], t: usize, n: usize) -> bool
     requires { ⌜ (t ≤ length (now texts)) × (isText catalogue (drop t (now texts)) ≡ true) ⌝ }
     ensures { λ r. ⌜ r ≡ isTextAt catalogue (now (texts .entry)) t n ⌝ }
 {
+    if n == 0 {
+        return true;
+    }
     if texts.len() - t < n {
         return false;
     }
     is_boundary(texts, t + n)
 }
 
-// Does a whole record stand at a place, and its texts at t? All bytes from t on are a text. A Begin and an End have no body.
-fn pass_record(f: Format, records: &[u8], texts: &[u8], at: usize, t: usize) -> Passed
-    requires { ⌜ Fit f ⌝ }
-    requires { ⌜ at < length (now records) ⌝ }
+// Do the texts of a record, old and new bytes long, stand at t? All bytes from t on are a text.
+fn are_texts_at(texts: &[u8], t: usize, old: usize, new: usize) -> bool
     requires { ⌜ (t ≤ length (now texts)) × (isText catalogue (drop t (now texts)) ≡ true) ⌝ }
-    ensures { λ r. ⌜ PassedAt catalogue f (now (records .entry)) (now (texts .entry)) at t r ⌝ }
+    ensures { λ r. ⌜ r ≡ areTextsAt catalogue (now (texts .entry)) t old new ⌝ }
 {
-    let kind = wide(records[at]);
-    if (kind == 1) | (kind == 2) {
-        return Passed::To(at + 1, t);
+    if !is_text_at(texts, t, old) {
+        return false;
     }
-    let size = record_size(f, kind);
-    if size == 0 {
-        return Passed::Broken;
+    is_text_at(texts, t + old, new)
+}
+
+// A list by its records: how many they are, where the newest begins, how many Begins stand last and where the first of those
+// begins, where the newest that is no End begins.
+pub struct Newest {
+    pub count: usize,
+    pub last: usize,
+    pub begins: usize,
+    pub opened: usize,
+    pub shown: usize,
+}
+
+impl Newest {
+    // A record more, from a place up to the next.
+    fn pass(self, kind: usize, at: usize, next: usize) -> Newest
+        requires { ⌜ (self .count < 18446744073709551615) × (self .begins ≤ self .count) ⌝ }
+        ensures { λ r. ⌜ r ≡ passing kind at next self ⌝ }
+    {
+        let count = self.count + 1;
+        if kind == 1 {
+            return Newest {
+                count,
+                last: at,
+                begins: self.begins + 1,
+                opened: self.opened,
+                shown: at,
+            };
+        }
+        if kind == 2 {
+            return Newest {
+                count,
+                last: at,
+                begins: 0,
+                opened: next,
+                shown: self.shown,
+            };
+        }
+        Newest {
+            count,
+            last: at,
+            begins: 0,
+            opened: next,
+            shown: at,
+        }
     }
-    if records.len() - at < size {
-        return Passed::Broken;
-    }
-    let w = f.width;
-    let n = read_num(records, at + 1 + w, w);
-    if !is_text_at(texts, t, n) {
-        return Passed::Broken;
-    }
-    if kind <= 4 + f.offset {
-        return Passed::To(at + size, t + n);
-    }
-    let m = read_num(records, at + 1 + w + w, w);
-    if !is_text_at(texts, t + n, m) {
-        return Passed::Broken;
-    }
-    Passed::To(at + size, t + n + m)
+}
+
+// Whether bytes are a list, and if so what stands at its end.
+pub struct Looked {
+    pub sound: bool,
+    pub newest: Newest,
 }
 
 // Are records and texts the layout of a list of changes? One pass over each: the texts are looked at as one text, and of each
 // record's texts it is then asked where they end.
-pub fn check_list(f: Format, records: &[u8], texts: &[u8]) -> bool
+pub fn check_list(f: Format, records: &[u8], texts: &[u8]) -> Looked
     requires { ⌜ Fit f ⌝ }
-    ensures { λ r. ⌜ r ≡ isSome (decode catalogue f (now (records .entry)) (now (texts .entry))) ⌝ }
+    ensures sound { λ r. ⌜ r .sound ≡ isSome (decode catalogue f (now (records .entry)) (now (texts .entry))) ⌝ }
+    ensures newest { λ r. ⌜ (r .sound ≡ true → NewestAt catalogue f (now (records .entry)) (r .newest)) ⌝ }
 {
+    let mut newest = Newest {
+        count: 0,
+        last: 0,
+        begins: 0,
+        opened: 0,
+        shown: 0,
+    };
     if !check_text(texts) {
-        return false;
+        return Looked {
+            sound: false,
+            newest,
+        };
     }
     let mut at: usize = 0;
     let mut t: usize = 0;
     while at < records.len() {
-        let p = pass_record(f, records, texts, at, t);
-        let Passed::To(next, end) = p else {
-            return false;
-        };
+        let r = read_record(f, records, at);
+        if r.kind == 0 {
+            return Looked {
+                sound: false,
+                newest,
+            };
+        }
+        if !are_texts_at(texts, t, r.old, r.new) {
+            return Looked {
+                sound: false,
+                newest,
+            };
+        }
+        let next = at + r.size;
+        newest = newest.pass(r.kind, at, next);
         at = next;
-        t = end;
+        t += r.old + r.new;
     }
-    t == texts.len()
+    Looked {
+        sound: t == texts.len(),
+        newest,
+    }
 }
 
 // Where a walk over records ends: how many it passed, and the size of those records and of their texts.
@@ -161,8 +272,9 @@ pub fn walk(f: Format, records: &[u8], n: usize) -> Walked
                 texts: t,
             };
         }
-        t += texts_size(f, records, at);
-        at += record_size(f, wide(records[at]));
+        let r = read_record(f, records, at);
+        at += r.size;
+        t += r.old + r.new;
         count += 1;
     }
     Walked {
@@ -181,28 +293,31 @@ pub fn last_start(f: Format, records: &[u8]) -> usize
     let mut at: usize = 0;
     let mut last: usize = 0;
     while at < records.len() {
+        let r = read_record(f, records, at);
         last = at;
-        at += record_size(f, wide(records[at]));
+        at += r.size;
     }
     last
 }
 
-// Where the records of one kind that stand last begin.
-pub fn run_start(f: Format, records: &[u8], kind: usize) -> usize
+// The size of each record of a list, noted at the record's last byte, so that the list can be walked from its newest record:
+// one pass. Answers the number of records.
+pub fn note_sizes(f: Format, records: &[u8], sizes: &mut [u8]) -> usize
     requires { ⌜ Fit f ⌝ }
     requires { ⌜ Listed catalogue f (now records) ⌝ }
-    ensures { λ r. ⌜ RunAt catalogue f (now (records .entry)) kind r ⌝ }
+    requires { ⌜ length (now records) ≤ length (now sizes) ⌝ }
+    ensures { λ r. ⌜ SizesNoted catalogue f (now (records .entry)) r (now (sizes .exit)) ⌝ }
 {
+    let mut count: usize = 0;
     let mut at: usize = 0;
-    let mut start: usize = 0;
     while at < records.len() {
-        let k = wide(records[at]);
-        at += record_size(f, k);
-        if k != kind {
-            start = at;
-        }
+        let r = read_record(f, records, at);
+        let size = r.size;
+        at += size;
+        sizes[at - 1] = size as u8;
+        count += 1;
     }
-    start
+    count
 }
 
 // The size of an edit's record: kind 3, 4 or 5.

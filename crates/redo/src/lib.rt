@@ -20,9 +20,8 @@ use edit::says;
 use formats::Format;
 use formats::format_for;
 use keymap::RepeatCount;
-use records::record_size;
+use records::read_record;
 use retrace::Step;
-use retrace::read_record;
 use retrace::retrace;
 use undo::Passed;
 use undo::answer;
@@ -51,10 +50,9 @@ fn redo_record(
     if step.number != 0 {
         return Passed { step, log, kind };
     }
-    let end = at + record_size(f, records[at] as usize);
     Passed {
         step,
-        log: log.move_seam(end, t + (r.old + r.new)),
+        log: log.move_seam(at + r.size, t + (r.old + r.new)),
         kind,
     }
 }

@@ -13,8 +13,7 @@ use Rattle.utf8.specs.Chars.{boundary}
 use Rattle.buffer.specs.Edit.{inserted, cut}
 use Rattle.edit.specs.Plan.{splice}
 use Rattle.edit.proofs.Splice.{splice-length, cut-put}
-use Rattle.retrace.specs.Retrace.{Trail, Tried, done, stops, misfit, exchanging}
-use Rattle.retrace.specs.Records.{Exchanged}
+use Rattle.retrace.specs.Retrace.{Trail, Tried, done, stops, misfit, exchanging, Exchanged}
 
 -- the text with s in the place of the n bytes at p, and the cursor behind s
 abbrev pub swapped : ℕ → ℕ → List ℕ → List ℕ → Trail

@@ -10,10 +10,11 @@ use Rattle.lists.proofs.Parts.{drop-take}
 use Rattle.journal.specs.Change.{Edit, insert, delete, replace, Change, begin, end, edit, place, old, new, flipped}
 use Rattle.recording.proofs.Numbers.{texts-are}
 use Rattle.edit.specs.Plan.{splice}
-use Rattle.retrace.specs.declared.Record.{Record}
+use Rattle.formats.specs.declared.Format.{Format}
+use Rattle.records.specs.declared.Record.{Record}
+use Rattle.records.specs.Records.{Carries}
 use Rattle.retrace.specs.declared.Step.{Step}
-use Rattle.retrace.specs.Retrace.{Trail, Tried, done, stops, exchanging, undoing, facing}
-use Rattle.retrace.specs.Records.{Carries, Exchanged, Retraced}
+use Rattle.retrace.specs.Retrace.{Trail, Tried, done, stops, exchanging, undoing, facing, Exchanged, Retraced}
 use Rattle.retrace.proofs.Exchanges.{Fits, swapped-length, swaps, fits-by}
 
 -- so many bytes are taken out, and the bytes of the texts from one place up to another are put in
@@ -51,18 +52,18 @@ turned C (replace p o n) s = refl
 
 module _ (C : ℕ) (r : Record) (ts : List ℕ) (t : ℕ) (s : Trail) where
   -- a record of no text
-  pub bare : (back : Bool) (c : Change) → Carries c r ts t → r .kind ≤ 2 → undoing C (facing back c) s ≡ done s
+  pub bare : (back : Bool) (F : Format) (c : Change) → Carries F c r ts t → r .kind ≤ 2 → undoing C (facing back c) s ≡ done s
   unfolding undoing
-  bare true begin h k = refl
-  bare false begin h k = refl
-  bare true end h k = refl
-  bare false end h k = refl
-  bare back (edit (insert p w)) h k = absurd (omega (arith, ap (λ (x : Record). x .kind) (h .numbers)))
-  bare back (edit (delete p w)) h k = absurd (omega (arith, ap (λ (x : Record). x .kind) (h .numbers)))
-  bare back (edit (replace p o n)) h k = absurd (omega (arith, ap (λ (x : Record). x .kind) (h .numbers)))
+  bare true F begin h k = refl
+  bare false F begin h k = refl
+  bare true F end h k = refl
+  bare false F end h k = refl
+  bare back F (edit (insert p w)) h k = absurd (omega (arith, ap (λ (x : Record). x .kind) (h .numbers)))
+  bare back F (edit (delete p w)) h k = absurd (omega (arith, ap (λ (x : Record). x .kind) (h .numbers)))
+  bare back F (edit (replace p o n)) h k = absurd (omega (arith, ap (λ (x : Record). x .kind) (h .numbers)))
 
   -- its old and its new text, in the texts
-  module _ (x : Edit) (h : Carries (edit x) r ts t) where
+  module _ (F : Format) (x : Edit) (h : Carries F (edit x) r ts t) where
     both : take (length (old x ++ new x)) (drop t ts) ≡ old x ++ new x
     both = subst (λ (l : List ℕ). take (length l) (drop t ts) ≡ l) (texts-are x) (h .texts)
 
@@ -78,15 +79,15 @@ module _ (C : ℕ) (r : Record) (ts : List ℕ) (t : ℕ) (s : Trail) where
         ap₂ (λ (i j : ℕ). take i (drop j ts)) k i ∙ ap (take (length (new x))) (sym (drop-drop (length (old x)) t ts)) ∙ front-second (old x) (new x) (drop t ts) both
 
   -- a record of a text
-  pub exchanges : (back : Bool) (c : Change) (out from to : ℕ) → Carries c r ts t → 2 < r .kind → Faces back r t out from to
+  pub exchanges : (back : Bool) (F : Format) (c : Change) (out from to : ℕ) → Carries F c r ts t → 2 < r .kind → Faces back r t out from to
       → undoing C (facing back c) s ≡ exchanging C (r .place) out (take (to - from) (drop from ts)) (s .text)
   unfolding undoing
-  exchanges back begin out from to h k f = absurd (omega (arith, ap (λ (x : Record). x .kind) (h .numbers)))
-  exchanges back end out from to h k f = absurd (omega (arith, ap (λ (x : Record). x .kind) (h .numbers)))
-  exchanges true (edit x) out from to h k f =
-      rw (old-part x h from to (f .1) (f .2), f .0, h .numbers)
-  exchanges false (edit x) out from to h k f =
-      turned C x s ∙ rw (new-part x h from to (f .1) (f .2), f .0, h .numbers)
+  exchanges back F begin out from to h k f = absurd (omega (arith, ap (λ (x : Record). x .kind) (h .numbers)))
+  exchanges back F end out from to h k f = absurd (omega (arith, ap (λ (x : Record). x .kind) (h .numbers)))
+  exchanges true F (edit x) out from to h k f =
+      rw (old-part F x h from to (f .1) (f .2), f .0, h .numbers)
+  exchanges false F (edit x) out from to h k f =
+      turned C x s ∙ rw (new-part F x h from to (f .1) (f .2), f .0, h .numbers)
 
 -- ---- what is left, by the number
 pub stopped-step : (x : Tried) (q : Step) (k : ℕ) (b b' : List ℕ) → Exchanged x k b b' → (k ≡ 0 → ⊥) → Retraced x q (record { number = k; len = q .len; cursor = q .cursor; undone = q .undone }) b b'
@@ -99,10 +100,10 @@ trailOf q b = record { text = take (q .len) b; cursor = q .cursor; undone = q .u
 
 module _ (r : Record) (ts : List ℕ) (t : ℕ) (q : Step) (b : List ℕ) (z : q .number ≡ 0) (m : q .len ≤ length b) where
   -- a record of no text leaves everything
-  pub unmoved : (back : Bool) (c : Change) → Carries c r ts t → r .kind ≤ 2 → Retraced (undoing (length b) (facing back c) (trailOf q b)) q q b b
-  unmoved back c h k =
+  pub unmoved : (back : Bool) (F : Format) (c : Change) → Carries F c r ts t → r .kind ≤ 2 → Retraced (undoing (length b) (facing back c) (trailOf q b)) q q b b
+  unmoved back F c h k =
       let e = length-take-le (q .len) b m in
-      subst (λ (x : Tried). Retraced x q q b b) (sym (bare (length b) r ts t (trailOf q b) back c h k))
+      subst (λ (x : Tried). Retraced x q q b b) (sym (bare (length b) r ts t (trailOf q b) back F c h k))
       (ap₂ (λ (n l : ℕ). record { number = n; len = l; cursor = q .cursor; undone = q .undone }) z (sym e), ap (λ (x : ℕ). take x b) e)
 
   module _ (out from to k : ℕ) (b' : List ℕ) (w : Within out from to (length ts))
@@ -114,10 +115,10 @@ module _ (r : Record) (ts : List ℕ) (t : ℕ) (q : Step) (b : List ℕ) (z : q
     part-length = length-take-le (to - from) (drop from ts) (omega (arith, length-drop from ts, w .order, w .last))
 
     -- a stop leaves everything
-    pub stops-at : (back : Bool) (c : Change) → Carries c r ts t → 2 < r .kind → Faces back r t out from to → (k ≡ 0 → ⊥)
+    pub stops-at : (back : Bool) (F : Format) (c : Change) → Carries F c r ts t → 2 < r .kind → Faces back r t out from to → (k ≡ 0 → ⊥)
         → Retraced (undoing (length b) (facing back c) (trailOf q b)) q (record { number = k; len = q .len; cursor = q .cursor; undone = q .undone }) b b'
-    stops-at back c h i f j =
-        rw (exchanges (length b) r ts t (trailOf q b) back c out from to h i f) (stopped-step (exchanging (length b) (r .place) out part (take (q .len) b)) q k b b' x j)
+    stops-at back F c h i f j =
+        rw (exchanges (length b) r ts t (trailOf q b) back F c out from to h i f) (stopped-step (exchanging (length b) (r .place) out part (take (q .len) b)) q k b b' x j)
 
     module _ (j : k ≡ 0) where
       fit : Fits (length b) (r .place) out part (take (q .len) b)
@@ -132,12 +133,12 @@ module _ (r : Record) (ts : List ℕ) (t : ℕ) (q : Step) (b : List ℕ) (z : q
       left-within = omega (arith, fit .room, length-take-le (q .len) b m, part-length)
 
       -- and it is what the record, undone or redone, leaves
-      pub moves : (back : Bool) (c : Change) → Carries c r ts t → 2 < r .kind → Faces back r t out from to
+      pub moves : (back : Bool) (F : Format) (c : Change) → Carries F c r ts t → 2 < r .kind → Faces back r t out from to
           → Retraced (undoing (length b) (facing back c) (trailOf q b)) q (record { number = 0; len = q .len - out + (to - from); cursor = r .place + (to - from); undone = true }) b b'
-      moves back c h i f =
+      moves back F c h i f =
           let e = length-take-le (q .len) b m in
           let y = swaps (length b) (r .place) out part (take (q .len) b) fit in
           let l : q .len - out + (to - from) ≡ length (splice (take (q .len) b) (r .place) (r .place + out) part) = omega (arith, swapped-length (length b) (r .place) out part (take (q .len) b) (fit .ends), part-length, e) in
           subst (λ (v : Tried). Retraced v q (record { number = 0; len = q .len - out + (to - from); cursor = r .place + (to - from); undone = true }) b b')
-          (sym (exchanges (length b) r ts t (trailOf q b) back c out from to h i f ∙ y))
+          (sym (exchanges (length b) r ts t (trailOf q b) back F c out from to h i f ∙ y))
           (ap₂ (λ (n p : ℕ). record { number = 0; len = n; cursor = r .place + p; undone = true }) l (sym part-length), subst (λ (v : Tried). Exchanged v k b b') y x .1)

@@ -1,4 +1,2 @@
-pub mod Records
-pub mod Sizes
 pub mod Exchanges
 pub mod Faces

@@ -20,5 +20,5 @@ pub extern "C" fn tlf_bench_check_text(s: &[u8]) -> bool
 pub extern "C" fn tlf_bench_check_log(records: &[u8], texts: &[u8], log: Log) -> u32
     ensures { λ r. ⌜ r ≡ checked catalogue logFormat (lent (now (records .entry)) (now (texts .entry)) log) false ⌝ }
 {
-    changeset::refusal(format_for(0), records, texts, log, false)
+    changeset::check(format_for(0), records, texts, log, false).number
 }

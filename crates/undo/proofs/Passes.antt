@@ -28,8 +28,7 @@ use Rattle.edit.proofs.Answers.{cursor-in}
 use Rattle.edit.proofs.Held.{state-held, state-ready}
 use Rattle.edit.proofs.Splice.{splice-text, splice-end}
 use Rattle.retrace.specs.declared.Step.{Step}
-use Rattle.retrace.specs.Retrace.{Trail, Tried, done, stops, misfit, exchanging, undoing}
-use Rattle.retrace.specs.Records.{stepTo, Retraced}
+use Rattle.retrace.specs.Retrace.{Trail, Tried, done, stops, misfit, exchanging, undoing, stepTo, Retraced}
 use Rattle.undo.specs.Steps.{trailBy, lineOf, stateAt, fromOf, passLog, Leaves}
 use Rattle.undo.proofs.Seams.{held}
 

@@ -1,26 +1,23 @@
 -- The row of records in the two buffers: the change that stands at a place of it is read there. Assumes nothing.
-use Prim.Native.Nat.{ℕ, _+_, _≤_, _<_}
+use Prim.Native.Nat.{ℕ, _+_, _≤_}
 use native.Mathlib.Omega.{arith}
 use mathlib.Core.Path.{_≡_, refl, sym, ap, subst, _∙_}
 use mathlib.Core.List.{List, _∷_, _++_, append-assoc}
-use lib.ListN.{length, getD, take, drop, length-append, take-append-drop}
+use lib.ListN.{length, take, drop, length-append, take-append-drop}
 use Rattle.unicode.specs.Repertoire.{Repertoire}
 use Rattle.journal.specs.Change.{Change}
 use Rattle.formats.specs.declared.Format.{Format}
-use Rattle.journal.specs.Layout.{recordOf, textsOf, encodeRecords, encodeTexts, Small, AllGood, sizeOf}
+use Rattle.journal.specs.Layout.{recordOf, textsOf, encodeRecords, encodeTexts, Small, AllGood}
 use Rattle.journal.specs.Hold.{Holds}
 use Rattle.journal.proofs.Decode.{Reads, reads, record-pos, text-at}
 use Rattle.journal.proofs.Holds.{records-append, texts-append, good-right}
-use Rattle.retrace.specs.Records.{recordAt, Carries}
-use Rattle.retrace.proofs.Records.{record-is}
+use Rattle.records.specs.Records.{IsWhole, recordAt, Carries}
+use Rattle.records.proofs.Records.{record-is}
 
 -- ---- the change c stands at at and t
 pub record Stands (F : Format) (rb tb : List ℕ) (at t : ℕ) (c : Change) : Type 0 where
-  pub some : 0 < length (recordOf F c)
-  pub size : sizeOf F (getD rb at 0) ≡ length (recordOf F c)
-  pub room : at + length (recordOf F c) ≤ length rb
   pub space : t + length (textsOf c) ≤ length tb
-  pub carries : Carries c (recordAt F rb at (getD rb at 0)) tb t
+  pub carries : Carries F c (recordAt F rb at) tb t
 
 module _ {R : Repertoire} {F : Format} {rb tb : List ℕ} {ur ut rr rt : ℕ} {us rs : List Change} (h : Holds R F rb tb ur ut rr rt us rs) (xs ys : List Change) (c : Change) (row : us ++ rs ≡ xs ++ (c ∷ ys)) where
   abbrev behind : List ℕ
@@ -51,17 +48,21 @@ module _ {R : Repertoire} {F : Format} {rb tb : List ℕ} {ur ut rr rt : ℕ} {u
         (subst (λ (z : List ℕ). Reads F c (encodeRecords F xs ++ (recordOf F c ++ behind)) z at t) (sym in-texts)
         (reads F c (encodeRecords F xs) (encodeTexts xs) behind texts-behind at t (sym e) (sym f) small))
 
+    whole : IsWhole F rb at
+    whole =
+        let s = reads-in .size in (
+          omega (arith, s, record-pos F c),
+          omega (arith, s, e, ap length in-records, length-append (encodeRecords F xs) (recordOf F c ++ behind), length-append (recordOf F c) behind),
+        )
+
     -- the change between xs and ys stands behind the records and the texts of xs
     pub stands : Stands F rb tb at t c
     stands =
         record {
-          some = record-pos F c;
-          size = reads-in .size;
-          room = omega (arith, e, ap length in-records, length-append (encodeRecords F xs) (recordOf F c ++ behind), length-append (recordOf F c) behind);
           space = omega (arith, f, ap length in-texts, length-append (encodeTexts xs) (textsOf c ++ texts-behind), length-append (textsOf c) texts-behind);
           carries =
               record {
-                numbers = record-is F rb tb at t c reads-in;
+                numbers = record-is F rb at whole tb t c reads-in;
                 texts = subst (λ (z : List ℕ). take (length (textsOf c)) (drop t z) ≡ textsOf c) (sym in-texts) (text-at (encodeTexts xs) (textsOf c) texts-behind t (length (textsOf c)) (sym f) refl);
               };
         }

@@ -23,7 +23,7 @@ use Rattle.changeset.proofs.Answers.{state, held-state, held-bytes}
 use Rattle.changeset.proofs.Recorded.{records-used, texts-used}
 use Rattle.edit.specs.Calls.{Lent, logLent, stateOf, Ready}
 use Rattle.edit.proofs.Answers.{hold}
-use Rattle.retrace.specs.Records.{SizesOf}
+use Rattle.records.specs.Walks.{SizesOf}
 use Rattle.undo.specs.Steps.{fromOf, passLog}
 use Rattle.undo.proofs.Rows.{Stands, stands}
 

@@ -1,5 +1,5 @@
 -- One record undone or redone, by the numbers that the code computes. Assumes nothing.
-use Prim.Native.Nat.{ℕ, _+_, _-_, _≤_, _<_}
+use Prim.Native.Nat.{ℕ, _+_, _-_, _≤_}
 use native.Mathlib.Omega.{arith}
 use mathlib.Core.Path.{_≡_, refl, ap, subst, _∙_}
 use mathlib.Core.Bool.{Bool, true, false}
@@ -8,18 +8,19 @@ use lib.ListN.{length, getD}
 use Rattle.unicode.specs.Repertoire.{catalogue}
 use Rattle.journal.specs.Change.{Change}
 use Rattle.formats.specs.declared.Format.{Format}
-use Rattle.journal.specs.Layout.{textsOf, sizeOf}
+use Rattle.journal.specs.Layout.{recordOf, textsOf}
 use Rattle.journal.specs.Groups as groups
 use Rattle.journal.specs.Undo.{undoRecords, undoTexts}
 use Rattle.changeset.specs.declared.Log.{Log}
 use Rattle.changeset.proofs.Answers.{state}
 use Rattle.edit.specs.Calls.{Lent, stateOf, Ready}
 use Rattle.journal.proofs.Newest.{turn-turn}
-use Rattle.retrace.specs.declared.Record.{Record}
+use Rattle.records.specs.declared.Record.{Record}
+use Rattle.records.specs.Records.{numbersOf, recordAt, Carries}
+use Rattle.records.specs.Walks.{SizesOf}
+use Rattle.records.proofs.Records.{carried-texts, carried-size}
 use Rattle.retrace.specs.declared.Step.{Step}
-use Rattle.retrace.specs.Retrace.{undoing, facing}
-use Rattle.retrace.specs.Records.{numbersOf, recordAt, Carries, SizesOf, Retraced}
-use Rattle.retrace.proofs.Records.{carried-size}
+use Rattle.retrace.specs.Retrace.{undoing, facing, Retraced}
 use Rattle.undo.specs.Steps.{trailBy, lineOf, passLog, Leaves}
 use Rattle.undo.proofs.Rows.{Stands}
 use Rattle.undo.proofs.Seams.{Seam, newest-records, newest-texts, newest-size, newest-stands, newest-seam, next-stands, next-seam}
@@ -27,15 +28,15 @@ use Rattle.undo.proofs.Passes.{numbered, stop-leaves, done-leaves}
 
 -- a record r that was read where the change c stands
 module _ {F : Format} {rb tb : List ℕ} {at t : ℕ} {c : Change} (s : Stands F rb tb at t c) where
-  pub whole : (0 < sizeOf F (getD rb at 0)) × (at + sizeOf F (getD rb at 0) ≤ length rb)
-  whole = (omega (arith, s .some, s .size), omega (arith, s .room, s .size))
-
-  module _ {r : Record} (e : r ≡ recordAt F rb at (getD rb at 0)) where
-    pub is-carried : Carries c r tb t
+  module _ {r : Record} (e : r ≡ recordAt F rb at) where
+    pub is-carried : Carries F c r tb t
     is-carried = record { numbers = e ∙ s .carries .numbers; texts = s .carries .texts }
 
     pub lengths : r .old + r .new ≡ length (textsOf c)
-    lengths = carried-size c r tb t is-carried
+    lengths = carried-texts F c r tb t is-carried
+
+    pub bytes : r .size ≡ length (recordOf F c)
+    bytes = carried-size F c r tb t is-carried
 
     pub space : t + (r .old + r .new) ≤ length tb
     space = omega (arith, lengths, s .space)
@@ -46,24 +47,24 @@ facing-twice true x = refl
 facing-twice false x = turn-turn x
 
 -- the record x undone or redone, where it stands as it was written: s is where the walk was, q where it is
-module _ (F : Format) (l : Lent) (back : Bool) (x : Change) (f : List Change) {at t : ℕ} (c : Stands F (l .records) (l .texts) at t (facing back x)) {r : Record} (e : r ≡ recordAt F (l .records) at (getD (l .records) at 0)) (s q : Step) (t′ : List ℕ) (tried : (c : Change) → Carries c r (l .texts) t → Retraced (undoing (length (l .text)) (facing back c) (trailBy (stateOf catalogue F l) (s .undone))) s q (l .text) t′) where
+module _ (F : Format) (l : Lent) (back : Bool) (x : Change) (f : List Change) {at t : ℕ} (c : Stands F (l .records) (l .texts) at t (facing back x)) {r : Record} (e : r ≡ recordAt F (l .records) at) (s q : Step) (t′ : List ℕ) (tried : (G : Format) (c : Change) → Carries G c r (l .texts) t → Retraced (undoing (length (l .text)) (facing back c) (trailBy (stateOf catalogue F l) (s .undone))) s q (l .text) t′) where
   abbrev v : groups.Log
   v = stateOf catalogue F l .log
 
   is-tried : Retraced (undoing (length (l .text)) x (trailBy (stateOf catalogue F l) (s .undone))) s q (l .text) t′
   is-tried =
       subst (λ (a : Change). Retraced (undoing (length (l .text)) a (trailBy (stateOf catalogue F l) (s .undone))) s q (l .text) t′) (facing-twice back x)
-      (tried (facing back x) (is-carried c e))
+      (tried F (facing back x) (is-carried c e))
 
-  is-kind : r .kind ≡ numbersOf (facing back x) .kind
+  is-kind : r .kind ≡ numbersOf F (facing back x) .kind
   is-kind = ap (λ (a : Record). a .kind) (e ∙ c .carries .numbers)
 
-  pub record-stops : lineOf s ≡ l .line → (q .number ≡ 0 → ⊥) → (r .kind ≡ numbersOf (facing back x) .kind) × Leaves F l (undoing (length (l .text)) x (trailBy (stateOf catalogue F l) (s .undone))) (passLog back x f v) q (l .log) t′
+  pub record-stops : lineOf s ≡ l .line → (q .number ≡ 0 → ⊥) → (r .kind ≡ numbersOf F (facing back x) .kind) × Leaves F l (undoing (length (l .text)) x (trailBy (stateOf catalogue F l) (s .undone))) (passLog back x f v) q (l .log) t′
   record-stops i z = (is-kind, stop-leaves F l (passLog back x f v) (undoing (length (l .text)) x (trailBy (stateOf catalogue F l) (s .undone))) s q t′ i is-tried z)
 
   pub record-passes : {i j : ℕ} {g : Log} → Seam F l (passLog back x f v) i j → q .number ≡ 0
       → g ≡ state i j (l .log .undo .records + l .log .redo .records - i) (l .log .undo .texts + l .log .redo .texts - j) (l .log .level)
-      → (r .kind ≡ numbersOf (facing back x) .kind) × Leaves F l (undoing (length (l .text)) x (trailBy (stateOf catalogue F l) (s .undone))) (passLog back x f v) q g t′
+      → (r .kind ≡ numbersOf F (facing back x) .kind) × Leaves F l (undoing (length (l .text)) x (trailBy (stateOf catalogue F l) (s .undone))) (passLog back x f v) q g t′
   record-passes {g = g} m z k = (
     is-kind,
     done-leaves F l (passLog back x f v) (undoing (length (l .text)) x (trailBy (stateOf catalogue F l) (s .undone))) s q g t′
@@ -88,10 +89,7 @@ module _ {F : Format} {l : Lent} (h : Ready F l) (sizes : List ℕ) (z : SizesOf
   at-start : Stands F (l .records) (l .texts) (ur - n) (length (undoTexts u)) x
   at-start = newest-stands h e start-is refl
 
-  pub start-whole : (0 < sizeOf F (getD (l .records) (ur - n) 0)) × (ur - n + sizeOf F (getD (l .records) (ur - n) 0) ≤ length (l .records))
-  start-whole = whole at-start
-
-  module _ {r : Record} (i : r ≡ recordAt F (l .records) (ur - n) (getD (l .records) (ur - n) 0)) where
+  module _ {r : Record} (i : r ≡ recordAt F (l .records) (ur - n)) where
     long : r .old + r .new ≡ length (textsOf x)
     long = lengths at-start i
 
@@ -109,15 +107,12 @@ module _ {F : Format} {l : Lent} (h : Ready F l) (sizes : List ℕ) (z : SizesOf
 
 -- ---- the next record, which stands at the seam
 module _ {F : Format} {l : Lent} (h : Ready F l) {x : Change} {d : List Change} (e : stateOf catalogue F l .log .redo ≡ x ∷ d) where
-  pub next-whole : (0 < sizeOf F (getD (l .records) (l .log .undo .records) 0)) × (l .log .undo .records + sizeOf F (getD (l .records) (l .log .undo .records) 0) ≤ length (l .records))
-  next-whole = whole (next-stands h e)
-
-  module _ {r : Record} (i : r ≡ recordAt F (l .records) (l .log .undo .records) (getD (l .records) (l .log .undo .records) 0)) where
+  module _ {r : Record} (i : r ≡ recordAt F (l .records) (l .log .undo .records)) where
     pub next-space : l .log .undo .texts + (r .old + r .new) ≤ length (l .texts)
     next-space = space (next-stands h e) i
 
-    pub next-seam-there : {n : ℕ} → n ≡ sizeOf F (getD (l .records) (l .log .undo .records) 0) → Seam F l (passLog false x d (stateOf catalogue F l .log)) (l .log .undo .records + n) (l .log .undo .texts + (r .old + r .new))
-    next-seam-there j =
+    pub next-seam-there : Seam F l (passLog false x d (stateOf catalogue F l .log)) (l .log .undo .records + r .size) (l .log .undo .texts + (r .old + r .new))
+    next-seam-there =
         next-seam h e
-        (ap (λ (a : ℕ). l .log .undo .records + a) (j ∙ next-stands h e .size))
+        (ap (λ (a : ℕ). l .log .undo .records + a) (bytes (next-stands h e) i))
         (ap (λ (a : ℕ). l .log .undo .texts + a) (lengths (next-stands h e) i))

@@ -21,7 +21,7 @@ use Rattle.edit.specs.declared.EditAnswer.{EditAnswer}
 use Rattle.edit.proofs.Answers.{log-kept, length-kept, state-kept}
 use Rattle.retrace.specs.declared.Step.{Step}
 use Rattle.retrace.specs.Retrace.{Trail, done, stops, undoing}
-use Rattle.retrace.specs.Records.{SizesOf}
+use Rattle.records.specs.Walks.{SizesOf}
 use Rattle.undo.specs.declared.Passed.{Passed}
 use Rattle.undo.specs.Undo.{Waiting, passing, settled, Walked, walk, numberOf}
 use Rattle.undo.specs.Steps.{trailBy, lineOf, stateAt, fromOf, toOf, logBy, passLog, PassesOne, Unmoved}

@@ -9,14 +9,14 @@ use Rattle.checks.specs.Outcome.{answered}
 use Rattle.journal.specs.Change.{Change, turn}
 use Rattle.formats.specs.declared.Format.{Format}
 use Rattle.journal.specs.Groups as groups
+use Rattle.records.specs.Records.{numbersOf}
 use Rattle.changeset.specs.declared.Log.{Log}
 use Rattle.changeset.specs.Calls.{logOf}
 use Rattle.edit.specs.declared.EditAnswer.{EditAnswer}
 use Rattle.edit.specs.Plan.{State}
 use Rattle.edit.specs.Calls.{Lent, lent, stateOf, Stored, Ready}
 use Rattle.retrace.specs.declared.Step.{Step}
-use Rattle.retrace.specs.Retrace.{Trail, Tried, done, stops, undoing, facing}
-use Rattle.retrace.specs.Records.{numbersOf, stepTo}
+use Rattle.retrace.specs.Retrace.{Trail, Tried, done, stops, undoing, facing, stepTo}
 use Rattle.undo.specs.declared.Passed.{Passed}
 use Rattle.undo.specs.Undo.{redoOut}
 use lib.ListN.{length}
@@ -63,7 +63,7 @@ Leaves F l (stops k) v s g t = (s .number ≡ k) × (lineOf s ≡ l .line) × (g
 abbrev pub PassesOne : Format → Lent → Bool → Bool → Passed → List ℕ → Type 0
 PassesOne F l back b q t =
     (x : Change) (f : List Change) → fromOf back (stateOf catalogue F l .log) ≡ x ∷ f
-    → (q .kind ≡ numbersOf (facing back x) .kind) × Leaves F l (undoing (length (l .text)) x (trailBy (stateOf catalogue F l) b)) (passLog back x f (stateOf catalogue F l .log)) (q .step) (q .log) t
+    → (q .kind ≡ numbersOf F (facing back x) .kind) × Leaves F l (undoing (length (l .text)) x (trailBy (stateOf catalogue F l) b)) (passLog back x f (stateOf catalogue F l .log)) (q .step) (q .log) t
 
 -- the list that is walked over has come from u₀ bytes to u: where no record of it was passed, the text's buffer is as it was
 pub record Unmoved (u₀ u : ℕ) (t₀ t : List ℕ) : Type 0 where

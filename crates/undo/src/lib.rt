@@ -9,7 +9,7 @@ ghost use lib.ListN.{length};
 ghost use Rattle.unicode.specs.Repertoire.{catalogue};
 ghost use Rattle.formats.specs.Formats.{Fit};
 ghost use Rattle.edit.specs.Calls.{lent, formatOf, stateOf, Edited, Ready};
-ghost use Rattle.retrace.specs.Records.{SizesOf};
+ghost use Rattle.records.specs.Walks.{SizesOf};
 ghost use Rattle.undo.specs.Undo.{numberOf, undoOut, undoCall};
 ghost use Rattle.undo.specs.Steps.{lineOf, lentBy, PassesOne};
 use changeset::Log;
@@ -22,9 +22,9 @@ use formats::Format;
 use formats::RECORDS_MAX;
 use formats::format_for;
 use keymap::RepeatCount;
+use records::note_sizes;
+use records::read_record;
 use retrace::Step;
-use retrace::note_sizes;
-use retrace::read_record;
 use retrace::retrace;
 
 // A record undone or redone: where the walk has come to, the log with its seam there, and the record's kind.

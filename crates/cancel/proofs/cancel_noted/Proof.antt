@@ -4,7 +4,7 @@ use mathlib.Core.Path.{ap, _∙_}
 use denote.Ref.{now}
 use Rattle.unicode.specs.Repertoire.{catalogue}
 use Rattle.edit.specs.Calls.{says, stateOf}
-use Rattle.retrace.specs.Records.{SizesOf}
+use Rattle.records.specs.Walks.{SizesOf}
 use Rattle.undo.specs.Steps.{lineOf, lentBy}
 use Rattle.undo.proofs.Seams.{newest-some}
 use Rattle.undo.proofs.Walks.{sizes-next}

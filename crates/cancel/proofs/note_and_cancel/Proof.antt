@@ -43,8 +43,11 @@ open-begins-requires c κs =
     let l = lent (now (a .text)) (now (a .records)) (now (a .texts)) (a .line) (a .log) in
     let e = length-take-le (a .log .undo .records) (now (a .records)) (omega (arith, h .log .hold .room)) in
     let n = c .before .before .before .before .note-sizes in (
-      record { format = (a .f); listed = listed (a .f) (logLent l) (h .log); noted = n .ensures },
-      (omega (arith, e, n .kept .1 .1 .0, s .pre .1 .1), omega (arith, e, h .log .hold .room, h .log .records, h .log .fit .records)),
+      s .pre .0,
+      (
+        record { listed = listed (a .f) (logLent l) (h .log); noted = n .ensures },
+        (omega (arith, e, n .kept .1 .1 .0, s .pre .1 .1), omega (arith, e, h .log .hold .room, h .log .records, h .log .fit .records)),
+      ),
     )
 
 says-requires : tie.Need-says-requires
@@ -62,7 +65,7 @@ returns c =
     let u = stateOf catalogue (a .f) l .log .undo in
     let d = lays (a .f) (logLent l) (h .log) in
     let n = c .before .before .before .before .before .before .before .note-sizes in
-    let o = c .before .before .open-begins .ensures (a .f) (n .ensures) _ _ d in
+    let o = c .before .before .open-begins .ensures _ _ d in
     (cancels-nothing h (a .mark) (not-open (a .mark) u o (c .before .if1 .taken)) (c .says .ensures), λ e. refl)
 
 cancel-noted-requires : tie.Need-cancel-noted-requires
@@ -76,7 +79,7 @@ cancel-noted-requires c κs =
     let u = (stateOf catalogue a.f l) .log .undo in
     let d = lays a.f (logLent l) h.log in
     let n = c .before .before .before .before .before .before .before .before .note-sizes in
-    let o = after-open-begins.open-begins.ensures a.f n.ensures _ _ d in
+    let o = after-open-begins.open-begins.ensures _ _ d in
     let i = n.ensures _ _ d in (
       s.pre.0,
       (

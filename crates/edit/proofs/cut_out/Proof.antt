@@ -1,3 +1,5 @@
+use Rattle.changeset.specs.Calls as log
+use Rattle.changeset.proofs.Recorded.{listed}
 use native.Mathlib.Omega.{arith}
 use mathlib.Core.Path.{refl, sym, ap, _∙_}
 use mathlib.Core.List.{List}
@@ -32,6 +34,19 @@ part-is-single-end c = omega (arith, (let w : (c .before .before .before .before
 is-single-requires : tie.Need-is-single-requires
 is-single-requires c κs = ap (isText catalogue) (sym (raw-part (now (c .before .before .before .before .before .args .text)) (c .before .before .before .before .before .args .line .len) (c .before .before .before .before .before .args .from) (c .before .before .before .before .before .args .to) (let w : (c .before .before .before .before .before .args .to) ≤ c .before .before .before .before .before .args .line .len = omega (arith, (c .before .before .before .before .before .pre .1 .1) .1, length-take-le (c .before .before .before .before .before .args .line .len) (now (c .before .before .before .before .before .args .text)) ((c .before .before .before .before .before .pre .1 .0) .used)) in w))) ∙ (part-text catalogue (take (c .before .before .before .before .before .args .line .len) (now (c .before .before .before .before .before .args .text))) (c .before .before .before .before .before .args .from) (c .before .before .before .before .before .args .to) (c .before .before .before .before .before .pre .1 .1) ((c .before .before .before .before .before .pre .1 .0) .text))
 
+slice-reshare-prefix-last-for : tie.Need-slice-reshare-prefix-last-for
+slice-reshare-prefix-last-for c = search needs
+
+slice-aggregate-last-for : tie.Need-slice-aggregate-last-for
+slice-aggregate-last-for c =
+    let entry = c .before .before .before .before .before .before .before .before in
+    sym (length-take-le _ _ (omega (arith, entry.pre.1.0.log.hold.room)))
+
+last-for-requires : tie.Need-last-for-requires
+last-for-requires c κs =
+    let entry = c .before .before .before .before .before .before .before .before in
+    (entry.pre.0, listed entry.args.f (log.lent (now entry.args.records) (now entry.args.texts) entry.args.log) entry.pre.1.0.log)
+
 array-share-prefix-none : tie.Need-array-share-prefix-none
 array-share-prefix-none c = search needs
 
@@ -39,7 +54,7 @@ slice-aggregate-change : tie.Need-slice-aggregate-change
 slice-aggregate-change c = search needs
 
 change-requires : tie.Need-change-requires
-change-requires c κs = (c .before .before .before .before .before .before .before .before .before .before .pre .0, ((c .before .before .before .before .before .before .before .before .before .before .pre .1 .0), (((c .before .before .before .before .before .before .before .before .before .before .pre .1 .1) .0, (let w : (c .before .before .before .before .before .before .before .before .before .before .args .to) ≤ c .before .before .before .before .before .before .before .before .before .before .args .line .len = omega (arith, (c .before .before .before .before .before .before .before .before .before .before .pre .1 .1) .1, length-take-le (c .before .before .before .before .before .before .before .before .before .before .args .line .len) (now (c .before .before .before .before .before .before .before .before .before .before .args .text)) ((c .before .before .before .before .before .before .before .before .before .before .pre .1 .0) .used)) in w)), (record { kind = refl; place = refl; old = refl; new = refl }, (part-text catalogue (take (c .before .before .before .before .before .before .before .before .before .before .args .line .len) (now (c .before .before .before .before .before .before .before .before .before .before .args .text))) (c .before .before .before .before .before .before .before .before .before .before .args .from) (c .before .before .before .before .before .before .before .before .before .before .args .to) (c .before .before .before .before .before .before .before .before .before .before .pre .1 .1) ((c .before .before .before .before .before .before .before .before .before .before .pre .1 .0) .text))))))
+change-requires c κs = (c .before .before .before .before .before .before .before .before .before .before .before .before .before .pre .0, ((c .before .before .before .before .before .before .before .before .before .before .before .before .before .pre .1 .0), (((c .before .before .before .before .before .before .before .before .before .before .before .before .before .pre .1 .1) .0, (let w : (c .before .before .before .before .before .before .before .before .before .before .before .before .before .args .to) ≤ c .before .before .before .before .before .before .before .before .before .before .before .before .before .args .line .len = omega (arith, (c .before .before .before .before .before .before .before .before .before .before .before .before .before .pre .1 .1) .1, length-take-le (c .before .before .before .before .before .before .before .before .before .before .before .before .before .args .line .len) (now (c .before .before .before .before .before .before .before .before .before .before .before .before .before .args .text)) ((c .before .before .before .before .before .before .before .before .before .before .before .before .before .pre .1 .0) .used)) in w)), (c .before .before .before .before .last-for .ensures, (record { kind = refl; place = refl; old = refl; new = refl }, (part-text catalogue (take (c .before .before .before .before .before .before .before .before .before .before .before .before .before .args .line .len) (now (c .before .before .before .before .before .before .before .before .before .before .before .before .before .args .text))) (c .before .before .before .before .before .before .before .before .before .before .before .before .before .args .from) (c .before .before .before .before .before .before .before .before .before .before .before .before .before .args .to) (c .before .before .before .before .before .before .before .before .before .before .before .before .before .pre .1 .1) ((c .before .before .before .before .before .before .before .before .before .before .before .before .before .pre .1 .0) .text)))))))
 
 same-length : tie.Need-same-length
 same-length c = search needs
@@ -51,7 +66,7 @@ same-length-3 : tie.Need-same-length-3
 same-length-3 c = search needs
 
 returns : tie.Need-returns
-returns c = outcome-as (c .before .before .before .before .before .before .before .before .before .before .before .before .before .before .before .before .before .args .f) (lent (now (c .before .before .before .before .before .before .before .before .before .before .before .before .before .before .before .before .before .args .text)) (now (c .before .before .before .before .before .before .before .before .before .before .before .before .before .before .before .before .before .args .records)) (now (c .before .before .before .before .before .before .before .before .before .before .before .before .before .before .before .before .before .args .texts)) (c .before .before .before .before .before .before .before .before .before .before .before .before .before .before .before .before .before .args .line) (c .before .before .before .before .before .before .before .before .before .before .before .before .before .before .before .before .before .args .log)) (changeOut (c .before .before .before .before .before .before .before .before .before .before .before .before .before .before .before .before .before .args .f) (sizesOf (lent (now (c .before .before .before .before .before .before .before .before .before .before .before .before .before .before .before .before .before .args .text)) (now (c .before .before .before .before .before .before .before .before .before .before .before .before .before .before .before .before .before .args .records)) (now (c .before .before .before .before .before .before .before .before .before .before .before .before .before .before .before .before .before .args .texts)) (c .before .before .before .before .before .before .before .before .before .before .before .before .before .before .before .before .before .args .line) (c .before .before .before .before .before .before .before .before .before .before .before .before .before .before .before .before .before .args .log))) (length (now (c .before .before .before .before .before .before .before .before .before .before .before .before .before .before .before .before .before .args .text))) (c .before .before .before .before .before .before .before .before .before .before .before .is-single .result) (delete (c .before .before .before .before .before .before .before .before .before .before .before .before .before .before .before .before .before .args .from) (part (take (c .before .before .before .before .before .before .before .before .before .before .before .before .before .before .before .before .before .args .line .len) (now (c .before .before .before .before .before .before .before .before .before .before .before .before .before .before .before .before .before .args .text))) (c .before .before .before .before .before .before .before .before .before .before .before .before .before .before .before .before .before .args .from) (c .before .before .before .before .before .before .before .before .before .before .before .before .before .before .before .before .before .args .to))) (c .before .before .before .before .before .before .before .before .before .before .before .before .before .before .before .before .before .args .from) (stateOf catalogue (c .before .before .before .before .before .before .before .before .before .before .before .before .before .before .before .before .before .args .f) (lent (now (c .before .before .before .before .before .before .before .before .before .before .before .before .before .before .before .before .before .args .text)) (now (c .before .before .before .before .before .before .before .before .before .before .before .before .before .before .before .before .before .args .records)) (now (c .before .before .before .before .before .before .before .before .before .before .before .before .before .before .before .before .before .args .texts)) (c .before .before .before .before .before .before .before .before .before .before .before .before .before .before .before .before .before .args .line) (c .before .before .before .before .before .before .before .before .before .before .before .before .before .before .before .before .before .args .log)))) (edited catalogue (c .before .before .before .before .before .before .before .before .before .before .before .before .before .before .before .before .before .args .f) (sizesOf (lent (now (c .before .before .before .before .before .before .before .before .before .before .before .before .before .before .before .before .before .args .text)) (now (c .before .before .before .before .before .before .before .before .before .before .before .before .before .before .before .before .before .args .records)) (now (c .before .before .before .before .before .before .before .before .before .before .before .before .before .before .before .before .before .args .texts)) (c .before .before .before .before .before .before .before .before .before .before .before .before .before .before .before .before .before .args .line) (c .before .before .before .before .before .before .before .before .before .before .before .before .before .before .before .before .before .args .log))) (length (now (c .before .before .before .before .before .before .before .before .before .before .before .before .before .before .before .before .before .args .text))) (once (cutting (c .before .before .before .before .before .before .before .before .before .before .before .before .before .before .before .before .before .args .from) (c .before .before .before .before .before .before .before .before .before .before .before .before .before .before .before .before .before .args .to)) (c .before .before .before .before .before .before .before .before .before .before .before .before .before .before .before .before .before .args .from)) (stateOf catalogue (c .before .before .before .before .before .before .before .before .before .before .before .before .before .before .before .before .before .args .f) (lent (now (c .before .before .before .before .before .before .before .before .before .before .before .before .before .before .before .before .before .args .text)) (now (c .before .before .before .before .before .before .before .before .before .before .before .before .before .before .before .before .before .args .records)) (now (c .before .before .before .before .before .before .before .before .before .before .before .before .before .before .before .before .before .args .texts)) (c .before .before .before .before .before .before .before .before .before .before .before .before .before .before .before .before .before .args .line) (c .before .before .before .before .before .before .before .before .before .before .before .before .before .before .before .before .before .args .log)))) _ _ _ _ (once-cut catalogue (c .before .before .before .before .before .before .before .before .before .before .before .before .before .before .before .before .before .args .f) (sizesOf (lent (now (c .before .before .before .before .before .before .before .before .before .before .before .before .before .before .before .before .before .args .text)) (now (c .before .before .before .before .before .before .before .before .before .before .before .before .before .before .before .before .before .args .records)) (now (c .before .before .before .before .before .before .before .before .before .before .before .before .before .before .before .before .before .args .texts)) (c .before .before .before .before .before .before .before .before .before .before .before .before .before .before .before .before .before .args .line) (c .before .before .before .before .before .before .before .before .before .before .before .before .before .before .before .before .before .args .log))) (length (now (c .before .before .before .before .before .before .before .before .before .before .before .before .before .before .before .before .before .args .text))) (c .before .before .before .before .before .before .before .before .before .before .before .before .before .before .before .before .before .args .from) (stateOf catalogue (c .before .before .before .before .before .before .before .before .before .before .before .before .before .before .before .before .before .args .f) (lent (now (c .before .before .before .before .before .before .before .before .before .before .before .before .before .before .before .before .before .args .text)) (now (c .before .before .before .before .before .before .before .before .before .before .before .before .before .before .before .before .before .args .records)) (now (c .before .before .before .before .before .before .before .before .before .before .before .before .before .before .before .before .before .args .texts)) (c .before .before .before .before .before .before .before .before .before .before .before .before .before .before .before .before .before .args .line) (c .before .before .before .before .before .before .before .before .before .before .before .before .before .before .before .before .before .args .log))) (c .before .before .before .before .before .before .before .before .before .before .before .before .before .before .before .before .before .args .from) (c .before .before .before .before .before .before .before .before .before .before .before .before .before .before .before .before .before .args .to) (c .before .before .before .before .before .before .before .before .before .before .before .is-single .result) (c .before .before .before .before .before .before .before .before .before .before .before .before .before .before .before .before .before .pre .1 .1) (c .before .before .before .before .before .before .before .before .before .before .before .is-single .ensures ∙ ap (λ (s : List ℕ). isSingle catalogue (clustersOf catalogue s)) (sym (raw-part (now (c .before .before .before .before .before .before .before .before .before .before .before .before .before .before .before .before .before .args .text)) (c .before .before .before .before .before .before .before .before .before .before .before .before .before .before .before .before .before .args .line .len) (c .before .before .before .before .before .before .before .before .before .before .before .before .before .before .before .before .before .args .from) (c .before .before .before .before .before .before .before .before .before .before .before .before .before .before .before .before .before .args .to) (let w : (c .before .before .before .before .before .before .before .before .before .before .before .before .before .before .before .before .before .args .to) ≤ c .before .before .before .before .before .before .before .before .before .before .before .before .before .before .before .before .before .args .line .len = omega (arith, (c .before .before .before .before .before .before .before .before .before .before .before .before .before .before .before .before .before .pre .1 .1) .1, length-take-le (c .before .before .before .before .before .before .before .before .before .before .before .before .before .before .before .before .before .args .line .len) (now (c .before .before .before .before .before .before .before .before .before .before .before .before .before .before .before .before .before .args .text)) ((c .before .before .before .before .before .before .before .before .before .before .before .before .before .before .before .before .before .pre .1 .0) .used)) in w))))) (c .before .before .before .before .before .before .change .ensures)
+returns c = outcome-as (c .before .before .before .before .before .before .before .before .before .before .before .before .before .before .before .before .before .before .before .before .args .f) (lent (now (c .before .before .before .before .before .before .before .before .before .before .before .before .before .before .before .before .before .before .before .before .args .text)) (now (c .before .before .before .before .before .before .before .before .before .before .before .before .before .before .before .before .before .before .before .before .args .records)) (now (c .before .before .before .before .before .before .before .before .before .before .before .before .before .before .before .before .before .before .before .before .args .texts)) (c .before .before .before .before .before .before .before .before .before .before .before .before .before .before .before .before .before .before .before .before .args .line) (c .before .before .before .before .before .before .before .before .before .before .before .before .before .before .before .before .before .before .before .before .args .log)) (changeOut (c .before .before .before .before .before .before .before .before .before .before .before .before .before .before .before .before .before .before .before .before .args .f) (sizesOf (lent (now (c .before .before .before .before .before .before .before .before .before .before .before .before .before .before .before .before .before .before .before .before .args .text)) (now (c .before .before .before .before .before .before .before .before .before .before .before .before .before .before .before .before .before .before .before .before .args .records)) (now (c .before .before .before .before .before .before .before .before .before .before .before .before .before .before .before .before .before .before .before .before .args .texts)) (c .before .before .before .before .before .before .before .before .before .before .before .before .before .before .before .before .before .before .before .before .args .line) (c .before .before .before .before .before .before .before .before .before .before .before .before .before .before .before .before .before .before .before .before .args .log))) (length (now (c .before .before .before .before .before .before .before .before .before .before .before .before .before .before .before .before .before .before .before .before .args .text))) (c .before .before .before .before .before .before .before .before .before .before .before .before .before .before .is-single .result) (delete (c .before .before .before .before .before .before .before .before .before .before .before .before .before .before .before .before .before .before .before .before .args .from) (part (take (c .before .before .before .before .before .before .before .before .before .before .before .before .before .before .before .before .before .before .before .before .args .line .len) (now (c .before .before .before .before .before .before .before .before .before .before .before .before .before .before .before .before .before .before .before .before .args .text))) (c .before .before .before .before .before .before .before .before .before .before .before .before .before .before .before .before .before .before .before .before .args .from) (c .before .before .before .before .before .before .before .before .before .before .before .before .before .before .before .before .before .before .before .before .args .to))) (c .before .before .before .before .before .before .before .before .before .before .before .before .before .before .before .before .before .before .before .before .args .from) (stateOf catalogue (c .before .before .before .before .before .before .before .before .before .before .before .before .before .before .before .before .before .before .before .before .args .f) (lent (now (c .before .before .before .before .before .before .before .before .before .before .before .before .before .before .before .before .before .before .before .before .args .text)) (now (c .before .before .before .before .before .before .before .before .before .before .before .before .before .before .before .before .before .before .before .before .args .records)) (now (c .before .before .before .before .before .before .before .before .before .before .before .before .before .before .before .before .before .before .before .before .args .texts)) (c .before .before .before .before .before .before .before .before .before .before .before .before .before .before .before .before .before .before .before .before .args .line) (c .before .before .before .before .before .before .before .before .before .before .before .before .before .before .before .before .before .before .before .before .args .log)))) (edited catalogue (c .before .before .before .before .before .before .before .before .before .before .before .before .before .before .before .before .before .before .before .before .args .f) (sizesOf (lent (now (c .before .before .before .before .before .before .before .before .before .before .before .before .before .before .before .before .before .before .before .before .args .text)) (now (c .before .before .before .before .before .before .before .before .before .before .before .before .before .before .before .before .before .before .before .before .args .records)) (now (c .before .before .before .before .before .before .before .before .before .before .before .before .before .before .before .before .before .before .before .before .args .texts)) (c .before .before .before .before .before .before .before .before .before .before .before .before .before .before .before .before .before .before .before .before .args .line) (c .before .before .before .before .before .before .before .before .before .before .before .before .before .before .before .before .before .before .before .before .args .log))) (length (now (c .before .before .before .before .before .before .before .before .before .before .before .before .before .before .before .before .before .before .before .before .args .text))) (once (cutting (c .before .before .before .before .before .before .before .before .before .before .before .before .before .before .before .before .before .before .before .before .args .from) (c .before .before .before .before .before .before .before .before .before .before .before .before .before .before .before .before .before .before .before .before .args .to)) (c .before .before .before .before .before .before .before .before .before .before .before .before .before .before .before .before .before .before .before .before .args .from)) (stateOf catalogue (c .before .before .before .before .before .before .before .before .before .before .before .before .before .before .before .before .before .before .before .before .args .f) (lent (now (c .before .before .before .before .before .before .before .before .before .before .before .before .before .before .before .before .before .before .before .before .args .text)) (now (c .before .before .before .before .before .before .before .before .before .before .before .before .before .before .before .before .before .before .before .before .args .records)) (now (c .before .before .before .before .before .before .before .before .before .before .before .before .before .before .before .before .before .before .before .before .args .texts)) (c .before .before .before .before .before .before .before .before .before .before .before .before .before .before .before .before .before .before .before .before .args .line) (c .before .before .before .before .before .before .before .before .before .before .before .before .before .before .before .before .before .before .before .before .args .log)))) _ _ _ _ (once-cut catalogue (c .before .before .before .before .before .before .before .before .before .before .before .before .before .before .before .before .before .before .before .before .args .f) (sizesOf (lent (now (c .before .before .before .before .before .before .before .before .before .before .before .before .before .before .before .before .before .before .before .before .args .text)) (now (c .before .before .before .before .before .before .before .before .before .before .before .before .before .before .before .before .before .before .before .before .args .records)) (now (c .before .before .before .before .before .before .before .before .before .before .before .before .before .before .before .before .before .before .before .before .args .texts)) (c .before .before .before .before .before .before .before .before .before .before .before .before .before .before .before .before .before .before .before .before .args .line) (c .before .before .before .before .before .before .before .before .before .before .before .before .before .before .before .before .before .before .before .before .args .log))) (length (now (c .before .before .before .before .before .before .before .before .before .before .before .before .before .before .before .before .before .before .before .before .args .text))) (c .before .before .before .before .before .before .before .before .before .before .before .before .before .before .before .before .before .before .before .before .args .from) (stateOf catalogue (c .before .before .before .before .before .before .before .before .before .before .before .before .before .before .before .before .before .before .before .before .args .f) (lent (now (c .before .before .before .before .before .before .before .before .before .before .before .before .before .before .before .before .before .before .before .before .args .text)) (now (c .before .before .before .before .before .before .before .before .before .before .before .before .before .before .before .before .before .before .before .before .args .records)) (now (c .before .before .before .before .before .before .before .before .before .before .before .before .before .before .before .before .before .before .before .before .args .texts)) (c .before .before .before .before .before .before .before .before .before .before .before .before .before .before .before .before .before .before .before .before .args .line) (c .before .before .before .before .before .before .before .before .before .before .before .before .before .before .before .before .before .before .before .before .args .log))) (c .before .before .before .before .before .before .before .before .before .before .before .before .before .before .before .before .before .before .before .before .args .from) (c .before .before .before .before .before .before .before .before .before .before .before .before .before .before .before .before .before .before .before .before .args .to) (c .before .before .before .before .before .before .before .before .before .before .before .before .before .before .is-single .result) (c .before .before .before .before .before .before .before .before .before .before .before .before .before .before .before .before .before .before .before .before .pre .1 .1) (c .before .before .before .before .before .before .before .before .before .before .before .before .before .before .is-single .ensures ∙ ap (λ (s : List ℕ). isSingle catalogue (clustersOf catalogue s)) (sym (raw-part (now (c .before .before .before .before .before .before .before .before .before .before .before .before .before .before .before .before .before .before .before .before .args .text)) (c .before .before .before .before .before .before .before .before .before .before .before .before .before .before .before .before .before .before .before .before .args .line .len) (c .before .before .before .before .before .before .before .before .before .before .before .before .before .before .before .before .before .before .before .before .args .from) (c .before .before .before .before .before .before .before .before .before .before .before .before .before .before .before .before .before .before .before .before .args .to) (let w : (c .before .before .before .before .before .before .before .before .before .before .before .before .before .before .before .before .before .before .before .before .args .to) ≤ c .before .before .before .before .before .before .before .before .before .before .before .before .before .before .before .before .before .before .before .before .args .line .len = omega (arith, (c .before .before .before .before .before .before .before .before .before .before .before .before .before .before .before .before .before .before .before .before .pre .1 .1) .1, length-take-le (c .before .before .before .before .before .before .before .before .before .before .before .before .before .before .before .before .before .before .before .before .args .line .len) (now (c .before .before .before .before .before .before .before .before .before .before .before .before .before .before .before .before .before .before .before .before .args .text)) ((c .before .before .before .before .before .before .before .before .before .before .before .before .before .before .before .before .before .before .before .before .pre .1 .0) .used)) in w))))) (c .before .before .before .before .before .before .change .ensures)
 
 pub cut-out-spec : {M : Type 1} → statement M
 cut-out-spec =
@@ -61,6 +76,9 @@ cut-out-spec =
     part-is-single-start
     part-is-single-end
     is-single-requires
+    slice-reshare-prefix-last-for
+    slice-aggregate-last-for
+    last-for-requires
     array-share-prefix-none
     slice-aggregate-change
     change-requires

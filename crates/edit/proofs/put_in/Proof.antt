@@ -1,3 +1,4 @@
+use Rattle.lists.proofs.Bools.{never}
 use native.Mathlib.Omega.{arith}
 use mathlib.Core.Path.{_≡_, refl, sym, ap}
 use lib.ListN.{length, take, drop}
@@ -13,7 +14,7 @@ use Rattle.edit.proofs.put_in.Statement.{statement}
 use Rattle.edit.proofs.put_in.Tie as tie
 
 change-requires : tie.Need-change-requires
-change-requires c κs = let z : c .before .before .before .before .before .before .before .args .at - c .before .before .before .before .before .before .before .args .at ≡ 0 = omega arith in ((c .before .before .before .before .before .before .before .pre) .0, ((c .before .before .before .before .before .before .before .pre) .1 .0, ((omega arith, omega (arith, (c .before .before .before .before .before .before .before .pre) .1 .1 .0 .1, length-take-le (c .before .before .before .before .before .before .before .args .line .len) (now (c .before .before .before .before .before .before .before .args .text)) ((c .before .before .before .before .before .before .before .pre) .1 .0 .used))), (record { kind = refl; place = refl; old = sym (ap (λ (i : ℕ). take i (drop (c .before .before .before .before .before .before .before .args .at) (take (c .before .before .before .before .before .before .before .args .line .len) (now (c .before .before .before .before .before .before .before .args .text))))) z); new = refl }, (c .before .before .before .before .before .before .before .pre) .1 .1 .1))))
+change-requires c κs = let z : c .before .before .before .before .before .before .before .args .at - c .before .before .before .before .before .before .before .args .at ≡ 0 = omega arith in ((c .before .before .before .before .before .before .before .pre) .0, ((c .before .before .before .before .before .before .before .pre) .1 .0, ((omega arith, omega (arith, (c .before .before .before .before .before .before .before .pre) .1 .1 .0 .1, length-take-le (c .before .before .before .before .before .before .before .args .line .len) (now (c .before .before .before .before .before .before .before .args .text)) ((c .before .before .before .before .before .before .before .pre) .1 .0 .used))), ((λ e. never _ _ e refl), (record { kind = refl; place = refl; old = sym (ap (λ (i : ℕ). take i (drop (c .before .before .before .before .before .before .before .args .at) (take (c .before .before .before .before .before .before .before .args .line .len) (now (c .before .before .before .before .before .before .before .args .text))))) z); new = refl }, (c .before .before .before .before .before .before .before .pre) .1 .1 .1)))))
 
 same-length : tie.Need-same-length
 same-length c = search needs
@@ -28,4 +29,9 @@ returns : tie.Need-returns
 returns c = outcome-as (c .before .before .before .before .before .before .before .before .before .before .before .before .before .before .args .f) (lent (now (c .before .before .before .before .before .before .before .before .before .before .before .before .before .before .args .text)) (now (c .before .before .before .before .before .before .before .before .before .before .before .before .before .before .args .records)) (now (c .before .before .before .before .before .before .before .before .before .before .before .before .before .before .args .texts)) (c .before .before .before .before .before .before .before .before .before .before .before .before .before .before .args .line) (c .before .before .before .before .before .before .before .before .before .before .before .before .before .before .args .log)) _ _ _ _ _ _ (once-paste catalogue (c .before .before .before .before .before .before .before .before .before .before .before .before .before .before .args .f) (sizesOf (lent (now (c .before .before .before .before .before .before .before .before .before .before .before .before .before .before .args .text)) (now (c .before .before .before .before .before .before .before .before .before .before .before .before .before .before .args .records)) (now (c .before .before .before .before .before .before .before .before .before .before .before .before .before .before .args .texts)) (c .before .before .before .before .before .before .before .before .before .before .before .before .before .before .args .line) (c .before .before .before .before .before .before .before .before .before .before .before .before .before .before .args .log))) (length (now (c .before .before .before .before .before .before .before .before .before .before .before .before .before .before .args .text))) (c .before .before .before .before .before .before .before .before .before .before .before .before .before .before .args .cursor) (stateOf catalogue (c .before .before .before .before .before .before .before .before .before .before .before .before .before .before .args .f) (lent (now (c .before .before .before .before .before .before .before .before .before .before .before .before .before .before .args .text)) (now (c .before .before .before .before .before .before .before .before .before .before .before .before .before .before .args .records)) (now (c .before .before .before .before .before .before .before .before .before .before .before .before .before .before .args .texts)) (c .before .before .before .before .before .before .before .before .before .before .before .before .before .before .args .line) (c .before .before .before .before .before .before .before .before .before .before .before .before .before .before .args .log))) (c .before .before .before .before .before .before .before .before .before .before .before .before .before .before .args .at) (now (c .before .before .before .before .before .before .before .before .before .before .before .before .before .before .args .new))) (c .before .before .before .before .before .before .change .ensures)
 
 pub put-in-spec : {M : Type 1} → statement M
-put-in-spec = tie.close (tie.spec change-requires same-length same-length-2 same-length-3 returns)
+put-in-spec = tie.close (tie.spec
+    change-requires
+    same-length
+    same-length-2
+    same-length-3
+    returns)

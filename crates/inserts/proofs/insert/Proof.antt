@@ -1,3 +1,4 @@
+use Rattle.records.proofs.Walks.{newest-last}
 use Rattle.formats.specs.declared.Format.{Format}
 use Rattle.formats.proofs.Formats.{fit-for}
 use Rattle.edit.proofs.Formats.{in-format}
@@ -23,8 +24,8 @@ check-char-requires c κs = search needs
 format-for-requires : tie.Need-format-for-requires
 format-for-requires c κs = search needs
 
-refusal-requires : tie.Need-refusal-requires
-refusal-requires c κs =
+check-requires : tie.Need-check-requires
+check-requires c κs =
     let after-format-for = c .before .before .before in
     fit-for _ after-format-for.format-for.ensures
 
@@ -42,13 +43,14 @@ same-length-3 c = search needs
 
 returns : tie.Need-returns
 returns c =
-    let after-format-for = c .before .before .before .before .before .before in
-    let after-check-char = after-format-for.before in
-    let entry = after-check-char .before .before .before .before in
+    let after-check = c .before .before .before in
+    let after-format-for = c .before .before .before .before .before .before .before in
+    let after-check-char = c .before .before .before .before .before .before .before .before in
+    let entry = c .before .before .before .before .before .before .before .before .before .before .before .before in
     let l = lent (now entry.args.text) (now entry.args.records) (now entry.args.texts) entry.args.line entry.args.log in
     in-format l (λ (F : Format). insertCall catalogue F l entry.args.ch entry.args.n) after-format-for.format-for.ensures
-    (insert-refused after-format-for.format-for.result l entry.args.ch entry.args.n c.before.before.refusal.result
-    after-check-char.check-char.result c.before.before.refusal.ensures.0 after-check-char.check-char.ensures c.before.if1.taken _
+    (insert-refused after-format-for.format-for.result l entry.args.ch entry.args.n after-check.check.result.number
+    after-check-char.check-char.result after-check.check.ensures.0 after-check-char.check-char.ensures c.before.if1.taken _
     c.says.ensures)
 
 slice-aggregate-encode-at : tie.Need-slice-aggregate-encode-at
@@ -59,49 +61,54 @@ encode-at-requires c κs = search needs
 
 array-share-prefix-buf : tie.Need-array-share-prefix-buf
 array-share-prefix-buf c =
+    let after-encode-at = c .before in
     let else1 = c .before .before .before in
-    let after-refusal = else1.before in
-    let after-format-for = after-refusal .before .before .before .before in
-    let after-check-char = after-format-for.before in
-    let entry = after-check-char .before .before .before .before in
+    let after-check = c .before .before .before .before .before in
+    let after-format-for = c .before .before .before .before .before .before .before .before .before in
+    let after-check-char = c .before .before .before .before .before .before .before .before .before .before in
+    let entry = c .before .before .before .before .before .before .before .before .before .before .before .before .before .before in
     typed-within entry.args.ch
     (insert-char after-format-for.format-for.result
     (lent (now entry.args.text) (now entry.args.records) (now entry.args.texts) entry.args.line entry.args.log) entry.args.ch entry.args.n
-    after-refusal.refusal.result after-check-char.check-char.result after-refusal.refusal.ensures.0 after-check-char.check-char.ensures
-    else1.if1.left) _ c.before.encode-at.last.0 c.before.encode-at.result (omega arith) c.before.encode-at.ensures
+    after-check.check.result.number after-check-char.check-char.result after-check.check.ensures.0 after-check-char.check-char.ensures
+    else1.if1.left) _ after-encode-at.encode-at.last.0 after-encode-at.encode-at.result (omega arith) after-encode-at.encode-at.ensures
 
 slice-aggregate-s : tie.Need-slice-aggregate-s
 slice-aggregate-s c =
+    let after-encode-at = c .before .before in
     let else1 = c .before .before .before .before in
-    let after-refusal = else1.before in
-    let after-format-for = after-refusal .before .before .before .before in
-    let after-check-char = after-format-for.before in
-    let entry = after-check-char .before .before .before .before in
+    let after-check = c .before .before .before .before .before .before in
+    let after-format-for = c .before .before .before .before .before .before .before .before .before .before in
+    let after-check-char = c .before .before .before .before .before .before .before .before .before .before .before in
+    let entry = c .before .before .before .before .before .before .before .before .before .before .before .before .before .before .before in
     sym
     (length-take-le _ _
     (typed-within entry.args.ch
     (insert-char after-format-for.format-for.result
     (lent (now entry.args.text) (now entry.args.records) (now entry.args.texts) entry.args.line entry.args.log) entry.args.ch entry.args.n
-    after-refusal.refusal.result after-check-char.check-char.result after-refusal.refusal.ensures.0 after-check-char.check-char.ensures
-    else1.if1.left) _ c.before.before.encode-at.last.0 c.before.before.encode-at.result (omega arith) c.before.before.encode-at.ensures))
+    after-check.check.result.number after-check-char.check-char.result after-check.check.ensures.0 after-check-char.check-char.ensures
+    else1.if1.left) _ after-encode-at.encode-at.last.0 after-encode-at.encode-at.result (omega arith) after-encode-at.encode-at.ensures))
 
 type-char-requires : tie.Need-type-char-requires
 type-char-requires c κs =
-    let after-encode-at = c .before .before .before .before .before .before in
-    let else1 = after-encode-at.before.before in
-    let after-refusal = else1.before in
-    let after-format-for = after-refusal .before .before .before .before in
-    let after-check-char = after-format-for.before in
-    let entry = after-check-char .before .before .before .before in
+    let after-encode-at = c .before .before .before .before .before .before .before in
+    let else1 = c .before .before .before .before .before .before .before .before .before in
+    let after-check = c .before .before .before .before .before .before .before .before .before .before .before in
+    let after-format-for = c .before .before .before .before .before .before .before .before .before .before .before .before .before .before .before in
+    let after-check-char = c .before .before .before .before .before .before .before .before .before .before .before .before .before .before .before .before in
+    let entry = c .before .before .before .before .before .before .before .before .before .before .before .before .before .before .before .before .before .before .before .before in
     let insert-char1 = insert-char after-format-for.format-for.result
     (lent (now entry.args.text) (now entry.args.records) (now entry.args.texts) entry.args.line entry.args.log) entry.args.ch entry.args.n
-    after-refusal.refusal.result after-check-char.check-char.result after-refusal.refusal.ensures.0 after-check-char.check-char.ensures
+    after-check.check.result.number after-check-char.check-char.result after-check.check.ensures.0 after-check-char.check-char.ensures
     else1.if1.left in (
-      after-refusal.refusal.ensures.1 else1.if1.left,
+      after-check.check.ensures.1.0 else1.if1.left,
       (
-        insert-char1,
-        typed-bytes entry.args.ch insert-char1 _ after-encode-at.encode-at.last.0 after-encode-at.encode-at.result (omega arith)
-            after-encode-at.encode-at.ensures,
+        newest-last catalogue after-format-for.format-for.result _ _ (after-check.check.ensures.1.1 else1.if1.left),
+        (
+          insert-char1,
+          typed-bytes entry.args.ch insert-char1 _ after-encode-at.encode-at.last.0 after-encode-at.encode-at.result (omega arith)
+              after-encode-at.encode-at.ensures,
+        ),
       ),
     )
 
@@ -117,33 +124,33 @@ same-length-6 c = search needs
 returns-2 : tie.Need-returns-2
 returns-2 c =
     let after-type-char = c .before .before .before .before .before .before in
-    let then2 = after-type-char .before .before .before .before in
-    let else1 = then2 .before .before .before .before .before in
-    let after-refusal = else1.before in
-    let after-format-for = after-refusal .before .before .before .before in
-    let after-check-char = after-format-for.before in
-    let entry = after-check-char .before .before .before .before in
+    let then2 = c .before .before .before .before .before .before .before .before .before .before .before in
+    let else1 = c .before .before .before .before .before .before .before .before .before .before .before .before .before .before .before .before in
+    let after-check = c .before .before .before .before .before .before .before .before .before .before .before .before .before .before .before .before .before .before in
+    let after-format-for = c .before .before .before .before .before .before .before .before .before .before .before .before .before .before .before .before .before .before .before .before .before .before in
+    let after-check-char = c .before .before .before .before .before .before .before .before .before .before .before .before .before .before .before .before .before .before .before .before .before .before .before in
+    let entry = c .before .before .before .before .before .before .before .before .before .before .before .before .before .before .before .before .before .before .before .before .before .before .before .before .before .before .before in
     let l = lent (now entry.args.text) (now entry.args.records) (now entry.args.texts) entry.args.line entry.args.log in
     in-format l (λ (F : Format). insertCall catalogue F l entry.args.ch entry.args.n) after-format-for.format-for.ensures
-    (insert-one after-format-for.format-for.result l entry.args.ch entry.args.n after-refusal.refusal.result
-    after-check-char.check-char.result after-refusal.refusal.ensures.0 after-check-char.check-char.ensures else1.if1.left _ _ _ _
+    (insert-one after-format-for.format-for.result l entry.args.ch entry.args.n after-check.check.result.number
+    after-check-char.check-char.result after-check.check.ensures.0 after-check-char.check-char.ensures else1.if1.left _ _ _ _
     then2.if2.taken after-type-char.type-char.ensures)
 
 put-copies-requires : tie.Need-put-copies-requires
 put-copies-requires c κs =
     let after-encode-at = c .before .before .before .before .before .before in
-    let else1 = after-encode-at.before.before in
-    let after-refusal = else1.before in
-    let after-format-for = after-refusal .before .before .before .before in
-    let after-check-char = after-format-for.before in
-    let entry = after-check-char .before .before .before .before in
+    let else1 = c .before .before .before .before .before .before .before .before in
+    let after-check = c .before .before .before .before .before .before .before .before .before .before in
+    let after-format-for = c .before .before .before .before .before .before .before .before .before .before .before .before .before .before in
+    let after-check-char = c .before .before .before .before .before .before .before .before .before .before .before .before .before .before .before in
+    let entry = c .before .before .before .before .before .before .before .before .before .before .before .before .before .before .before .before .before .before .before in
     let insert-char1 = insert-char after-format-for.format-for.result
     (lent (now entry.args.text) (now entry.args.records) (now entry.args.texts) entry.args.line entry.args.log) entry.args.ch entry.args.n
-    after-refusal.refusal.result after-check-char.check-char.result after-refusal.refusal.ensures.0 after-check-char.check-char.ensures
+    after-check.check.result.number after-check-char.check-char.result after-check.check.ensures.0 after-check-char.check-char.ensures
     else1.if1.left in
     let typed-bytes1 = typed-bytes entry.args.ch insert-char1 _ after-encode-at.encode-at.last.0 after-encode-at.encode-at.result
     (omega arith) after-encode-at.encode-at.ensures in (
-      after-refusal.refusal.ensures.1 else1.if1.left,
+      after-check.check.ensures.1.0 else1.if1.left,
       (
         ap (isText catalogue) typed-bytes1 ∙ typed-text entry.args.ch insert-char1,
         (omega (arith, ap length typed-bytes1, encode-max entry.args.ch), omega arith),
@@ -162,21 +169,21 @@ same-length-9 c = search needs
 returns-3 : tie.Need-returns-3
 returns-3 c =
     let after-put-copies = c .before .before .before .before .before .before in
-    let else2 = after-put-copies .before .before .before .before in
-    let after-encode-at = else2 .before .before .before in
-    let else1 = after-encode-at.before.before in
-    let after-refusal = else1.before in
-    let after-format-for = after-refusal .before .before .before .before in
-    let after-check-char = after-format-for.before in
-    let entry = after-check-char .before .before .before .before in
+    let else2 = c .before .before .before .before .before .before .before .before .before .before in
+    let after-encode-at = c .before .before .before .before .before .before .before .before .before .before .before .before .before in
+    let else1 = c .before .before .before .before .before .before .before .before .before .before .before .before .before .before .before in
+    let after-check = c .before .before .before .before .before .before .before .before .before .before .before .before .before .before .before .before .before in
+    let after-format-for = c .before .before .before .before .before .before .before .before .before .before .before .before .before .before .before .before .before .before .before .before .before in
+    let after-check-char = c .before .before .before .before .before .before .before .before .before .before .before .before .before .before .before .before .before .before .before .before .before .before in
+    let entry = c .before .before .before .before .before .before .before .before .before .before .before .before .before .before .before .before .before .before .before .before .before .before .before .before .before .before in
     let l = lent (now entry.args.text) (now entry.args.records) (now entry.args.texts) entry.args.line entry.args.log in
     in-format l (λ (F : Format). insertCall catalogue F l entry.args.ch entry.args.n) after-format-for.format-for.ensures
-    (insert-many after-format-for.format-for.result l entry.args.ch entry.args.n after-refusal.refusal.result
-    after-check-char.check-char.result after-refusal.refusal.ensures.0 after-check-char.check-char.ensures else1.if1.left _ _ _ _
+    (insert-many after-format-for.format-for.result l entry.args.ch entry.args.n after-check.check.result.number
+    after-check-char.check-char.result after-check.check.ensures.0 after-check-char.check-char.ensures else1.if1.left _ _ _ _
     else2.if2.left (take after-encode-at.encode-at.result after-encode-at.encode-at.last.0)
     (typed-bytes entry.args.ch
-    (insert-char after-format-for.format-for.result l entry.args.ch entry.args.n after-refusal.refusal.result
-    after-check-char.check-char.result after-refusal.refusal.ensures.0 after-check-char.check-char.ensures else1.if1.left) _
+    (insert-char after-format-for.format-for.result l entry.args.ch entry.args.n after-check.check.result.number
+    after-check-char.check-char.result after-check.check.ensures.0 after-check-char.check-char.ensures else1.if1.left) _
     after-encode-at.encode-at.last.0 after-encode-at.encode-at.result (omega arith) after-encode-at.encode-at.ensures)
     after-put-copies.put-copies.ensures)
 
@@ -186,7 +193,7 @@ insert-spec =
     (tie.spec
     check-char-requires
     format-for-requires
-    refusal-requires
+    check-requires
     says-requires
     same-length
     same-length-2

@@ -20,6 +20,7 @@ use Rattle.journal.proofs.Recording.{delete-none, delete-some}
 use Rattle.changeset.specs.Calls.{says}
 use Rattle.changeset.proofs.Recorded.{only-dropped}
 use Rattle.log_calls.proofs.Recorded.{a-delete}
+use Rattle.records.proofs.Walks.{newest-last}
 use borrow.Author.Needs.{needs}
 use Rattle.log_calls.proofs.delete.Statement.{statement}
 use Rattle.log_calls.proofs.delete.Tie as tie
@@ -30,8 +31,8 @@ format-for-requires c κs = search needs
 check-text-requires : tie.Need-check-text-requires
 check-text-requires c κs = search needs
 
-refusal-requires : tie.Need-refusal-requires
-refusal-requires c κs =
+check-requires : tie.Need-check-requires
+check-requires c κs =
     let after-format-for = c .before .before .before in
     fit-for _ after-format-for.format-for.ensures
 
@@ -46,7 +47,8 @@ same-length-2 c = search needs
 
 returns : tie.Need-returns
 returns c =
-    let after-check-text = c .before .before .before in
+    let after-check = c .before .before .before in
+    let after-check-text = after-check.before in
     let after-format-for = after-check-text .before .before .before in
     let entry = after-format-for .before .before .before .before in
     let l = lent (now entry.args.records) (now entry.args.texts) entry.args.log in
@@ -57,8 +59,8 @@ returns c =
     let checked11 = checked1 (not (isText catalogue (now entry.args.buf))) in
     in-format l (λ (F : Format). deleteCall catalogue F l entry.args.idx (now entry.args.buf)) after-format-for.format-for.ensures
     (answered-as after-format-for.format-for.result l (called checked11 recordOut1) _ _ _ _ c.says.ensures
-    (refused-by after-format-for.format-for.result l c.before.before.refusal.result checked11 recordOut1
-    (sym (c.before.before.refusal.ensures.0 ∙ ap (λ (b : Bool). checked1 (not b)) after-check-text.check-text.ensures)) c.before.if1.taken))
+    (refused-by after-format-for.format-for.result l after-check.check.result.number checked11 recordOut1
+    (sym (after-check.check.ensures.0 ∙ ap (λ (b : Bool). checked1 (not b)) after-check-text.check-text.ensures)) c.before.if1.taken))
 
 drop-redo-requires : tie.Need-drop-redo-requires
 drop-redo-requires c κs = search needs
@@ -75,8 +77,8 @@ same-length-4 c = search needs
 returns-2 : tie.Need-returns-2
 returns-2 c =
     let else1 = c .before .before .before in
-    let after-refusal = else1.before in
-    let after-check-text = after-refusal.before in
+    let after-check = else1.before.before in
+    let after-check-text = after-check.before in
     let after-format-for = after-check-text .before .before .before in
     let entry = after-format-for .before .before .before .before in
     let l = lent (now entry.args.records) (now entry.args.texts) entry.args.log in
@@ -85,18 +87,18 @@ returns-2 c =
     (recordDelete catalogue entry.args.idx (now entry.args.buf) valueOf1.undo) valueOf1 in
     let checked1 = checked catalogue after-format-for.format-for.result l in
     in-format l (λ (F : Format). deleteCall catalogue F l entry.args.idx (now entry.args.buf)) after-format-for.format-for.ensures
-    (passed-by after-format-for.format-for.result l after-refusal.refusal.result (checked1 (not (isText catalogue (now entry.args.buf))))
-    recordOut1 _ _ _ (sym (after-refusal.refusal.ensures.0 ∙ ap (λ (b : Bool). checked1 (not b)) after-check-text.check-text.ensures))
+    (passed-by after-format-for.format-for.result l after-check.check.result.number (checked1 (not (isText catalogue (now entry.args.buf))))
+    recordOut1 _ _ _ (sym (after-check.check.ensures.0 ∙ ap (λ (b : Bool). checked1 (not b)) after-check-text.check-text.ensures))
     else1.if1.left
     (answered-as after-format-for.format-for.result l recordOut1 _ _ _ _ (c.says2.ensures ∙ ap (says 0) c.before.drop-redo.ensures)
-    (only-dropped after-format-for.format-for.result l (after-refusal.refusal.ensures.1 else1.if1.left) _
+    (only-dropped after-format-for.format-for.result l (after-check.check.ensures.1.0 else1.if1.left) _
     (delete-none entry.args.idx valueOf1.undo catalogue (now entry.args.buf) c.before.before.if2.taken))))
 
 is-single-requires : tie.Need-is-single-requires
 is-single-requires c κs =
-    let else1 = c .before .before .before in
-    let after-refusal = else1.before in
-    let after-check-text = after-refusal.before in
+    let else1 = c .before .before .before .before in
+    let after-check = else1.before.before in
+    let after-check-text = after-check.before in
     let after-format-for = after-check-text .before .before .before in
     let entry = after-format-for .before .before .before .before in
     let l = lent (now entry.args.records) (now entry.args.texts) entry.args.log in
@@ -104,7 +106,7 @@ is-single-requires c κs =
     (own-passed after-format-for.format-for.result l (not (isText catalogue (now entry.args.buf)))
     (
     (sym
-    (after-refusal.refusal.ensures.0
+    (after-check.check.ensures.0
     ∙ ap (λ (b : Bool). (checked catalogue after-format-for.format-for.result l) (not b)) after-check-text.check-text.ensures))
     ∙ else1.if1.left)))
 
@@ -113,25 +115,28 @@ slice-aggregate-record c = search needs
 
 record-requires : tie.Need-record-requires
 record-requires c κs =
-    let else1 = c .before .before .before .before .before in
-    let after-refusal = else1.before in
-    let after-check-text = after-refusal.before in
+    let else1 = c .before .before .before .before .before .before in
+    let after-check = else1.before.before in
+    let after-check-text = after-check.before in
     let after-format-for = after-check-text .before .before .before in
     let entry = after-format-for .before .before .before .before in
     let l = lent (now entry.args.records) (now entry.args.texts) entry.args.log in (
       fit-for _ after-format-for.format-for.ensures,
       (
-        (after-refusal.refusal.ensures.1 else1.if1.left),
+        after-check.check.ensures.1.0 else1.if1.left,
         (
-          a-delete entry.args.idx (now entry.args.buf),
-          (not-false _
-              (own-passed after-format-for.format-for.result l (not (isText catalogue (now entry.args.buf)))
-              (
-              (sym
-              (after-refusal.refusal.ensures.0
-              ∙ ap (λ (b : Bool). (checked catalogue after-format-for.format-for.result l) (not b))
-              after-check-text.check-text.ensures))
-              ∙ else1.if1.left))),
+          (λ e. newest-last catalogue after-format-for.format-for.result _ _ (after-check.check.ensures.1.1 else1.if1.left)),
+          (
+            a-delete entry.args.idx (now entry.args.buf),
+            (not-false _
+                (own-passed after-format-for.format-for.result l (not (isText catalogue (now entry.args.buf)))
+                (
+                (sym
+                (after-check.check.ensures.0
+                ∙ ap (λ (b : Bool). (checked catalogue after-format-for.format-for.result l) (not b))
+                after-check-text.check-text.ensures))
+                ∙ else1.if1.left))),
+          ),
         ),
       ),
     )
@@ -146,10 +151,10 @@ returns-3 : tie.Need-returns-3
 returns-3 c =
     let after-record = c .before .before .before .before in
     let after-is-single = after-record.before.before in
-    let else2 = after-is-single .before .before .before in
+    let else2 = after-is-single .before .before .before .before in
     let else1 = else2.before in
-    let after-refusal = else1.before in
-    let after-check-text = after-refusal.before in
+    let after-check = else1.before.before in
+    let after-check-text = after-check.before in
     let after-format-for = after-check-text .before .before .before in
     let entry = after-format-for .before .before .before .before in
     let l = lent (now entry.args.records) (now entry.args.texts) entry.args.log in
@@ -157,9 +162,9 @@ returns-3 c =
     let recordDelete1 = recordDelete catalogue entry.args.idx (now entry.args.buf) valueOf1.undo in
     let checked1 = checked catalogue after-format-for.format-for.result l in
     in-format l (λ (F : Format). deleteCall catalogue F l entry.args.idx (now entry.args.buf)) after-format-for.format-for.ensures
-    (passed-by after-format-for.format-for.result l after-refusal.refusal.result (checked1 (not (isText catalogue (now entry.args.buf))))
+    (passed-by after-format-for.format-for.result l after-check.check.result.number (checked1 (not (isText catalogue (now entry.args.buf))))
     (recordOut after-format-for.format-for.result (sizesOf l) recordDelete1 valueOf1) _ _ _
-    (sym (after-refusal.refusal.ensures.0 ∙ ap (λ (b : Bool). checked1 (not b)) after-check-text.check-text.ensures)) else1.if1.left
+    (sym (after-check.check.ensures.0 ∙ ap (λ (b : Bool). checked1 (not b)) after-check-text.check-text.ensures)) else1.if1.left
     (recorded-as catalogue after-format-for.format-for.result l
     (note after-is-single.is-single.result (delete entry.args.idx (now entry.args.buf)) valueOf1.undo) valueOf1 recordDelete1 _ _ _
     (ap (λ (b : Bool). note b (delete entry.args.idx (now entry.args.buf)) valueOf1.undo) after-is-single.is-single.ensures
@@ -172,7 +177,7 @@ delete-spec =
     (tie.spec
     format-for-requires
     check-text-requires
-    refusal-requires
+    check-requires
     says-requires
     same-length
     same-length-2

@@ -20,6 +20,7 @@ use Rattle.journal.specs.Change.{insert}
 use Rattle.journal.specs.Recording.{note, recordInsert}
 use Rattle.log_calls.proofs.Recorded.{an-insert, insert-is}
 use Rattle.unicode.proofs.Typed.{typed-text, typed-within, typed-bytes}
+use Rattle.records.proofs.Walks.{newest-last}
 use borrow.Author.Needs.{needs}
 use Rattle.log_calls.proofs.insert.Statement.{statement}
 use Rattle.log_calls.proofs.insert.Tie as tie
@@ -30,8 +31,8 @@ format-for-requires c κs = search needs
 check-char-requires : tie.Need-check-char-requires
 check-char-requires c κs = search needs
 
-refusal-requires : tie.Need-refusal-requires
-refusal-requires c κs =
+check-requires : tie.Need-check-requires
+check-requires c κs =
     let after-format-for = c .before .before .before in
     fit-for _ after-format-for.format-for.ensures
 
@@ -46,7 +47,8 @@ same-length-2 c = search needs
 
 returns : tie.Need-returns
 returns c =
-    let after-check-char = c .before .before .before in
+    let after-check = c .before .before .before in
+    let after-check-char = after-check.before in
     let after-format-for = after-check-char .before .before .before in
     let entry = after-format-for .before .before .before in
     let l = lent (now entry.args.records) (now entry.args.texts) entry.args.log in
@@ -57,8 +59,8 @@ returns c =
     in-format l (λ (F : Format). insertCall catalogue F l entry.args.idx entry.args.ch) after-format-for.format-for.ensures
     (answered-as after-format-for.format-for.result l (called (checked1 (not (isChar catalogue entry.args.ch))) recordOut1) _ _ _ _
     c.says.ensures
-    (refused-by after-format-for.format-for.result l c.before.before.refusal.result (checked1 (not (isChar catalogue entry.args.ch)))
-    recordOut1 (sym (c.before.before.refusal.ensures.0 ∙ ap (λ (b : Bool). checked1 (not b)) after-check-char.check-char.ensures))
+    (refused-by after-format-for.format-for.result l after-check.check.result.number (checked1 (not (isChar catalogue entry.args.ch)))
+    recordOut1 (sym (after-check.check.ensures.0 ∙ ap (λ (b : Bool). checked1 (not b)) after-check-char.check-char.ensures))
     c.before.if1.taken))
 
 slice-aggregate-encode-at : tie.Need-slice-aggregate-encode-at
@@ -70,8 +72,8 @@ encode-at-requires c κs = search needs
 array-share-prefix-buf : tie.Need-array-share-prefix-buf
 array-share-prefix-buf c =
     let else1 = c .before .before .before in
-    let after-refusal = else1.before in
-    let after-check-char = after-refusal.before in
+    let after-check = else1.before.before in
+    let after-check-char = after-check.before in
     let after-format-for = after-check-char .before .before .before in
     let entry = after-format-for .before .before .before in
     let l = lent (now entry.args.records) (now entry.args.texts) entry.args.log in
@@ -80,15 +82,15 @@ array-share-prefix-buf c =
     (own-passed after-format-for.format-for.result l (not (isChar catalogue entry.args.ch))
     (
     (sym
-    (after-refusal.refusal.ensures.0
+    (after-check.check.ensures.0
     ∙ ap (λ (b : Bool). (checked catalogue after-format-for.format-for.result l) (not b)) after-check-char.check-char.ensures))
     ∙ else1.if1.left))) _ c.before.encode-at.last.0 c.before.encode-at.result (omega arith) c.before.encode-at.ensures
 
 slice-aggregate-s : tie.Need-slice-aggregate-s
 slice-aggregate-s c =
     let else1 = c .before .before .before .before in
-    let after-refusal = else1.before in
-    let after-check-char = after-refusal.before in
+    let after-check = else1.before.before in
+    let after-check-char = after-check.before in
     let after-format-for = after-check-char .before .before .before in
     let entry = after-format-for .before .before .before in
     let l = lent (now entry.args.records) (now entry.args.texts) entry.args.log in
@@ -99,7 +101,7 @@ slice-aggregate-s c =
     (own-passed after-format-for.format-for.result l (not (isChar catalogue entry.args.ch))
     (
     (sym
-    (after-refusal.refusal.ensures.0
+    (after-check.check.ensures.0
     ∙ ap (λ (b : Bool). (checked catalogue after-format-for.format-for.result l) (not b)) after-check-char.check-char.ensures))
     ∙ else1.if1.left))) _ c.before.before.encode-at.last.0 c.before.before.encode-at.result (omega arith)
     c.before.before.encode-at.ensures))
@@ -112,10 +114,10 @@ slice-aggregate-record c = search needs
 
 record-requires : tie.Need-record-requires
 record-requires c κs =
-    let after-encode-at = c .before .before .before .before .before .before in
+    let after-encode-at = c .before .before .before .before .before .before .before in
     let else1 = after-encode-at.before.before in
-    let after-refusal = else1.before in
-    let after-check-char = after-refusal.before in
+    let after-check = else1.before.before in
+    let after-check-char = after-check.before in
     let after-format-for = after-check-char .before .before .before in
     let entry = after-format-for .before .before .before in
     let l = lent (now entry.args.records) (now entry.args.texts) entry.args.log in
@@ -123,18 +125,21 @@ record-requires c κs =
     (own-passed after-format-for.format-for.result l (not (isChar catalogue entry.args.ch))
     (
     (sym
-    (after-refusal.refusal.ensures.0
+    (after-check.check.ensures.0
     ∙ ap (λ (b : Bool). (checked catalogue after-format-for.format-for.result l) (not b)) after-check-char.check-char.ensures))
     ∙ else1.if1.left)) in (
       fit-for _ after-format-for.format-for.ensures,
       (
-        (after-refusal.refusal.ensures.1 else1.if1.left),
+        after-check.check.ensures.1.0 else1.if1.left,
         (
-          an-insert entry.args.idx (take after-encode-at.encode-at.result after-encode-at.encode-at.last.0),
-          ap (isText catalogue)
-              (typed-bytes entry.args.ch not-false1 _ after-encode-at.encode-at.last.0 after-encode-at.encode-at.result
-              (omega arith) after-encode-at.encode-at.ensures)
-              ∙ typed-text entry.args.ch not-false1,
+          (λ e. newest-last catalogue after-format-for.format-for.result _ _ (after-check.check.ensures.1.1 else1.if1.left)),
+          (
+            an-insert entry.args.idx (take after-encode-at.encode-at.result after-encode-at.encode-at.last.0),
+            ap (isText catalogue)
+                (typed-bytes entry.args.ch not-false1 _ after-encode-at.encode-at.last.0 after-encode-at.encode-at.result
+                (omega arith) after-encode-at.encode-at.ensures)
+                ∙ typed-text entry.args.ch not-false1,
+          ),
         ),
       ),
     )
@@ -149,20 +154,20 @@ returns-2 : tie.Need-returns-2
 returns-2 c =
     let after-record = c .before .before .before .before in
     let after-is-alnum = after-record.before.before in
-    let after-encode-at = after-is-alnum .before .before .before .before .before in
+    let after-encode-at = after-is-alnum .before .before .before .before .before .before in
     let else1 = after-encode-at.before.before in
-    let after-refusal = else1.before in
-    let after-check-char = after-refusal.before in
+    let after-check = else1.before.before in
+    let after-check-char = after-check.before in
     let after-format-for = after-check-char .before .before .before in
     let entry = after-format-for .before .before .before in
     let l = lent (now entry.args.records) (now entry.args.texts) entry.args.log in
     let checked1 = checked catalogue after-format-for.format-for.result l in
-    let sym1 = sym (after-refusal.refusal.ensures.0 ∙ ap (λ (b : Bool). checked1 (not b)) after-check-char.check-char.ensures) in
+    let sym1 = sym (after-check.check.ensures.0 ∙ ap (λ (b : Bool). checked1 (not b)) after-check-char.check-char.ensures) in
     let valueOf1 = valueOf catalogue after-format-for.format-for.result l in
     let recordInsert1 = recordInsert catalogue entry.args.idx entry.args.ch valueOf1.undo in
     let take1 = take after-encode-at.encode-at.result after-encode-at.encode-at.last.0 in
     in-format l (λ (F : Format). insertCall catalogue F l entry.args.idx entry.args.ch) after-format-for.format-for.ensures
-    (passed-by after-format-for.format-for.result l after-refusal.refusal.result (checked1 (not (isChar catalogue entry.args.ch)))
+    (passed-by after-format-for.format-for.result l after-check.check.result.number (checked1 (not (isChar catalogue entry.args.ch)))
     (recordOut after-format-for.format-for.result (sizesOf l) recordInsert1 valueOf1) _ _ _ sym1 else1.if1.left
     (recorded-as catalogue after-format-for.format-for.result l
     (note after-is-alnum.is-alnum.result (insert entry.args.idx take1) valueOf1.undo) valueOf1 recordInsert1 _ _ _
@@ -178,7 +183,7 @@ insert-spec =
     (tie.spec
     format-for-requires
     check-char-requires
-    refusal-requires
+    check-requires
     says-requires
     same-length
     same-length-2

@@ -1,4 +1,4 @@
-use mathlib.Core.Path.{sym, ap, _∙_}
+use mathlib.Core.Path.{refl, sym, ap, _∙_}
 use denote.Ref.{now}
 use Rattle.unicode.specs.Repertoire.{catalogue}
 use Rattle.checks.specs.Outcome.{called}
@@ -14,6 +14,7 @@ use Rattle.changeset.specs.Outcomes.{recordOut}
 use Rattle.changeset.proofs.Answers.{recorded-as}
 use Rattle.changeset.proofs.Passed.{own-passed}
 use mathlib.Core.Bool.{false}
+use Rattle.lists.proofs.Bools.{never}
 use Rattle.unicode.specs.Text.{isText}
 use Rattle.journal.specs.Change.{insert}
 use Rattle.journal.specs.Recording.{note, recordInsertStr}
@@ -31,8 +32,8 @@ format-for-requires c κs = search needs
 check-text-requires : tie.Need-check-text-requires
 check-text-requires c κs = search needs
 
-refusal-requires : tie.Need-refusal-requires
-refusal-requires c κs =
+check-requires : tie.Need-check-requires
+check-requires c κs =
     let after-format-for = c .before .before .before in
     fit-for _ after-format-for.format-for.ensures
 
@@ -47,7 +48,8 @@ same-length-2 c = search needs
 
 returns : tie.Need-returns
 returns c =
-    let after-check-text = c .before .before .before in
+    let after-check = c .before .before .before in
+    let after-check-text = after-check.before in
     let after-format-for = after-check-text .before .before .before in
     let entry = after-format-for .before .before .before .before in
     let l = lent (now entry.args.records) (now entry.args.texts) entry.args.log in
@@ -58,8 +60,8 @@ returns c =
     let checked11 = checked1 (not (isText catalogue (now entry.args.buf))) in
     in-format l (λ (F : Format). insertStrCall catalogue F l entry.args.idx (now entry.args.buf)) after-format-for.format-for.ensures
     (answered-as after-format-for.format-for.result l (called checked11 recordOut1) _ _ _ _ c.says.ensures
-    (refused-by after-format-for.format-for.result l c.before.before.refusal.result checked11 recordOut1
-    (sym (c.before.before.refusal.ensures.0 ∙ ap (λ (b : Bool). checked1 (not b)) after-check-text.check-text.ensures)) c.before.if1.taken))
+    (refused-by after-format-for.format-for.result l after-check.check.result.number checked11 recordOut1
+    (sym (after-check.check.ensures.0 ∙ ap (λ (b : Bool). checked1 (not b)) after-check-text.check-text.ensures)) c.before.if1.taken))
 
 drop-redo-requires : tie.Need-drop-redo-requires
 drop-redo-requires c κs = search needs
@@ -76,8 +78,8 @@ same-length-4 c = search needs
 returns-2 : tie.Need-returns-2
 returns-2 c =
     let else1 = c .before .before .before in
-    let after-refusal = else1.before in
-    let after-check-text = after-refusal.before in
+    let after-check = else1.before.before in
+    let after-check-text = after-check.before in
     let after-format-for = after-check-text .before .before .before in
     let entry = after-format-for .before .before .before .before in
     let l = lent (now entry.args.records) (now entry.args.texts) entry.args.log in
@@ -86,11 +88,11 @@ returns-2 c =
     (recordInsertStr entry.args.idx (now entry.args.buf) valueOf1.undo) valueOf1 in
     let checked1 = checked catalogue after-format-for.format-for.result l in
     in-format l (λ (F : Format). insertStrCall catalogue F l entry.args.idx (now entry.args.buf)) after-format-for.format-for.ensures
-    (passed-by after-format-for.format-for.result l after-refusal.refusal.result (checked1 (not (isText catalogue (now entry.args.buf))))
-    recordOut1 _ _ _ (sym (after-refusal.refusal.ensures.0 ∙ ap (λ (b : Bool). checked1 (not b)) after-check-text.check-text.ensures))
+    (passed-by after-format-for.format-for.result l after-check.check.result.number (checked1 (not (isText catalogue (now entry.args.buf))))
+    recordOut1 _ _ _ (sym (after-check.check.ensures.0 ∙ ap (λ (b : Bool). checked1 (not b)) after-check-text.check-text.ensures))
     else1.if1.left
     (answered-as after-format-for.format-for.result l recordOut1 _ _ _ _ (c.says2.ensures ∙ ap (says 0) c.before.drop-redo.ensures)
-    (only-dropped after-format-for.format-for.result l (after-refusal.refusal.ensures.1 else1.if1.left) _
+    (only-dropped after-format-for.format-for.result l (after-check.check.ensures.1.0 else1.if1.left) _
     (insert-none entry.args.idx valueOf1.undo (now entry.args.buf) c.before.before.if2.taken))))
 
 slice-aggregate-record : tie.Need-slice-aggregate-record
@@ -99,24 +101,27 @@ slice-aggregate-record c = search needs
 record-requires : tie.Need-record-requires
 record-requires c κs =
     let else1 = c .before .before .before .before in
-    let after-refusal = else1.before in
-    let after-check-text = after-refusal.before in
+    let after-check = else1.before.before in
+    let after-check-text = after-check.before in
     let after-format-for = after-check-text .before .before .before in
     let entry = after-format-for .before .before .before .before in
     let l = lent (now entry.args.records) (now entry.args.texts) entry.args.log in (
       fit-for _ after-format-for.format-for.ensures,
       (
-        (after-refusal.refusal.ensures.1 else1.if1.left),
+        after-check.check.ensures.1.0 else1.if1.left,
         (
-          an-insert entry.args.idx (now entry.args.buf),
-          (not-false _
-              (own-passed after-format-for.format-for.result l (not (isText catalogue (now entry.args.buf)))
-              (
-              (sym
-              (after-refusal.refusal.ensures.0
-              ∙ ap (λ (b : Bool). (checked catalogue after-format-for.format-for.result l) (not b))
-              after-check-text.check-text.ensures))
-              ∙ else1.if1.left))),
+          (λ e. never _ false e refl),
+          (
+            an-insert entry.args.idx (now entry.args.buf),
+            (not-false _
+                (own-passed after-format-for.format-for.result l (not (isText catalogue (now entry.args.buf)))
+                (
+                (sym
+                (after-check.check.ensures.0
+                ∙ ap (λ (b : Bool). (checked catalogue after-format-for.format-for.result l) (not b))
+                after-check-text.check-text.ensures))
+                ∙ else1.if1.left))),
+          ),
         ),
       ),
     )
@@ -132,8 +137,8 @@ returns-3 c =
     let after-record = c .before .before .before .before in
     let else2 = after-record .before .before .before .before in
     let else1 = else2.before in
-    let after-refusal = else1.before in
-    let after-check-text = after-refusal.before in
+    let after-check = else1.before.before in
+    let after-check-text = after-check.before in
     let after-format-for = after-check-text .before .before .before in
     let entry = after-format-for .before .before .before .before in
     let l = lent (now entry.args.records) (now entry.args.texts) entry.args.log in
@@ -141,9 +146,9 @@ returns-3 c =
     let recordInsertStr1 = recordInsertStr entry.args.idx (now entry.args.buf) valueOf1.undo in
     let checked1 = checked catalogue after-format-for.format-for.result l in
     in-format l (λ (F : Format). insertStrCall catalogue F l entry.args.idx (now entry.args.buf)) after-format-for.format-for.ensures
-    (passed-by after-format-for.format-for.result l after-refusal.refusal.result (checked1 (not (isText catalogue (now entry.args.buf))))
+    (passed-by after-format-for.format-for.result l after-check.check.result.number (checked1 (not (isText catalogue (now entry.args.buf))))
     (recordOut after-format-for.format-for.result (sizesOf l) recordInsertStr1 valueOf1) _ _ _
-    (sym (after-refusal.refusal.ensures.0 ∙ ap (λ (b : Bool). checked1 (not b)) after-check-text.check-text.ensures)) else1.if1.left
+    (sym (after-check.check.ensures.0 ∙ ap (λ (b : Bool). checked1 (not b)) after-check-text.check-text.ensures)) else1.if1.left
     (recorded-as catalogue after-format-for.format-for.result l (note false (insert entry.args.idx (now entry.args.buf)) valueOf1.undo)
     valueOf1 recordInsertStr1 _ _ _ (insert-some entry.args.idx valueOf1.undo (now entry.args.buf) (omega (arith, else2.if2.left)))
     after-record.«record».ensures))
@@ -154,7 +159,7 @@ insert-str-spec =
     (tie.spec
     format-for-requires
     check-text-requires
-    refusal-requires
+    check-requires
     says-requires
     same-length
     same-length-2

@@ -15,42 +15,49 @@ use Rattle.log_calls.proofs.last_insert.Tie as tie
 format-for-requires : tie.Need-format-for-requires
 format-for-requires c κs = search needs
 
-refusal-requires : tie.Need-refusal-requires
-refusal-requires c κs = fit-for _ (c .format-for .ensures)
+check-requires : tie.Need-check-requires
+check-requires c κs = fit-for _ (c .format-for .ensures)
 
 says-requires : tie.Need-says-requires
 says-requires c κs = search needs
 
 returns : tie.Need-returns
 returns c =
-    let after-format-for = c .before .before .before in
+    let after-check = c .before .before .before in
+    let after-format-for = after-check.before in
     let entry = after-format-for .before .before .before in
     let l = lent (now entry.args.records) (now entry.args.texts) entry.args.log in
     says-in-format l (λ (F : Format). lastInsertCall catalogue F l) after-format-for.format-for.ensures
     (c.says.ensures
-    ∙ refused-says after-format-for.format-for.result l c.before.before.refusal.result
+    ∙ refused-says after-format-for.format-for.result l after-check.check.result.number
     ((checked catalogue after-format-for.format-for.result l) false)
-    (lastInsertOut (valueOf catalogue after-format-for.format-for.result l)) (sym c.before.before.refusal.ensures.0) c.before.if1.taken)
+    (lastInsertOut (valueOf catalogue after-format-for.format-for.result l)) (sym after-check.check.ensures.0) c.before.if1.taken)
 
 last-insert-requires : tie.Need-last-insert-requires
-last-insert-requires c κs = (fit-for _ (c .before .before .format-for .ensures), (c .before .refusal .ensures .1 (c .if1 .left)))
+last-insert-requires c κs =
+    let after-check = c .before .before .before in (
+      fit-for _ after-check.before.format-for.ensures,
+      (after-check.check.ensures.1.0 c.before.if1.left, after-check.check.ensures.1.1 c.before.if1.left),
+    )
 
 returns-2 : tie.Need-returns-2
 returns-2 c =
-    let after-format-for = c .before .before .before in
+    let else1 = c.before.before in
+    let after-check = else1.before.before in
+    let after-format-for = after-check.before in
     let entry = after-format-for .before .before .before in
     let l = lent (now entry.args.records) (now entry.args.texts) entry.args.log in
     says-in-format l (λ (F : Format). lastInsertCall catalogue F l) after-format-for.format-for.ensures
-    (passed-says after-format-for.format-for.result l c.before.before.refusal.result
+    (passed-says after-format-for.format-for.result l after-check.check.result.number
     ((checked catalogue after-format-for.format-for.result l) false)
-    (lastInsertOut (valueOf catalogue after-format-for.format-for.result l)) _ (sym c.before.before.refusal.ensures.0) c.before.if1.left
+    (lastInsertOut (valueOf catalogue after-format-for.format-for.result l)) _ (sym after-check.check.ensures.0) else1.if1.left
     c.last-insert.ensures)
 
 pub last-insert-spec : {M : Type 1} → statement M
 last-insert-spec =
     tie.close (tie.spec
     format-for-requires
-    refusal-requires
+    check-requires
     says-requires
     returns
     last-insert-requires

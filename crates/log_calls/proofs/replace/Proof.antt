@@ -17,6 +17,7 @@ use Rattle.unicode.specs.Text.{isText}
 use Rattle.journal.specs.Change.{replace}
 use Rattle.journal.specs.Recording.{note, recordReplace}
 use Rattle.log_calls.proofs.Recorded.{a-replace, neither, replace-is}
+use Rattle.records.proofs.Walks.{newest-last}
 use borrow.Author.Needs.{needs}
 use Rattle.log_calls.proofs.replace.Statement.{statement}
 use Rattle.log_calls.proofs.replace.Tie as tie
@@ -30,8 +31,8 @@ check-text-requires c κs = search needs
 check-text-requires-2 : tie.Need-check-text-requires-2
 check-text-requires-2 c κs = search needs
 
-refusal-requires : tie.Need-refusal-requires
-refusal-requires c κs =
+check-requires : tie.Need-check-requires
+check-requires c κs =
     let after-format-for = c .before .before .before .before in
     fit-for _ after-format-for.format-for.ensures
 
@@ -46,7 +47,8 @@ same-length-2 c = search needs
 
 returns : tie.Need-returns
 returns c =
-    let after-check-text2 = c .before .before .before in
+    let after-check = c .before .before .before in
+    let after-check-text2 = after-check.before in
     let after-check-text = after-check-text2.before in
     let after-format-for = after-check-text .before .before .before in
     let entry = after-format-for .before .before .before .before .before in
@@ -59,34 +61,38 @@ returns c =
     in-format l (λ (F : Format). replaceCall catalogue F l entry.args.idx (now entry.args.old) (now entry.args.new))
     after-format-for.format-for.ensures
     (answered-as after-format-for.format-for.result l (called checked11 recordOut1) _ _ _ _ c.says.ensures
-    (refused-by after-format-for.format-for.result l c.before.before.refusal.result checked11 recordOut1
+    (refused-by after-format-for.format-for.result l after-check.check.result.number checked11 recordOut1
     (sym
-    (c.before.before.refusal.ensures.0
+    (after-check.check.ensures.0
     ∙ ap₂ (λ (a b : Bool). checked1 (not a || not b)) after-check-text.check-text.ensures after-check-text2.check-text2.ensures))
     c.before.if1.taken))
 
 record-requires : tie.Need-record-requires
 record-requires c κs =
-    let after-refusal = c .before .before .before in
-    let after-check-text2 = after-refusal.before in
+    let else1 = c .before .before .before in
+    let after-check = else1.before.before in
+    let after-check-text2 = after-check.before in
     let after-check-text = after-check-text2.before in
     let after-format-for = after-check-text .before .before .before in
     let entry = after-format-for .before .before .before .before .before in
     let l = lent (now entry.args.records) (now entry.args.texts) entry.args.log in (
       fit-for _ after-format-for.format-for.ensures,
       (
-        (after-refusal.refusal.ensures.1 c.before.before.if1.left),
+        after-check.check.ensures.1.0 else1.if1.left,
         (
-          a-replace entry.args.idx (now entry.args.old) (now entry.args.new),
-          (neither (isText catalogue (now entry.args.old)) (isText catalogue (now entry.args.new))
-              (own-passed after-format-for.format-for.result l
-              (not (isText catalogue (now entry.args.old)) || not (isText catalogue (now entry.args.new)))
-              (
-              (sym
-              (after-refusal.refusal.ensures.0
-              ∙ ap₂ (λ (a b : Bool). (checked catalogue after-format-for.format-for.result l) (not a || not b))
-              after-check-text.check-text.ensures after-check-text2.check-text2.ensures))
-              ∙ c.before.before.if1.left))),
+          (λ e. newest-last catalogue after-format-for.format-for.result _ _ (after-check.check.ensures.1.1 else1.if1.left)),
+          (
+            a-replace entry.args.idx (now entry.args.old) (now entry.args.new),
+            (neither (isText catalogue (now entry.args.old)) (isText catalogue (now entry.args.new))
+                (own-passed after-format-for.format-for.result l
+                (not (isText catalogue (now entry.args.old)) || not (isText catalogue (now entry.args.new)))
+                (
+                (sym
+                (after-check.check.ensures.0
+                ∙ ap₂ (λ (a b : Bool). (checked catalogue after-format-for.format-for.result l) (not a || not b))
+                after-check-text.check-text.ensures after-check-text2.check-text2.ensures))
+                ∙ else1.if1.left))),
+          ),
         ),
       ),
     )
@@ -100,9 +106,9 @@ same-length-4 c = search needs
 returns-2 : tie.Need-returns-2
 returns-2 c =
     let after-record = c .before .before .before .before in
-    let else1 = after-record .before .before .before in
-    let after-refusal = else1.before in
-    let after-check-text2 = after-refusal.before in
+    let else1 = after-record .before .before .before .before in
+    let after-check = else1.before.before in
+    let after-check-text2 = after-check.before in
     let after-check-text = after-check-text2.before in
     let after-format-for = after-check-text .before .before .before in
     let entry = after-format-for .before .before .before .before .before in
@@ -112,11 +118,11 @@ returns-2 c =
     let checked1 = checked catalogue after-format-for.format-for.result l in
     in-format l (λ (F : Format). replaceCall catalogue F l entry.args.idx (now entry.args.old) (now entry.args.new))
     after-format-for.format-for.ensures
-    (passed-by after-format-for.format-for.result l after-refusal.refusal.result
+    (passed-by after-format-for.format-for.result l after-check.check.result.number
     (checked1 (not (isText catalogue (now entry.args.old)) || not (isText catalogue (now entry.args.new))))
     (recordOut after-format-for.format-for.result (sizesOf l) recordReplace1 valueOf1) _ _ _
     (sym
-    (after-refusal.refusal.ensures.0
+    (after-check.check.ensures.0
     ∙ ap₂ (λ (a b : Bool). checked1 (not a || not b)) after-check-text.check-text.ensures after-check-text2.check-text2.ensures))
     else1.if1.left
     (recorded-as catalogue after-format-for.format-for.result l
@@ -130,7 +136,7 @@ replace-spec =
     format-for-requires
     check-text-requires
     check-text-requires-2
-    refusal-requires
+    check-requires
     says-requires
     same-length
     same-length-2

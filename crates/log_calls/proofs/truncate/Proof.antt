@@ -16,8 +16,8 @@ use Rattle.log_calls.proofs.truncate.Tie as tie
 format-for-requires : tie.Need-format-for-requires
 format-for-requires c κs = search needs
 
-refusal-requires : tie.Need-refusal-requires
-refusal-requires c κs = fit-for _ (c .before .before .format-for .ensures)
+check-requires : tie.Need-check-requires
+check-requires c κs = fit-for _ (c .before .before .format-for .ensures)
 
 says-requires : tie.Need-says-requires
 says-requires c κs = search needs
@@ -30,21 +30,23 @@ same-length-2 c = search needs
 
 returns : tie.Need-returns
 returns c =
-    let after-format-for = c .before .before .before .before .before in
+    let after-check = c .before .before .before in
+    let after-format-for = after-check .before .before .before in
     let entry = after-format-for .before .before .before in
     let l = lent (now entry.args.records) (now entry.args.texts) entry.args.log in
     let checked1 = checked catalogue after-format-for.format-for.result l in
     in-format l (λ (F : Format). truncateCall catalogue F l entry.args.len) after-format-for.format-for.ensures
     (answered-as after-format-for.format-for.result l
     (called (checked1 false) (truncateOut entry.args.len (valueOf catalogue after-format-for.format-for.result l))) _ _ _ _ c.says.ensures
-    (refused-by after-format-for.format-for.result l c.before.before.refusal.result (checked1 false) _
-    (sym c.before.before.refusal.ensures.0) c.before.if1.taken))
+    (refused-by after-format-for.format-for.result l after-check.check.result.number (checked1 false) _
+    (sym after-check.check.ensures.0) c.before.if1.taken))
 
 truncate-requires : tie.Need-truncate-requires
 truncate-requires c κs =
-    let after-refusal = c .before .before .before in
-    let after-format-for = after-refusal .before .before .before in
-    (fit-for _ after-format-for.format-for.ensures, (after-refusal.refusal.ensures.1 c.before.before.if1.left))
+    let else1 = c .before .before in
+    let after-check = else1.before.before in
+    let after-format-for = after-check .before .before .before in
+    (fit-for _ after-format-for.format-for.ensures, after-check.check.ensures.1.0 else1.if1.left)
 
 same-length-3 : tie.Need-same-length-3
 same-length-3 c = search needs
@@ -56,14 +58,14 @@ returns-2 : tie.Need-returns-2
 returns-2 c =
     let after-truncate = c .before .before .before .before in
     let else1 = after-truncate .before .before .before in
-    let after-refusal = else1.before in
-    let after-format-for = after-refusal .before .before .before in
+    let after-check = else1.before.before in
+    let after-format-for = after-check .before .before .before in
     let entry = after-format-for .before .before .before in
     let l = lent (now entry.args.records) (now entry.args.texts) entry.args.log in
     in-format l (λ (F : Format). truncateCall catalogue F l entry.args.len) after-format-for.format-for.ensures
-    (passed-by after-format-for.format-for.result l after-refusal.refusal.result
+    (passed-by after-format-for.format-for.result l after-check.check.result.number
     ((checked catalogue after-format-for.format-for.result l) false)
-    (truncateOut entry.args.len (valueOf catalogue after-format-for.format-for.result l)) _ _ _ (sym after-refusal.refusal.ensures.0)
+    (truncateOut entry.args.len (valueOf catalogue after-format-for.format-for.result l)) _ _ _ (sym after-check.check.ensures.0)
     else1.if1.left after-truncate.truncate.ensures)
 
 pub truncate-spec : {M : Type 1} → statement M
@@ -71,7 +73,7 @@ truncate-spec =
     tie.close
     (tie.spec
     format-for-requires
-    refusal-requires
+    check-requires
     says-requires
     same-length
     same-length-2

@@ -1,3 +1,5 @@
+use mathlib.Core.Bool.{false}
+use Rattle.lists.proofs.Bools.{never}
 use native.Mathlib.Omega.{arith}
 use mathlib.Core.Path.{refl, sym, _∙_}
 use lib.ListN.{length}
@@ -147,12 +149,15 @@ record-requires c κs =
       (
         entry.pre.0.log,
         (
-          record { kind = refl; place = refl; old = refl; new = refl },
-          new-text entry.args.f
-              (lent (now entry.args.text) (now entry.args.records) (now entry.args.texts) entry.args.line entry.args.log)
-              entry.pre.0 (now entry.args.s) entry.pre.1.0 entry.args.n else1.if1.left _ after-room-now.room-now.ensures _
-              after-room-put.room-put.ensures (not-false _ else3.if3.left) else2.if2.left _
-              after-insert-copies.insert-copies.ensures,
+          (λ e. never _ false e refl),
+          (
+            record { kind = refl; place = refl; old = refl; new = refl },
+            new-text entry.args.f
+                (lent (now entry.args.text) (now entry.args.records) (now entry.args.texts) entry.args.line entry.args.log)
+                entry.pre.0 (now entry.args.s) entry.pre.1.0 entry.args.n else1.if1.left _ after-room-now.room-now.ensures _
+                after-room-put.room-put.ensures (not-false _ else3.if3.left) else2.if2.left _
+                after-insert-copies.insert-copies.ensures,
+          ),
         ),
       ),
     )

@@ -19,7 +19,7 @@ is-alnum-requires c κs = search needs
 add-change : tie.Need-add-change
 add-change c =
     let entry = c .before .before .before .before .before .before .before .before in
-    omega (arith, ap length entry.pre.1.1, encode-max entry.args.ch)
+    omega (arith, ap length entry.pre.1.1.1, encode-max entry.args.ch)
 
 change-requires : tie.Need-change-requires
 change-requires c κs =
@@ -30,8 +30,11 @@ change-requires c κs =
         (
           (omega arith, entry.pre.0.within),
           (
-            an-insert (take entry.args.line.len (now entry.args.text)) entry.args.line.cursor (now entry.args.s),
-            ap (isText catalogue) entry.pre.1.1 ∙ typed-text entry.args.ch entry.pre.1.0,
+            (λ e. entry.pre.1.0),
+            (
+              an-insert (take entry.args.line.len (now entry.args.text)) entry.args.line.cursor (now entry.args.s),
+              ap (isText catalogue) entry.pre.1.1.1 ∙ typed-text entry.args.ch entry.pre.1.1.0,
+            ),
           ),
         ),
       ),
@@ -53,7 +56,7 @@ returns c =
     let entry = after-is-alnum .before .before .before .before .before .before .before .before in
     char-put entry.args.f (lent (now entry.args.text) (now entry.args.records) (now entry.args.texts) entry.args.line entry.args.log)
     (now entry.args.s) (length (now entry.args.s)) _ _ _ _ entry.args.ch after-is-alnum.is-alnum.result after-is-alnum.is-alnum.ensures
-    entry.pre.1.1 refl after-change.change.ensures
+    entry.pre.1.1.1 refl after-change.change.ensures
 
 pub type-char-spec : {M : Type 1} → statement M
 type-char-spec =

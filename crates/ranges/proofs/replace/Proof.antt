@@ -1,5 +1,8 @@
+use Rattle.changeset.specs.Calls as log
+use Rattle.changeset.proofs.Recorded.{listed}
+use lib.Seq.{length-take-le}
 use native.Mathlib.Omega.{arith}
-use mathlib.Core.Path.{refl}
+use mathlib.Core.Path.{refl, sym}
 use denote.Ref.{now}
 use Rattle.edit.specs.Calls.{lent}
 use Rattle.unicode.specs.Repertoire.{catalogue}
@@ -55,9 +58,29 @@ returns c =
     after-is-split2.is-split2.ensures (now entry.args.buf) _ after-check-text.check-text.ensures _ c.before.before.refusal.ensures.0
     c.before.if1.taken _ c.says.ensures)
 
+slice-reshare-prefix-last-for : tie.Need-slice-reshare-prefix-last-for
+slice-reshare-prefix-last-for c =
+    let else1 = c .before in
+    omega (arith, else1.before.refusal.ensures.1 else1.if1.left .log .hold .room)
+
+slice-aggregate-last-for : tie.Need-slice-aggregate-last-for
+slice-aggregate-last-for c =
+    let else1 = c .before .before in
+    sym (length-take-le _ _ (omega (arith, else1.before.refusal.ensures.1 else1.if1.left .log .hold .room)))
+
+last-for-requires : tie.Need-last-for-requires
+last-for-requires c κs =
+    let else1 = c .before .before in
+    let after-format-for = c .before .before .before .before .before .before .before in
+    let entry = c .before .before .before .before .before .before .before .before .before .before .before .before .before .before .before .before .before in
+    let ready = else1.before.refusal.ensures.1 else1.if1.left in (
+      ready.log.fit,
+      listed after-format-for.format-for.result (log.lent (now entry.args.records) (now entry.args.texts) entry.args.log) ready.log,
+    )
+
 add-change : tie.Need-add-change
 add-change c =
-    let else1 = c .before .before .before in
+    let else1 = c .before .before .before .before .before .before in
     let after-refusal = else1.before in
     let after-format-for = after-refusal .before .before .before .before in
     let after-check-text = after-format-for.before in
@@ -75,7 +98,8 @@ add-change c =
 
 change-requires : tie.Need-change-requires
 change-requires c κs =
-    let else1 = c .before .before .before in
+    let after-last-for = c .before .before .before in
+    let else1 = c .before .before .before .before .before .before in
     let after-refusal = else1.before in
     let after-format-for = after-refusal .before .before .before .before in
     let after-check-text = after-format-for.before in
@@ -91,11 +115,14 @@ change-requires c κs =
               after-is-split2.is-split2.ensures (now entry.args.buf) _ after-check-text.check-text.ensures _
               after-refusal.refusal.ensures.0 else1.if1.left (after-refusal.refusal.ensures.1 else1.if1.left),
           (
-            record { kind = refl; place = refl; old = refl; new = refl },
-            replace-texts after-format-for.format-for.result l entry.args.start entry.args.end _ _
-                after-is-split.is-split.ensures after-is-split2.is-split2.ensures (now entry.args.buf) _
-                after-check-text.check-text.ensures _ after-refusal.refusal.ensures.0 else1.if1.left
-                (after-refusal.refusal.ensures.1 else1.if1.left),
+            (λ e. after-last-for.last-for.ensures refl),
+            (
+              record { kind = refl; place = refl; old = refl; new = refl },
+              replace-texts after-format-for.format-for.result l entry.args.start entry.args.end _ _
+                  after-is-split.is-split.ensures after-is-split2.is-split2.ensures (now entry.args.buf) _
+                  after-check-text.check-text.ensures _ after-refusal.refusal.ensures.0 else1.if1.left
+                  (after-refusal.refusal.ensures.1 else1.if1.left),
+            ),
           ),
         ),
       ),
@@ -113,7 +140,7 @@ same-length-6 c = search needs
 returns-2 : tie.Need-returns-2
 returns-2 c =
     let after-change = c .before .before .before .before .before .before in
-    let else1 = after-change .before .before .before .before in
+    let else1 = c .before .before .before .before .before .before .before .before .before .before .before .before .before in
     let after-refusal = else1.before in
     let after-format-for = after-refusal .before .before .before .before in
     let after-check-text = after-format-for.before in
@@ -141,6 +168,9 @@ replace-spec =
     same-length-2
     same-length-3
     returns
+    slice-reshare-prefix-last-for
+    slice-aggregate-last-for
+    last-for-requires
     add-change
     change-requires
     same-length-4

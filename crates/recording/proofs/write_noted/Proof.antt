@@ -34,7 +34,22 @@ same-length-2 : tie.Need-same-length-2
 same-length-2 c = search needs
 
 returns : tie.Need-returns
-returns c = record { records = c .before .before .before .before .before .before .before .before .before .before .write-record .ensures ∙ ap (λ (i : ℕ). sets (now (c .before .before .before .before .before .before .before .before .before .before .before .before .before .before .before .before .before .before .before .args .records)) ((c .before .before .before .before .before .before .before .before .before .before .before .before .before .before .before .before .before .before .before .args .n .tail) .records - i) (recordBytes (c .before .before .before .before .before .before .before .before .before .before .before .before .before .before .before .before .before .before .before .args .f) ((c .before .before .before .before .before .before .before .before .before .before .before .before .before .before .before .before .before .before .before .args .n .tail) .kind) ((c .before .before .before .before .before .before .before .before .before .before .before .before .before .before .before .before .before .before .before .args .n .tail) .place) ((c .before .before .before .before .before .before .before .before .before .before .before .before .before .before .before .before .before .before .before .args .n .tail) .old) ((c .before .before .before .before .before .before .before .before .before .before .before .before .before .before .before .before .before .before .before .args .n .tail) .new))) (c .before .before .before .before .before .before .before .before .before .before .before .before .before .edit-size .ensures .0); texts = texts-written (now (c .before .before .before .before .before .before .before .before .before .before .before .before .before .before .before .before .before .before .before .args .texts)) (c .before .before .before .before .before .before .insert-bytes .last .0) (c .before .before .insert-bytes2 .last .0) (now (c .before .before .before .before .before .before .before .before .before .before .before .before .before .before .before .before .before .before .before .args .old)) (now (c .before .before .before .before .before .before .before .before .before .before .before .before .before .before .before .before .before .before .before .args .new)) (c .before .before .before .before .before .before .before .before .before .before .before .before .before .before .before .before .before .before .before .args .used) (c .before .before .before .before .before .before .before .before .before .before .before .before .before .before .before .before .before .before .before .args .n .at) (omega (arith, c .before .before .before .before .before .before .insert-bytes .kept .0, c .before .before .before .before .before .before .before .before .before .before .before .before .before .before .before .before .before .before .before .pre .1)) (c .before .before .before .before .before .before .insert-bytes .ensures) (c .before .before .insert-bytes2 .ensures) }
+returns c =
+    let after-insert-bytes = c .before .before .before .before .before .before in
+    let after-write-record = after-insert-bytes .before .before .before .before in
+    let after-edit-size = after-write-record .before .before .before in
+    let entry = after-edit-size .before .before .before .before .before .before in
+    record {
+      records = after-write-record.write-record.ensures
+          ∙ ap
+          (λ (i : ℕ). sets (now entry.args.records) (entry.args.n.tail.records - i)
+          (recordBytes entry.args.f entry.args.n.tail.kind entry.args.n.tail.place entry.args.n.tail.old entry.args.n.tail.new))
+          after-edit-size.edit-size.ensures.0;
+      texts = texts-written (now entry.args.texts) after-insert-bytes.insert-bytes.last.0 c.before.before.insert-bytes2.last.0
+          (now entry.args.old) (now entry.args.new) entry.args.used entry.args.n.at
+          (omega (arith, after-insert-bytes.insert-bytes.kept.0, entry.pre.1)) after-insert-bytes.insert-bytes.ensures
+          c.before.before.insert-bytes2.ensures;
+    }
 
 pub write-noted-spec : {M : Type 1} → statement M
 write-noted-spec =

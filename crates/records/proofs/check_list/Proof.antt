@@ -1,56 +1,130 @@
 use native.Mathlib.Omega.{arith}
-use mathlib.Core.Path.{_≡_, refl, sym, subst, _∙_}
-use mathlib.Core.Bool.{true}
-use Prim.Native.Nat.{_-_, _≤_}
-use lib.ListN.{length, drop}
+use Prim.Native.Nat.{_+_, _-_, _≤_, _<_}
+use mathlib.Core.Path.{sym, _∙_}
+use mathlib.Core.Bool.{true, true≢false}
+use lib.ListN.{length}
 use denote.Ref.{now}
-use borrow.Author.Needs.{needs}
 use borrow.Author.Tests.{not-true, not-false}
 use Rattle.unicode.specs.Repertoire.{catalogue}
-use Rattle.unicode.specs.Text.{isText}
-use Rattle.journal.specs.Layout.{isSome, decodeAt, decode}
-use Rattle.journal.proofs.Decode.{some-end, some-bad}
 use Rattle.journal.proofs.Texts.{no-text}
-use Rattle.records.specs.Check.{PassedAt}
-use Rattle.records.proofs.Check.{further, text-on, decode-on}
+use Rattle.records.proofs.Check.{no-record, no-texts, further, Looks, looks-first, looks-bad, looks-on, looks-end}
 use Rattle.records.proofs.check_list.Statement.{statement}
 use Rattle.records.proofs.check_list.Tie as tie
 
 abbrev Inv-loop : tie.InvT-loop
-Inv-loop f records texts at₀ t₀ at t = (at ≤ length records) × (t ≤ length texts) × (isText catalogue (drop t texts) ≡ true) × (isSome (decodeAt catalogue f records texts at t) ≡ isSome (decode catalogue f records texts))
+Inv-loop f records texts newest₀ at₀ t₀ newest at t = Looks catalogue f records texts newest at t
 
 abbrev μ-loop : tie.MeasureT-loop
-μ-loop f records texts at₀ t₀ at t = length records - at
+μ-loop f records texts newest₀ at₀ t₀ newest at t = length records - at
+
+-- the record that was read is passed
+gone : (c : tie.Else3 Inv-loop μ-loop) → let r = c.before.before.before.before.read-record.result in let l =
+    c.before.before.before.before.before.before.loop in let a =
+    c.before.before.before.before.before.before.before.before.before.before.before.args in (l .at < l .at + r .size) × (l .at + r .size
+    ≤ length (now a.records)) × (l .t + (r .old + r .new) ≤ length (now a.texts))
+gone c =
+    let after-read-record = c .before .before .before .before in
+    let l = c .before .before .before .before .before .before .loop in
+    let a = c .before .before .before .before .before .before .before .before .before .before .before .args in
+    further catalogue a.f (now a.records) (now a.texts) l.at l.t _ after-read-record.read-record.ensures.same c.before.before.if2.left
+    (sym c.before.are-texts-at.ensures ∙ not-false _ c.if3.left)
 
 check-text-requires : tie.Need-check-text-requires Inv-loop μ-loop
-check-text-requires c κs = search needs
+check-text-requires c κs = tt
 
 returns : tie.Need-returns Inv-loop μ-loop
-returns c = sym (no-text catalogue (c .before .before .before .before .args .f) (now (c .before .before .before .before .args .records)) (now (c .before .before .before .before .args .texts)) (sym (c .before .check-text .ensures) ∙ not-true _ (c .if1 .taken)))
+returns c =
+    let entry = c .before .before .before .before in (
+      sym
+          (no-text catalogue entry.args.f (now entry.args.records) (now entry.args.texts)
+          (sym c.before.check-text.ensures ∙ not-true _ c.if1.taken)),
+      λ z. absurd (true≢false (sym z)),
+    )
 
 loop-holds : tie.Need-loop-holds Inv-loop μ-loop
-loop-holds c = (omega arith, omega arith, sym (c .before .check-text .ensures) ∙ not-false _ (c .if1 .left), refl)
+loop-holds c =
+    let entry = c .before .before .before .before in
+    looks-first catalogue entry.args.f (now entry.args.records) (now entry.args.texts)
+    (sym c.before.check-text.ensures ∙ not-false _ c.if1.left)
 
-pass-record-requires : tie.Need-pass-record-requires Inv-loop μ-loop
-pass-record-requires c κs = (c .before .before .before .before .before .before .pre, (c .loop-test .taken, (c .before .loop .inv .1, c .before .loop .inv .2)))
-
-enum-known-p : tie.Need-enum-known-p Inv-loop μ-loop
-enum-known-p c = search needs
-
-enum-told : tie.Need-enum-told Inv-loop μ-loop
-enum-told c = search needs
+read-record-requires : tie.Need-read-record-requires Inv-loop μ-loop
+read-record-requires c κs =
+    let entry = c .before .before .before .before .before .before in
+    entry.pre
 
 returns-2 : tie.Need-returns-2 Inv-loop μ-loop
-returns-2 c = sym (some-bad catalogue (c .before .before .before .before .before .before .before .before .before .args .f) (now (c .before .before .before .before .before .before .before .before .before .args .records)) (now (c .before .before .before .before .before .before .before .before .before .args .texts)) (c .before .before .before .before .loop .at) (c .before .before .before .before .loop .t) (c .before .before .before .loop-test .taken) (subst (PassedAt catalogue (c .before .before .before .before .before .before .before .before .before .args .f) (now (c .before .before .before .before .before .before .before .before .before .args .records)) (now (c .before .before .before .before .before .before .before .before .before .args .texts)) (c .before .before .before .before .loop .at) (c .before .before .before .before .loop .t)) (c .enum-told .given .1) (c .before .before .pass-record .ensures))) ∙ c .before .before .before .before .loop .inv .3
+returns-2 c =
+    let in-loop = c .before .before .before in
+    let at-loop = in-loop.before in
+    let entry = at-loop .before .before .before .before .before in (
+      looks-bad catalogue entry.args.f (now entry.args.records) (now entry.args.texts) at-loop.loop.newest at-loop.loop.at at-loop.loop.t
+          at-loop.loop.inv in-loop.loop-test.taken
+          (no-record catalogue entry.args.f (now entry.args.records) (now entry.args.texts) at-loop.loop.at at-loop.loop.t _
+          c.before.before.read-record.ensures.same c.if2.taken),
+      λ z. absurd (true≢false (sym z)),
+    )
 
-loop-less : tie.Need-loop-less Inv-loop μ-loop
-loop-less c = omega (arith, further catalogue (c .before .before .before .before .before .before .before .before .before .before .args .f) (now (c .before .before .before .before .before .before .before .before .before .before .args .records)) (now (c .before .before .before .before .before .before .before .before .before .before .args .texts)) (c .before .before .before .before .before .loop .at) (c .before .before .before .before .before .loop .t) _ _ (subst (PassedAt catalogue (c .before .before .before .before .before .before .before .before .before .before .args .f) (now (c .before .before .before .before .before .before .before .before .before .before .args .records)) (now (c .before .before .before .before .before .before .before .before .before .before .args .texts)) (c .before .before .before .before .before .loop .at) (c .before .before .before .before .before .loop .t)) (c .before .p .given .1) (c .before .before .before .pass-record .ensures)), c .before .before .before .before .loop-test .taken)
-
-loop-again : tie.Need-loop-again Inv-loop μ-loop
-loop-again c = (further catalogue (c .before .before .before .before .before .before .before .before .before .before .args .f) (now (c .before .before .before .before .before .before .before .before .before .before .args .records)) (now (c .before .before .before .before .before .before .before .before .before .before .args .texts)) (c .before .before .before .before .before .loop .at) (c .before .before .before .before .before .loop .t) _ _ (subst (PassedAt catalogue (c .before .before .before .before .before .before .before .before .before .before .args .f) (now (c .before .before .before .before .before .before .before .before .before .before .args .records)) (now (c .before .before .before .before .before .before .before .before .before .before .args .texts)) (c .before .before .before .before .before .loop .at) (c .before .before .before .before .before .loop .t)) (c .before .p .given .1) (c .before .before .before .pass-record .ensures)) .1, further catalogue (c .before .before .before .before .before .before .before .before .before .before .args .f) (now (c .before .before .before .before .before .before .before .before .before .before .args .records)) (now (c .before .before .before .before .before .before .before .before .before .before .args .texts)) (c .before .before .before .before .before .loop .at) (c .before .before .before .before .before .loop .t) _ _ (subst (PassedAt catalogue (c .before .before .before .before .before .before .before .before .before .before .args .f) (now (c .before .before .before .before .before .before .before .before .before .before .args .records)) (now (c .before .before .before .before .before .before .before .before .before .before .args .texts)) (c .before .before .before .before .before .loop .at) (c .before .before .before .before .before .loop .t)) (c .before .p .given .1) (c .before .before .before .pass-record .ensures)) .2, text-on catalogue (c .before .before .before .before .before .before .before .before .before .before .args .f) (now (c .before .before .before .before .before .before .before .before .before .before .args .records)) (now (c .before .before .before .before .before .before .before .before .before .before .args .texts)) (c .before .before .before .before .before .loop .at) (c .before .before .before .before .before .loop .t) _ _ (subst (PassedAt catalogue (c .before .before .before .before .before .before .before .before .before .before .args .f) (now (c .before .before .before .before .before .before .before .before .before .before .args .records)) (now (c .before .before .before .before .before .before .before .before .before .before .args .texts)) (c .before .before .before .before .before .loop .at) (c .before .before .before .before .before .loop .t)) (c .before .p .given .1) (c .before .before .before .pass-record .ensures)) (c .before .before .before .before .before .loop .inv .2), decode-on catalogue (c .before .before .before .before .before .before .before .before .before .before .args .f) (now (c .before .before .before .before .before .before .before .before .before .before .args .records)) (now (c .before .before .before .before .before .before .before .before .before .before .args .texts)) (c .before .before .before .before .before .loop .at) (c .before .before .before .before .before .loop .t) _ _ (subst (PassedAt catalogue (c .before .before .before .before .before .before .before .before .before .before .args .f) (now (c .before .before .before .before .before .before .before .before .before .before .args .records)) (now (c .before .before .before .before .before .before .before .before .before .before .args .texts)) (c .before .before .before .before .before .loop .at) (c .before .before .before .before .before .loop .t)) (c .before .p .given .1) (c .before .before .before .pass-record .ensures)) ∙ c .before .before .before .before .before .loop .inv .3)
+are-texts-at-requires : tie.Need-are-texts-at-requires Inv-loop μ-loop
+are-texts-at-requires c κs =
+    let at-loop = c .before .before .before .before in
+    (at-loop.loop.inv.texts, at-loop.loop.inv.text)
 
 returns-3 : tie.Need-returns-3 Inv-loop μ-loop
-returns-3 c = sym (some-end catalogue (c .before .before .before .before .before .before .args .f) (now (c .before .before .before .before .before .before .args .records)) (now (c .before .before .before .before .before .before .args .texts)) (c .before .loop .at) (c .before .loop .t) (omega (arith, c .loop-test .left, c .before .loop .inv .0))) ∙ c .before .loop .inv .3
+returns-3 c =
+    let after-read-record = c .before .before .before .before in
+    let in-loop = after-read-record.before in
+    let at-loop = in-loop.before in
+    let entry = at-loop .before .before .before .before .before in (
+      looks-bad catalogue entry.args.f (now entry.args.records) (now entry.args.texts) at-loop.loop.newest at-loop.loop.at at-loop.loop.t
+          at-loop.loop.inv in-loop.loop-test.taken
+          (no-texts catalogue entry.args.f (now entry.args.records) (now entry.args.texts) at-loop.loop.at at-loop.loop.t _
+          after-read-record.read-record.ensures.same (sym c.before.are-texts-at.ensures ∙ not-true _ c.if3.taken)),
+      λ z. absurd (true≢false (sym z)),
+    )
+
+add-next : tie.Need-add-next Inv-loop μ-loop
+add-next c = omega (arith, gone (c .before) .1)
+
+pass-requires : tie.Need-pass-requires Inv-loop μ-loop
+pass-requires c κs =
+    let at-loop = c .before .before .before .before .before .before .before in
+    (omega (arith, at-loop.loop.inv.count, (gone c.before) .0, (gone c.before) .1), at-loop.loop.inv.begins)
+
+add-t : tie.Need-add-t Inv-loop μ-loop
+add-t c =
+    let else3 = c .before .before .before in
+    omega (arith, (gone else3) .2)
+
+add-t-2 : tie.Need-add-t-2 Inv-loop μ-loop
+add-t-2 c =
+    let else3 = c .before .before .before in
+    let entry = else3 .before .before .before .before .before .before .before .before .before .before .before in
+    omega (arith, (gone else3) .2, entry.good)
+
+loop-less : tie.Need-loop-less Inv-loop μ-loop
+loop-less c =
+    let else3 = c .before .before .before in
+    omega (arith, (gone else3) .0, (gone else3) .1)
+
+loop-again : tie.Need-loop-again Inv-loop μ-loop
+loop-again c =
+    let else3 = c .before .before .before in
+    let after-are-texts-at = else3.before in
+    let else2 = after-are-texts-at.before in
+    let after-read-record = else2.before.before in
+    let in-loop = after-read-record.before in
+    let at-loop = in-loop.before in
+    let entry = at-loop .before .before .before .before .before in
+    looks-on catalogue entry.args.f (now entry.args.records) (now entry.args.texts) at-loop.loop.newest at-loop.loop.at at-loop.loop.t
+    at-loop.loop.inv _ after-read-record.read-record.ensures.same in-loop.loop-test.taken else2.if2.left
+    (sym after-are-texts-at.are-texts-at.ensures ∙ not-false _ else3.if3.left) _ c.before.pass.ensures
+
+returns-4 : tie.Need-returns-4 Inv-loop μ-loop
+returns-4 c =
+    let entry = c .before .before .before .before .before .before in
+    let w = looks-end catalogue entry.args.f (now entry.args.records) (now entry.args.texts) c.before.loop.newest c.before.loop.at
+    c.before.loop.t c.before.loop.inv c.loop-test.left in
+    (w.0, λ z. w.1)
 
 pub check-list-spec : {M : Type 1} → statement M
 check-list-spec =
@@ -61,10 +135,14 @@ check-list-spec =
     check-text-requires
     returns
     loop-holds
-    pass-record-requires
-    enum-known-p
-    enum-told
+    read-record-requires
     returns-2
+    are-texts-at-requires
+    returns-3
+    add-next
+    pass-requires
+    add-t
+    add-t-2
     loop-less
     loop-again
-    returns-3)
+    returns-4)

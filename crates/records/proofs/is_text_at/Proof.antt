@@ -1,16 +1,22 @@
 use native.Mathlib.Omega.{arith}
 use denote.Ref.{now}
 use Rattle.unicode.specs.Repertoire.{catalogue}
-use Rattle.records.proofs.Check.{no-room, by-end}
+use Rattle.records.proofs.Check.{none-at, no-room, by-end-of}
 use borrow.Author.Needs.{needs}
 use Rattle.records.proofs.is_text_at.Statement.{statement}
 use Rattle.records.proofs.is_text_at.Tie as tie
 
-sub-if1 : tie.Need-sub-if1
-sub-if1 c = search needs
-
 returns : tie.Need-returns
-returns c = no-room catalogue (now (c .before .before .args .texts)) (c .before .before .args .t) (c .before .before .args .n) (omega (arith, c .if1 .taken, c .before .before .pre .0))
+returns c =
+    none-at catalogue (now c.before.before.args.texts) c.before.before.args.t c.before.before.args.n c.if1.taken c.before.before.pre.0
+
+sub-if2 : tie.Need-sub-if2
+sub-if2 c = search needs
+
+returns-2 : tie.Need-returns-2
+returns-2 c =
+    let entry = c .before .before .before in
+    no-room catalogue (now entry.args.texts) entry.args.t entry.args.n (omega (arith, c.if2.taken, entry.pre.0))
 
 add-is-boundary : tie.Need-add-is-boundary
 add-is-boundary c = search needs
@@ -18,9 +24,12 @@ add-is-boundary c = search needs
 is-boundary-requires : tie.Need-is-boundary-requires
 is-boundary-requires c κs = search needs
 
-returns-2 : tie.Need-returns-2
-returns-2 c = by-end catalogue (now (c .before .before .before .args .texts)) (c .before .before .before .args .t) (c .before .before .before .args .n) (c .before .before .before .pre .1) _ (omega (arith, c .before .if1 .left, c .before .before .before .pre .0)) (c .is-boundary .ensures .0)
+returns-3 : tie.Need-returns-3
+returns-3 c =
+    let entry = c .before .before .before .before in
+    by-end-of catalogue (now entry.args.texts) entry.args.t entry.args.n entry.pre.1 _ (omega (arith, c.before.if2.left, entry.pre.0))
+    c.is-boundary.ensures.0
 
 pub is-text-at-spec : {M : Type 1} → statement M
 is-text-at-spec =
-    tie.close (tie.spec sub-if1 returns add-is-boundary is-boundary-requires returns-2)
+    tie.close (tie.spec returns sub-if2 returns-2 add-is-boundary is-boundary-requires returns-3)

@@ -101,15 +101,16 @@ same-length-3 c =
 returns-3 : tie.Need-returns-3 Inv-loop μ-loop
 returns-3 c =
     let else1 = c .before .before .before .before .before .before .before .before .before .before .before .before in
-    let b = c .before .before .before .before .before .before .before .before .before .before .before .before .before .before .before
-    .loop in
+    let body = else1 .before .before .before in
+    let s = body .before .before .before .before in
+    let b = body.loop in
     let k = b.inv in
     let n = some-next k.come.ready (omega (arith, else1.if1.left)) in
     let u = c .before .before .before .before .before .before .before .before .before .before .redo-record in
     let i = c .before .before .before .one-if in
     let j = c.before.before.one-if2 in
     let z = c .before .before .before .before .if2 .left in
-    let w = counts-on u.result.kind i.ensures.0 j.ensures.0 n.0 k.waiting b.ends b.begins k.waits (u.ensures n.0 n.1 n.2 .0) in
+    let w = counts-on u.result.kind i.ensures.0 j.ensures.0 s.args.f n.0 k.waiting b.ends b.begins k.waits (u.ensures n.0 n.1 n.2 .0) in
     let few = one-of u.result.kind i.ensures.0 j.ensures.0 in
     redone
     (walked-last k n.2 u.result u.last.1.0 u.ensures u.kept.1.0 z (b.ends + i.result) (b.begins + j.result) w (omega (arith, few))
@@ -128,14 +129,16 @@ loop-less c =
 loop-again : tie.Need-loop-again Inv-loop μ-loop
 loop-again c =
     let else1 = c .before .before .before .before .before .before .before .before .before .before .before in
-    let b = c .before .before .before .before .before .before .before .before .before .before .before .before .before .before .loop in
+    let body = else1 .before .before .before in
+    let s = body .before .before .before .before in
+    let b = body.loop in
     let k = b.inv in
     let n = some-next k.come.ready (omega (arith, else1.if1.left)) in
     let u = c .before .before .before .before .before .before .before .before .before .redo-record in
     let i = c.before.before.one-if in
     let j = c.before.one-if2 in
     let z = c .before .before .before .if2 .left in
-    let w = counts-on u.result.kind i.ensures.0 j.ensures.0 n.0 k.waiting b.ends b.begins k.waits (u.ensures n.0 n.1 n.2 .0) in
+    let w = counts-on u.result.kind i.ensures.0 j.ensures.0 s.args.f n.0 k.waiting b.ends b.begins k.waits (u.ensures n.0 n.1 n.2 .0) in
     let few = one-of u.result.kind i.ensures.0 j.ensures.0 in
     walking-on k n.2 u.result u.last.1.0 u.ensures u.kept.1.0 z (b.ends + i.result) (b.begins + j.result) w (omega (arith, few)) c.if3.left
 

@@ -7,7 +7,7 @@ use lib.ListN.{length}
 use denote.Ref.{now}
 use Rattle.unicode.specs.Repertoire.{catalogue}
 use Rattle.edit.specs.Calls.{stateOf}
-use Rattle.retrace.specs.Records.{SizesOf}
+use Rattle.records.specs.Walks.{SizesOf}
 use Rattle.undo.specs.Undo.{undoWalk, undoOut}
 use Rattle.undo.specs.Steps.{lentBy}
 use Rattle.undo.proofs.Seams.{some-newest, none-newest}
@@ -116,7 +116,7 @@ loop-again c =
     let i = c.before.before.one-if in
     let j = c.before.one-if2 in
     let z = c .before .before .before .if2 .left in
-    let w = counts-back u.result.kind i.ensures.0 j.ensures.0 n.0 k.waiting b.ends b.begins k.waits (u.ensures n.0 n.1 n.2 .0) in
+    let w = counts-back u.result.kind i.ensures.0 j.ensures.0 s.args.f n.0 k.waiting b.ends b.begins k.waits (u.ensures n.0 n.1 n.2 .0) in
     let few = one-of u.result.kind i.ensures.0 j.ensures.0 in (
       walking-on k n.2 u.result u.last.1.0 u.ensures u.kept.1.0 z (b.ends + j.result) (b.begins + i.result) w (omega (arith, few))
           c.if3.taken,
@@ -138,15 +138,16 @@ returns-3 : tie.Need-returns-3 Inv-loop μ-loop
 unfolding undoOut
 returns-3 c =
     let else1 = c .before .before .before .before .before .before .before .before .before .before .before .before .before in
-    let b = c .before .before .before .before .before .before .before .before .before .before .before .before .before .before
-    .before .before .loop in
+    let body = else1 .before .before .before in
+    let s = body .before .before .before .before .before in
+    let b = body.loop in
     let k = b.inv.0 in
     let n = some-newest k.come.ready (omega (arith, else1.if1.left)) in
     let u = c .before .before .before .before .before .before .before .before .before .before .before .undo-record in
     let i = c .before .before .before .before .one-if in
     let j = c .before .before .before .one-if2 in
     let z = c .before .before .before .before .before .if2 .left in
-    let w = counts-back u.result.kind i.ensures.0 j.ensures.0 n.0 k.waiting b.ends b.begins k.waits (u.ensures n.0 n.1 n.2 .0) in
+    let w = counts-back u.result.kind i.ensures.0 j.ensures.0 s.args.f n.0 k.waiting b.ends b.begins k.waits (u.ensures n.0 n.1 n.2 .0) in
     let few = one-of u.result.kind i.ensures.0 j.ensures.0 in
     let e = walked-last k n.2 u.result u.last.1.0 u.ensures u.kept.1.0 z (b.ends + j.result) (b.begins + i.result) w (omega (arith, few))
     c.before.before.if3.left (omega (arith, c.before.if4.taken)) c.answer3.ensures in
@@ -179,7 +180,7 @@ loop-again-2 c =
     let i = c .before .before .before .one-if in
     let j = c.before.before.one-if2 in
     let z = c .before .before .before .before .if2 .left in
-    let w = counts-back u.result.kind i.ensures.0 j.ensures.0 n.0 k.waiting b.ends b.begins k.waits (u.ensures n.0 n.1 n.2 .0) in
+    let w = counts-back u.result.kind i.ensures.0 j.ensures.0 s.args.f n.0 k.waiting b.ends b.begins k.waits (u.ensures n.0 n.1 n.2 .0) in
     let few = one-of u.result.kind i.ensures.0 j.ensures.0 in (
       walking-next k n.2 u.result u.last.1.0 u.ensures u.kept.1.0 z (b.ends + j.result) (b.begins + i.result) w (omega (arith, few))
           c.before.if3.left (omega (arith, c.if4.left)),

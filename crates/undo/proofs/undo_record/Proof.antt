@@ -6,7 +6,7 @@ use mathlib.Core.Bool.{true}
 use denote.Ref.{now}
 use Rattle.undo.specs.Steps.{lentBy}
 use Rattle.undo.proofs.Seams.{some-newest, texts-below}
-use Rattle.undo.proofs.Steps.{size-within, start-whole, texts-within, stands-there, seam-there, space, record-stops, record-passes}
+use Rattle.undo.proofs.Steps.{size-within, texts-within, stands-there, seam-there, space, record-stops, record-passes}
 use Rattle.undo.proofs.undo_record.Statement.{statement}
 use Rattle.undo.proofs.undo_record.Tie as tie
 
@@ -32,13 +32,7 @@ sub-start-2 c =
     size-within h (now (a .sizes)) z n
 
 read-record-requires : tie.Need-read-record-requires
-read-record-requires c κs =
-    let s = c .before .before .before .before .before .before in
-    let a = s .args in
-    let h = s .pre .1 .0 in
-    let z = s .pre .1 .1 .1 in
-    let n = some-newest h (s .pre .1 .1 .0 .1) .2 in
-    (s .pre .0, start-whole h (now (a .sizes)) z n)
+read-record-requires c κs = search needs
 
 add-first : tie.Need-add-first
 add-first c = search needs
@@ -51,7 +45,8 @@ sub-first c =
     let z = s .pre .1 .1 .1 in
     let n = some-newest h (s .pre .1 .1 .0 .1) .2 in
     let r = c .before .before .read-record in
-    texts-within h (now (a .sizes)) z n (r .ensures .0)
+    let i = r.ensures.same in
+    texts-within h (now (a .sizes)) z n i
 
 retrace-requires : tie.Need-retrace-requires
 retrace-requires c κs =
@@ -61,7 +56,8 @@ retrace-requires c κs =
     let z = s.pre.1.1.1 in
     let n = (some-newest h s.pre.1.1.0.1) .2 in
     let r = c .before .before .before .read-record in
-    ((s.pre.1.1.0.0, h.used, r.ensures.2, space (stands-there h (now a.sizes) z n r.ensures.0) r.ensures.0, texts-below h), h.text)
+    let i = r.ensures.same in
+    ((s.pre.1.1.0.0, h.used, r.ensures.place, space (stands-there h (now a.sizes) z n i) i, texts-below h), h.text)
 
 same-length : tie.Need-same-length
 same-length c = search needs
@@ -74,8 +70,9 @@ returns c =
     let z = s.pre.1.1.1 in
     let l = lentBy (now a.text) (now a.records) (now a.texts) a.s a.log in
     let r = c .before .before .before .before .before .before .before .before .read-record in
+    let i = r.ensures.same in
     let q = c .before .before .before .before .retrace in
-    λ x u e. record-stops a.f l true x u (stands-there h (now a.sizes) z e r.ensures.0) r.ensures.0 a.s q.result q.last.0 q.ensures refl
+    λ x u e. record-stops a.f l true x u (stands-there h (now a.sizes) z e i) i a.s q.result q.last.0 q.ensures refl
     c.if1.taken
 
 move-seam-requires : tie.Need-move-seam-requires
@@ -86,7 +83,8 @@ move-seam-requires c κs =
     let z = s.pre.1.1.1 in
     let n = (some-newest h s.pre.1.1.0.1) .2 in
     let r = c .before .before .before .before .before .before .before .before .read-record in
-    let m = seam-there h (now a.sizes) z n r.ensures.0 in (
+    let i = r.ensures.same in
+    let m = seam-there h (now a.sizes) z n i in (
       (m.within, omega (arith, h.log.hold.room, h.log.records, h.log.fit.records)),
       (m.texts, omega (arith, h.log.hold.space, texts-below h)),
     )
@@ -103,9 +101,10 @@ returns-2 c =
     let z = s.pre.1.1.1 in
     let l = lentBy (now a.text) (now a.records) (now a.texts) a.s a.log in
     let r = c .before .before .before .before .before .before .before .before .before .read-record in
+    let i = r.ensures.same in
     let q = c .before .before .before .before .before .retrace in
-    λ x u e. record-passes a.f l true x u (stands-there h (now a.sizes) z e r.ensures.0) r.ensures.0 a.s q.result q.last.0 q.ensures
-    (seam-there h (now a.sizes) z e r.ensures.0) c.before.if1.left c.move-seam.ensures
+    λ x u e. record-passes a.f l true x u (stands-there h (now a.sizes) z e i) i a.s q.result q.last.0 q.ensures
+    (seam-there h (now a.sizes) z e i) c.before.if1.left c.move-seam.ensures
 
 pub undo-record-spec : {M : Type 1} → statement M
 undo-record-spec =

@@ -1,38 +1,29 @@
-use native.Mathlib.Omega.{arith}
-use mathlib.Core.Path.{sym, ap}
-use lib.Seq.{length-take-le}
+use mathlib.Core.Path.{ap}
 use denote.Ref.{now}
 use Rattle.unicode.specs.Repertoire.{catalogue}
 use Rattle.changeset.specs.declared.Log.{Log}
 use Rattle.changeset.specs.Outcomes.{beginOut}
-use Rattle.changeset.specs.Calls.{lent, sizesOf, valueOf}
+use Rattle.changeset.specs.Calls.{Lent, lent, sizesOf, valueOf}
 use Rattle.changeset.proofs.Answers.{answered-as}
-use Rattle.changeset.proofs.Recorded.{listed}
 use Rattle.changeset.proofs.Groups.{begin-high, begin-full, begin-mark, begin-takes}
 use borrow.Author.Needs.{needs}
 use Rattle.changeset.proofs.Log.begin.Statement.{statement}
 use Rattle.changeset.proofs.Log.begin.Tie as tie
 
+abbrev lending : tie.Start → Lent
+lending s = lent (now s.args.records) (now s.args.texts) s.args.self
+
 says-requires : tie.Need-says-requires
 says-requires c κs = search needs
 
 returns : tie.Need-returns
-returns c = answered-as (c .before .before .before .before .before .args .f) (lent (now (c .before .before .before .before .before .args .records)) (now (c .before .before .before .before .before .args .texts)) (c .before .before .before .before .before .args .self)) (beginOut (c .before .before .before .before .before .args .f) (sizesOf (lent (now (c .before .before .before .before .before .args .records)) (now (c .before .before .before .before .before .args .texts)) (c .before .before .before .before .before .args .self))) (valueOf catalogue (c .before .before .before .before .before .args .f) (lent (now (c .before .before .before .before .before .args .records)) (now (c .before .before .before .before .before .args .texts)) (c .before .before .before .before .before .args .self)))) _ _ _ _ (c .says .ensures) (begin-high (c .before .before .before .before .before .args .f) (lent (now (c .before .before .before .before .before .args .records)) (now (c .before .before .before .before .before .args .texts)) (c .before .before .before .before .before .args .self)) (c .before .before .before .before .before .pre .1) (c .before .if1 .taken))
+returns c = answered-as (c .before .before .before .before .before .args .f) (lent (now (c .before .before .before .before .before .args .records)) (now (c .before .before .before .before .before .args .texts)) (c .before .before .before .before .before .args .self)) (beginOut (c .before .before .before .before .before .args .f) (sizesOf (lent (now (c .before .before .before .before .before .args .records)) (now (c .before .before .before .before .before .args .texts)) (c .before .before .before .before .before .args .self))) (valueOf catalogue (c .before .before .before .before .before .args .f) (lent (now (c .before .before .before .before .before .args .records)) (now (c .before .before .before .before .before .args .texts)) (c .before .before .before .before .before .args .self)))) _ _ _ _ (c .says .ensures) (begin-high (c .before .before .before .before .before .args .f) (lent (now (c .before .before .before .before .before .args .records)) (now (c .before .before .before .before .before .args .texts)) (c .before .before .before .before .before .args .self)) (c .before .before .before .before .before .pre .1 .0) (c .before .if1 .taken))
 
 says-requires-2 : tie.Need-says-requires-2
 says-requires-2 c κs = search needs
 
 returns-2 : tie.Need-returns-2
-returns-2 c = answered-as (c .before .before .before .before .before .before .args .f) (lent (now (c .before .before .before .before .before .before .args .records)) (now (c .before .before .before .before .before .before .args .texts)) (c .before .before .before .before .before .before .args .self)) (beginOut (c .before .before .before .before .before .before .args .f) (sizesOf (lent (now (c .before .before .before .before .before .before .args .records)) (now (c .before .before .before .before .before .before .args .texts)) (c .before .before .before .before .before .before .args .self))) (valueOf catalogue (c .before .before .before .before .before .before .args .f) (lent (now (c .before .before .before .before .before .before .args .records)) (now (c .before .before .before .before .before .before .args .texts)) (c .before .before .before .before .before .before .args .self)))) _ _ _ _ (c .says2 .ensures) (begin-full (c .before .before .before .before .before .before .args .f) (lent (now (c .before .before .before .before .before .before .args .records)) (now (c .before .before .before .before .before .before .args .texts)) (c .before .before .before .before .before .before .args .self)) (c .before .before .before .before .before .before .pre .1) (c .before .before .if1 .left) (c .before .if2 .taken))
-
-slice-reshare-prefix-walk : tie.Need-slice-reshare-prefix-walk
-slice-reshare-prefix-walk c = search needs
-
-slice-aggregate-walk : tie.Need-slice-aggregate-walk
-slice-aggregate-walk c = sym (length-take-le _ _ (omega (arith, (c .before .before .before .before .before .before .pre .1) .hold .room)))
-
-walk-requires : tie.Need-walk-requires
-walk-requires c κs = (c .before .before .before .before .before .before .pre .0, (listed (c .before .before .before .before .before .before .args .f) (lent (now (c .before .before .before .before .before .before .args .records)) (now (c .before .before .before .before .before .before .args .texts)) (c .before .before .before .before .before .before .args .self)) (c .before .before .before .before .before .before .pre .1), omega (arith, length-take-le (c .before .before .before .before .before .before .args .self .undo .records) (now (c .before .before .before .before .before .before .args .records)) (omega (arith, (c .before .before .before .before .before .before .pre .1) .hold .room)), (c .before .before .before .before .before .before .pre .1) .records)))
+returns-2 c = answered-as (c .before .before .before .before .before .before .args .f) (lent (now (c .before .before .before .before .before .before .args .records)) (now (c .before .before .before .before .before .before .args .texts)) (c .before .before .before .before .before .before .args .self)) (beginOut (c .before .before .before .before .before .before .args .f) (sizesOf (lent (now (c .before .before .before .before .before .before .args .records)) (now (c .before .before .before .before .before .before .args .texts)) (c .before .before .before .before .before .before .args .self))) (valueOf catalogue (c .before .before .before .before .before .before .args .f) (lent (now (c .before .before .before .before .before .before .args .records)) (now (c .before .before .before .before .before .before .args .texts)) (c .before .before .before .before .before .before .args .self)))) _ _ _ _ (c .says2 .ensures) (begin-full (c .before .before .before .before .before .before .args .f) (lent (now (c .before .before .before .before .before .before .args .records)) (now (c .before .before .before .before .before .before .args .texts)) (c .before .before .before .before .before .before .args .self)) (c .before .before .before .before .before .before .pre .1 .0) (c .before .before .if1 .left) (c .before .if2 .taken))
 
 slice-write-records : tie.Need-slice-write-records
 slice-write-records c = search needs
@@ -50,7 +41,13 @@ same-length : tie.Need-same-length
 same-length c = search needs
 
 returns-3 : tie.Need-returns-3
-returns-3 c = answered-as (c .before .before .before .before .before .before .before .before .args .f) (lent (now (c .before .before .before .before .before .before .before .before .args .records)) (now (c .before .before .before .before .before .before .before .before .args .texts)) (c .before .before .before .before .before .before .before .before .args .self)) (beginOut (c .before .before .before .before .before .before .before .before .args .f) (sizesOf (lent (now (c .before .before .before .before .before .before .before .before .args .records)) (now (c .before .before .before .before .before .before .before .before .args .texts)) (c .before .before .before .before .before .before .before .before .args .self))) (valueOf catalogue (c .before .before .before .before .before .before .before .before .args .f) (lent (now (c .before .before .before .before .before .before .before .before .args .records)) (now (c .before .before .before .before .before .before .before .before .args .texts)) (c .before .before .before .before .before .before .before .before .args .self)))) _ _ _ _ (ap (λ (g : Log). record { number = 0; from = c .before .walk .result .count; to = 0; log = g }) (c .only-undo .ensures)) (begin-takes (c .before .before .before .before .before .before .before .before .args .f) (lent (now (c .before .before .before .before .before .before .before .before .args .records)) (now (c .before .before .before .before .before .before .before .before .args .texts)) (c .before .before .before .before .before .before .before .before .args .self)) (c .before .before .before .before .before .before .before .before .pre .1) (c .before .walk .result .count) (c .before .before .before .before .if1 .left) (c .before .before .before .if2 .left) (begin-mark (c .before .before .before .before .before .before .before .before .args .f) (lent (now (c .before .before .before .before .before .before .before .before .args .records)) (now (c .before .before .before .before .before .before .before .before .args .texts)) (c .before .before .before .before .before .before .before .before .args .self)) (c .before .before .before .before .before .before .before .before .pre .1) (c .before .walk .result) (c .before .walk .ensures)))
+returns-3 c =
+    let entry = c .before .before .before .before .before .before in
+    let f = entry.args.f in
+    let l = lending entry in
+    let count = entry.args.newest.count in
+    answered-as f l (beginOut f (sizesOf l) (valueOf catalogue f l)) _ _ _ _ (ap (λ (g : Log). record { number = 0; from = count; to = 0; log = g }) c.only-undo.ensures)
+    (begin-takes f l entry.pre.1.0 count c.before.before.if1.left c.before.if2.left (begin-mark f l entry.pre.1.0 entry.args.newest entry.pre.1.1))
 
 pub begin-spec : {M : Type 1} → statement M
 begin-spec =
@@ -60,9 +57,6 @@ begin-spec =
     returns
     says-requires-2
     returns-2
-    slice-reshare-prefix-walk
-    slice-aggregate-walk
-    walk-requires
     slice-write-records
     add-self
     add-only-undo

@@ -18,7 +18,14 @@ add-t10 : tie.Need-add-t10
 add-t10 c = search needs
 
 returns : tie.Need-returns
-returns c = ap (λ (i : ℕ). record { tail = tail (c .before .before .before .args .self .records + i) (c .before .before .before .args .self .texts + (c .before .before .before .args .old + c .before .before .before .args .new)) (c .before .before .before .args .kind) (c .before .before .before .args .place) (c .before .before .before .args .old) (c .before .before .before .args .new); at = c .before .before .before .args .self .texts }) (c .before .before .edit-size .ensures .0)
+returns c =
+    let entry = c .before .before .before in
+    ap
+    (λ (i : ℕ). record {
+      tail = tail (entry.args.self.records + i) (entry.args.self.texts + (entry.args.old + entry.args.new)) entry.args.kind entry.args.place
+          entry.args.old entry.args.new;
+      at = entry.args.self.texts;
+    }) c.before.before.edit-size.ensures.0
 
 pub apart-spec : {M : Type 1} → statement M
 apart-spec = tie.close (tie.spec edit-size-requires add-t8 add-t9 add-t10 returns)

@@ -9,13 +9,21 @@ apart-requires : tie.Need-apart-requires
 apart-requires c κs = search needs
 
 returns : tie.Need-returns
-returns c = c .apart .ensures ∙ may-not (c .before .before .args .f) (c .before .before .args .kind) (c .before .before .args .place) (c .before .before .args .old) (c .before .before .args .new) (c .before .before .args .self) (c .before .before .args .joins) (not-true _ (c .before .if1 .taken))
+returns c =
+    c.apart.ensures
+    ∙ may-not c.before.before.args.f c.before.before.args.kind c.before.before.args.place c.before.before.args.old c.before.before.args.new
+    c.before.before.args.self c.before.before.args.joins (not-true _ c.before.if1.taken)
 
 apart-requires-2 : tie.Need-apart-requires-2
 apart-requires-2 c κs = search needs
 
 returns-2 : tie.Need-returns-2
-returns-2 c = c .apart2 .ensures ∙ other-kind (c .before .before .before .before .args .f) (c .before .before .before .before .args .kind) (c .before .before .before .before .args .place) (c .before .before .before .before .args .old) (c .before .before .before .before .args .new) (c .before .before .before .before .args .self) (c .before .before .before .before .args .joins) (not-false _ (c .before .before .before .if1 .left)) (c .before .if2 .taken)
+returns-2 c =
+    let else1 = c .before .before .before in
+    let entry = else1.before in
+    c.apart2.ensures
+    ∙ other-kind entry.args.f entry.args.kind entry.args.place entry.args.old entry.args.new entry.args.self entry.args.joins
+    (not-false _ else1.if1.left) c.before.if2.taken
 
 add-texts : tie.Need-add-texts
 add-texts c = search needs
@@ -36,13 +44,25 @@ sub-t14 : tie.Need-sub-t14
 sub-t14 c = search needs
 
 returns-3 : tie.Need-returns-3
-returns-3 c = follows (c .before .before .before .before .before .before .before .before .before .args .f) (c .before .before .before .before .before .before .before .before .before .args .kind) (c .before .before .before .before .before .before .before .before .before .args .place) (c .before .before .before .before .before .before .before .before .before .args .old) (c .before .before .before .before .before .before .before .before .before .args .new) (c .before .before .before .before .before .before .before .before .before .args .self) (c .before .before .before .before .before .before .before .before .before .args .joins) (not-false _ (c .before .before .before .before .before .before .before .before .if1 .left)) (c .before .before .before .before .before .before .if2 .left) (c .before .before .before .if3 .taken)
+returns-3 c =
+    let then3 = c .before .before .before in
+    let else2 = then3 .before .before .before in
+    let else1 = else2.before.before in
+    let entry = else1.before in
+    follows entry.args.f entry.args.kind entry.args.place entry.args.old entry.args.new entry.args.self entry.args.joins
+    (not-false _ else1.if1.left) else2.if2.left then3.if3.taken
 
 apart-requires-3 : tie.Need-apart-requires-3
 apart-requires-3 c κs = search needs
 
 returns-4 : tie.Need-returns-4
-returns-4 c = c .apart3 .ensures ∙ no-cut (c .before .before .before .before .before .before .before .before .args .f) (c .before .before .before .before .before .before .before .before .args .kind) (c .before .before .before .before .before .before .before .before .args .place) (c .before .before .before .before .before .before .before .before .args .old) (c .before .before .before .before .before .before .before .before .args .new) (c .before .before .before .before .before .before .before .before .args .self) (c .before .before .before .before .before .before .before .before .args .joins) (not-false _ (c .before .before .before .before .before .before .before .if1 .left)) (c .before .before .before .before .before .if2 .left) (c .before .before .if3 .left) (c .before .if4 .taken)
+returns-4 c =
+    let else2 = c .before .before .before .before .before in
+    let else1 = else2.before.before in
+    let entry = else1.before in
+    c.apart3.ensures
+    ∙ no-cut entry.args.f entry.args.kind entry.args.place entry.args.old entry.args.new entry.args.self entry.args.joins
+    (not-false _ else1.if1.left) else2.if2.left c.before.before.if3.left c.before.if4.taken
 
 ends-at-requires : tie.Need-ends-at-requires
 ends-at-requires c κs = search needs
@@ -51,7 +71,16 @@ apart-requires-4 : tie.Need-apart-requires-4
 apart-requires-4 c κs = search needs
 
 returns-5 : tie.Need-returns-5
-returns-5 c = c .apart4 .ensures ∙ away (c .before .before .before .before .before .before .before .before .before .before .args .f) (c .before .before .before .before .before .before .before .before .before .before .args .kind) (c .before .before .before .before .before .before .before .before .before .before .args .place) (c .before .before .before .before .before .before .before .before .before .before .args .old) (c .before .before .before .before .before .before .before .before .before .before .args .new) (c .before .before .before .before .before .before .before .before .before .before .args .self) (c .before .before .before .before .before .before .before .before .before .before .args .joins) (not-false _ (c .before .before .before .before .before .before .before .before .before .if1 .left)) (c .before .before .before .before .before .before .before .if2 .left) (c .before .before .before .before .if3 .left) (c .before .before .before .if4 .left) (sym (c .before .before .ends-at .ensures) ∙ not-true _ (c .before .if5 .taken))
+returns-5 c =
+    let else4 = c .before .before .before in
+    let else3 = else4.before in
+    let else2 = else3 .before .before .before in
+    let else1 = else2.before.before in
+    let entry = else1.before in
+    c.apart4.ensures
+    ∙ away entry.args.f entry.args.kind entry.args.place entry.args.old entry.args.new entry.args.self entry.args.joins
+    (not-false _ else1.if1.left) else2.if2.left else3.if3.left else4.if4.left
+    (sym c.before.before.ends-at.ensures ∙ not-true _ c.before.if5.taken)
 
 add-t10 : tie.Need-add-t10
 add-t10 c = search needs
@@ -66,7 +95,17 @@ sub-t19 : tie.Need-sub-t19
 sub-t19 c = search needs
 
 returns-6 : tie.Need-returns-6
-returns-6 c = before (c .before .before .before .before .before .before .before .before .before .before .before .before .before .args .f) (c .before .before .before .before .before .before .before .before .before .before .before .before .before .args .kind) (c .before .before .before .before .before .before .before .before .before .before .before .before .before .args .place) (c .before .before .before .before .before .before .before .before .before .before .before .before .before .args .old) (c .before .before .before .before .before .before .before .before .before .before .before .before .before .args .new) (c .before .before .before .before .before .before .before .before .before .before .before .before .before .args .self) (c .before .before .before .before .before .before .before .before .before .before .before .before .before .args .joins) (not-false _ (c .before .before .before .before .before .before .before .before .before .before .before .before .if1 .left)) (c .before .before .before .before .before .before .before .before .before .before .if2 .left) (c .before .before .before .before .before .before .before .if3 .left) (c .before .before .before .before .before .before .if4 .left) (sym (c .before .before .before .before .before .ends-at .ensures) ∙ not-false _ (c .before .before .before .before .if5 .left))
+returns-6 c =
+    let else5 = c .before .before .before .before in
+    let after-ends-at = else5.before in
+    let else4 = after-ends-at.before in
+    let else3 = else4.before in
+    let else2 = else3 .before .before .before in
+    let else1 = else2.before.before in
+    let entry = else1.before in
+    before entry.args.f entry.args.kind entry.args.place entry.args.old entry.args.new entry.args.self entry.args.joins
+    (not-false _ else1.if1.left) else2.if2.left else3.if3.left else4.if4.left
+    (sym after-ends-at.ends-at.ensures ∙ not-false _ else5.if5.left)
 
 pub note-spec : {M : Type 1} → statement M
 note-spec =

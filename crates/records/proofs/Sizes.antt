@@ -15,7 +15,10 @@ use Rattle.journal.proofs.Holds.{records-snoc}
 use Rattle.journal.proofs.Newest.{reverse-snoc, undo-reverse}
 use Rattle.journal.proofs.Undo.{records-size}
 use Rattle.journal.proofs.Walk.{Next, Come, come-start, come-next}
-use Rattle.retrace.specs.Records.{SizesOf}
+use Rattle.records.specs.declared.Record.{Record}
+use Rattle.records.specs.Records.{IsWhole, recordAt}
+use Rattle.records.specs.Walks.{SizesOf}
+use Rattle.records.proofs.Records.{size-is}
 
 -- what is kept of the changes us: their number, and their records' sizes
 abbrev pub NotedOf : Format → ℕ → List ℕ → List Change → Type 0
@@ -31,18 +34,18 @@ sizes-kept F sizes p v (c ∷ u) h s =
 
 module _ (F : Format) (rs sizes : List ℕ) (at n : ℕ) (us : List Change) (c : Change) (x : Next F rs at us c) (e : n ≡ sizeOf F (getD rs at 0)) (r : at + n ≤ length sizes) where
   -- its size is that of its bytes
-  size-is : n ≡ length (recordOf F c)
-  size-is = omega (arith, x .place, x .behind, ap length (records-snoc F us c), length-append (encodeRecords F us) (recordOf F c))
+  bytes-are : n ≡ length (recordOf F c)
+  bytes-are = omega (arith, x .place, x .behind, ap length (records-snoc F us c), length-append (encodeRecords F us) (recordOf F c))
 
   -- with it the list ends at at + n
   newest : length (undoRecords F (c ∷ reverse us)) ≡ at + n
-  newest = omega (arith, records-size F c (reverse us), ap length (undo-reverse F us), x .place, size-is)
+  newest = omega (arith, records-size F c (reverse us), ap length (undo-reverse F us), x .place, bytes-are)
 
   -- the record's size is stored at its last byte
   noted-more : (i : ℕ) → NotedOf F i sizes us → NotedOf F (i + 1) (set sizes (at + n - 1) n) (us ++ (c ∷ []))
   noted-more i h =
       let k = record-pos F c in
-      let z = size-is in (
+      let z = bytes-are in (
         simp length-append (omega (arith, h .0)),
         subst (SizesOf F (set sizes (at + n - 1) n)) (sym (reverse-snoc us c)) (
           ap (λ (j : ℕ). getD (set sizes (at + n - 1) n) (j - 1) 0) newest ∙ getD-set-same sizes (at + n - 1) n 0 (omega arith) ∙ z,
@@ -54,7 +57,9 @@ module _ (R : Repertoire) (F : Format) (rs : List ℕ) where
   pub noted-none : (sizes : List ℕ) → Come R F rs 0 (NotedOf F 0 sizes)
   noted-none sizes = come-start R F rs (NotedOf F 0 sizes) (refl, tt)
 
-  -- a record of n bytes is passed
-  pub noted-on : (at n i : ℕ) (sizes : List ℕ) → at < length rs → n ≡ sizeOf F (getD rs at 0) → at + n ≤ length sizes → Come R F rs at (NotedOf F i sizes) → Come R F rs (at + n) (NotedOf F (i + 1) (set sizes (at + n - 1) n))
-  noted-on at n i sizes h e r =
-      come-next R F rs at n (NotedOf F i sizes) (NotedOf F (i + 1) (set sizes (at + n - 1) n)) h e (λ us c x. noted-more F rs sizes at n us c x e r i)
+  -- the record r is passed
+  pub noted-on : (at i : ℕ) (r : Record) (sizes : List ℕ) → at < length rs → r ≡ recordAt F rs at → IsWhole F rs at → at + r .size ≤ length sizes → Come R F rs at (NotedOf F i sizes)
+      → Come R F rs (at + r .size) (NotedOf F (i + 1) (set sizes (at + r .size - 1) (r .size)))
+  noted-on at i r sizes h e w l =
+      come-next R F rs at (r .size) (NotedOf F i sizes) (NotedOf F (i + 1) (set sizes (at + r .size - 1) (r .size))) h (size-is F rs at r e w)
+      (λ us c x. noted-more F rs sizes at (r .size) us c x (size-is F rs at r e w) l i)
