@@ -67,7 +67,11 @@ returns-4 c =
     let sound = not-false _ c.before.if3.left in
     let whole = not-true _ (sym after-look.look.ensures.0 ∙ sound) in (
       says-passed entry.args.f (lending entry) entry.args.foreign fine after-look.before.if2.left whole,
-      (λ e. ready entry.args.f (lending entry) (λ i. omega (arith, after-over-sizes.before.before.shared-slice-known.given i)) entry.pre fine whole, λ e. after-look.look.ensures.1 sound),
+      (
+        λ e. ready entry.args.f (lending entry) (λ i. omega (arith, after-over-sizes.before.before.shared-slice-known.given i))
+            entry.pre fine whole,
+        λ e. after-look.look.ensures.1 sound,
+      ),
     )
 
 pub check-spec : {M : Type 1} → statement M

@@ -9,7 +9,10 @@ next-cluster-requires : tie.Need-next-cluster-requires
 next-cluster-requires c κs = search needs
 
 returns : tie.Need-returns
-returns c = single catalogue (now (c .before .before .before .before .args .s)) (c .before .before .before .before .pre) (c .before .before .next-cluster .result) (c .before .before .next-cluster .ensures .0) (c .before .before .next-cluster .ensures .1)
+returns c =
+    let entry = c .before .before .before .before in
+    single catalogue (now entry.args.s) entry.pre c.before.before.next-cluster.result c.before.before.next-cluster.ensures.0
+    c.before.before.next-cluster.ensures.1
 
 pub is-single-spec : {M : Type 1} → statement M
 is-single-spec = tie.close (tie.spec next-cluster-requires returns)

@@ -18,14 +18,19 @@ is-over-requires c κs = search needs
 
 returns-3 : tie.Need-returns-3
 unfolding overSizes
-returns-3 c = simp (le-ltb _ _ (c .before .before .before .before .if1 .left), le-ltb _ _ (c .before .before .if2 .left), sym (c .before .is-over .ensures) ∙ c .if3 .taken)
+returns-3 c =
+    let else1 = c .before .before .before .before in
+    simp (le-ltb _ _ else1.if1.left, le-ltb _ _ c.before.before.if2.left, sym c.before.is-over.ensures ∙ c.if3.taken)
 
 is-over-requires-2 : tie.Need-is-over-requires-2
 is-over-requires-2 c κs = search needs
 
 returns-4 : tie.Need-returns-4
 unfolding overSizes
-returns-4 c = simp (le-ltb _ _ (c .before .before .before .before .before .if1 .left), le-ltb _ _ (c .before .before .before .if2 .left), sym (c .before .before .is-over .ensures) ∙ c .before .if3 .left) (c .is-over2 .ensures)
+returns-4 c =
+    let else2 = c .before .before .before in
+    let else1 = else2.before.before in
+    simp (le-ltb _ _ else1.if1.left, le-ltb _ _ else2.if2.left, sym c.before.before.is-over.ensures ∙ c.before.if3.left) c.is-over2.ensures
 
 pub over-sizes-spec : {M : Type 1} → statement M
 over-sizes-spec =

@@ -18,10 +18,14 @@ says-requires-2 : tie.Need-says-requires-2
 says-requires-2 c κs = search needs
 
 returns : tie.Need-returns
-returns c = c .says .ensures ∙ sym (ap (λ (f : Found). lineAnswer (c .before .before .before .before .args .line) (movedTo (c .before .before .before .before .args .line) f)) (c .before .before .f .given .1))
+returns c =
+    let entry = c .before .before .before .before in
+    c.says.ensures ∙ sym (ap (λ (f : Found). lineAnswer entry.args.line (movedTo entry.args.line f)) c.before.before.f.given.1)
 
 returns-2 : tie.Need-returns-2
-returns-2 c = c .says2 .ensures ∙ sym (ap (λ (f : Found). lineAnswer (c .before .before .before .args .line) (movedTo (c .before .before .before .args .line) f)) (c .before .enum-told .given .1))
+returns-2 c =
+    let entry = c .before .before .before in
+    c.says2.ensures ∙ sym (ap (λ (f : Found). lineAnswer entry.args.line (movedTo entry.args.line f)) c.before.enum-told.given.1)
 
 pub moved-to-spec : {M : Type 1} → statement M
 moved-to-spec =

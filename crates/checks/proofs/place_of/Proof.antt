@@ -15,10 +15,14 @@ says-requires : tie.Need-says-requires
 says-requires c κs = search needs
 
 returns : tie.Need-returns
-returns c = sym (ap (λ (f : Found). lineAnswer (c .before .before .before .args .line) (placeOf (c .before .before .before .args .line) f)) (c .before .f .given .1))
+returns c =
+    let entry = c .before .before .before in
+    sym (ap (λ (f : Found). lineAnswer entry.args.line (placeOf entry.args.line f)) c.before.f.given.1)
 
 returns-2 : tie.Need-returns-2
-returns-2 c = c .says .ensures ∙ sym (ap (λ (f : Found). lineAnswer (c .before .before .before .args .line) (placeOf (c .before .before .before .args .line) f)) (c .before .enum-told .given .1))
+returns-2 c =
+    let entry = c .before .before .before in
+    c.says.ensures ∙ sym (ap (λ (f : Found). lineAnswer entry.args.line (placeOf entry.args.line f)) c.before.enum-told.given.1)
 
 pub place-of-spec : {M : Type 1} → statement M
 place-of-spec = tie.close (tie.spec enum-known-f enum-told says-requires returns returns-2)

@@ -17,11 +17,11 @@ refusal-in-requires c κs = search needs
 returns : tie.Need-returns
 returns c =
     let entry = c .before .before .before in
-    c .refusal-in .ensures
+    c.refusal-in.ensures
     ∙ ap
     (λ (F : Format). Checks.refusal
-    (Checks.both (Checks.lineTests catalogue F (now entry.args.text) entry.args.line) (Checks.ownTests entry.args.code entry.args.foreign entry.args.place)))
-    (c .before .format-for .ensures)
+    (Checks.both (Checks.lineTests catalogue F (now entry.args.text) entry.args.line)
+    (Checks.ownTests entry.args.code entry.args.foreign entry.args.place))) c.before.format-for.ensures
 
 pub refusal-spec : {M : Type 1} → statement M
 refusal-spec = tie.close (tie.spec format-for-requires refusal-in-requires returns)

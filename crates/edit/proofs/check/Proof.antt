@@ -76,9 +76,10 @@ returns-4 c =
 
 look-requires : tie.Need-look-requires
 look-requires c κs =
+    let else1 = c .before .before .before .before in
     let after-over-sizes = c .before .before .before .before .before in
     let entry = after-over-sizes .before .before .before .before in
-    let s = sized entry.args.f (logLent (lending entry)) (sym after-over-sizes.over-sizes.ensures ∙ c.before.before.before.before.if1.left) in
+    let s = sized entry.args.f (logLent (lending entry)) (sym after-over-sizes.over-sizes.ensures ∙ else1.if1.left) in
     (entry.pre, (s.room, s.space))
 
 refused-requires-5 : tie.Need-refused-requires-5

@@ -23,16 +23,36 @@ use Rattle.edit.proofs.cut_out.Statement.{statement}
 use Rattle.edit.proofs.cut_out.Tie as tie
 
 sub-is-single : tie.Need-sub-is-single
-sub-is-single c = (c .before .before .before .pre .1 .1) .0
+sub-is-single c =
+    let entry = c .before .before .before in
+    entry.pre.1.1.0
 
 part-is-single-start : tie.Need-part-is-single-start
-part-is-single-start c = (c .before .before .before .before .pre .1 .1) .0
+part-is-single-start c =
+    let entry = c .before .before .before .before in
+    entry.pre.1.1.0
 
 part-is-single-end : tie.Need-part-is-single-end
-part-is-single-end c = omega (arith, (let w : (c .before .before .before .before .args .to) ≤ c .before .before .before .before .args .line .len = omega (arith, (c .before .before .before .before .pre .1 .1) .1, length-take-le (c .before .before .before .before .args .line .len) (now (c .before .before .before .before .args .text)) ((c .before .before .before .before .pre .1 .0) .used)) in w), (c .before .before .before .before .pre .1 .0) .used)
+part-is-single-end c =
+    let entry = c .before .before .before .before in
+    omega (
+      arith,
+      (let w : entry.args.to ≤ entry.args.line.len = omega
+          (arith, entry.pre.1.1.1, length-take-le entry.args.line.len (now entry.args.text) entry.pre.1.0.used) in
+          w),
+      entry.pre.1.0.used,
+    )
 
 is-single-requires : tie.Need-is-single-requires
-is-single-requires c κs = ap (isText catalogue) (sym (raw-part (now (c .before .before .before .before .before .args .text)) (c .before .before .before .before .before .args .line .len) (c .before .before .before .before .before .args .from) (c .before .before .before .before .before .args .to) (let w : (c .before .before .before .before .before .args .to) ≤ c .before .before .before .before .before .args .line .len = omega (arith, (c .before .before .before .before .before .pre .1 .1) .1, length-take-le (c .before .before .before .before .before .args .line .len) (now (c .before .before .before .before .before .args .text)) ((c .before .before .before .before .before .pre .1 .0) .used)) in w))) ∙ (part-text catalogue (take (c .before .before .before .before .before .args .line .len) (now (c .before .before .before .before .before .args .text))) (c .before .before .before .before .before .args .from) (c .before .before .before .before .before .args .to) (c .before .before .before .before .before .pre .1 .1) ((c .before .before .before .before .before .pre .1 .0) .text))
+is-single-requires c κs =
+    let entry = c .before .before .before .before .before in
+    ap (isText catalogue)
+    (sym
+    (raw-part (now entry.args.text) entry.args.line.len entry.args.from entry.args.to
+    (let w : entry.args.to ≤ entry.args.line.len = omega
+    (arith, entry.pre.1.1.1, length-take-le entry.args.line.len (now entry.args.text) entry.pre.1.0.used) in
+    w)))
+    ∙ (part-text catalogue (take entry.args.line.len (now entry.args.text)) entry.args.from entry.args.to entry.pre.1.1 entry.pre.1.0.text)
 
 slice-reshare-prefix-last-for : tie.Need-slice-reshare-prefix-last-for
 slice-reshare-prefix-last-for c = search needs
@@ -54,7 +74,30 @@ slice-aggregate-change : tie.Need-slice-aggregate-change
 slice-aggregate-change c = search needs
 
 change-requires : tie.Need-change-requires
-change-requires c κs = (c .before .before .before .before .before .before .before .before .before .before .before .before .before .pre .0, ((c .before .before .before .before .before .before .before .before .before .before .before .before .before .pre .1 .0), (((c .before .before .before .before .before .before .before .before .before .before .before .before .before .pre .1 .1) .0, (let w : (c .before .before .before .before .before .before .before .before .before .before .before .before .before .args .to) ≤ c .before .before .before .before .before .before .before .before .before .before .before .before .before .args .line .len = omega (arith, (c .before .before .before .before .before .before .before .before .before .before .before .before .before .pre .1 .1) .1, length-take-le (c .before .before .before .before .before .before .before .before .before .before .before .before .before .args .line .len) (now (c .before .before .before .before .before .before .before .before .before .before .before .before .before .args .text)) ((c .before .before .before .before .before .before .before .before .before .before .before .before .before .pre .1 .0) .used)) in w)), (c .before .before .before .before .last-for .ensures, (record { kind = refl; place = refl; old = refl; new = refl }, (part-text catalogue (take (c .before .before .before .before .before .before .before .before .before .before .before .before .before .args .line .len) (now (c .before .before .before .before .before .before .before .before .before .before .before .before .before .args .text))) (c .before .before .before .before .before .before .before .before .before .before .before .before .before .args .from) (c .before .before .before .before .before .before .before .before .before .before .before .before .before .args .to) (c .before .before .before .before .before .before .before .before .before .before .before .before .before .pre .1 .1) ((c .before .before .before .before .before .before .before .before .before .before .before .before .before .pre .1 .0) .text)))))))
+change-requires c κs =
+    let after-last-for = c .before .before .before .before in
+    let entry = after-last-for .before .before .before .before .before .before .before .before .before in (
+      entry.pre.0,
+      (
+        entry.pre.1.0,
+        (
+          (
+            entry.pre.1.1.0,
+            (let w : entry.args.to ≤ entry.args.line.len = omega
+                (arith, entry.pre.1.1.1, length-take-le entry.args.line.len (now entry.args.text) entry.pre.1.0.used) in
+                w),
+          ),
+          (
+            after-last-for.last-for.ensures,
+            (
+              record { kind = refl; place = refl; old = refl; new = refl },
+              (part-text catalogue (take entry.args.line.len (now entry.args.text)) entry.args.from entry.args.to
+                  entry.pre.1.1 entry.pre.1.0.text),
+            ),
+          ),
+        ),
+      ),
+    )
 
 same-length : tie.Need-same-length
 same-length c = search needs
@@ -66,7 +109,27 @@ same-length-3 : tie.Need-same-length-3
 same-length-3 c = search needs
 
 returns : tie.Need-returns
-returns c = outcome-as (c .before .before .before .before .before .before .before .before .before .before .before .before .before .before .before .before .before .before .before .before .args .f) (lent (now (c .before .before .before .before .before .before .before .before .before .before .before .before .before .before .before .before .before .before .before .before .args .text)) (now (c .before .before .before .before .before .before .before .before .before .before .before .before .before .before .before .before .before .before .before .before .args .records)) (now (c .before .before .before .before .before .before .before .before .before .before .before .before .before .before .before .before .before .before .before .before .args .texts)) (c .before .before .before .before .before .before .before .before .before .before .before .before .before .before .before .before .before .before .before .before .args .line) (c .before .before .before .before .before .before .before .before .before .before .before .before .before .before .before .before .before .before .before .before .args .log)) (changeOut (c .before .before .before .before .before .before .before .before .before .before .before .before .before .before .before .before .before .before .before .before .args .f) (sizesOf (lent (now (c .before .before .before .before .before .before .before .before .before .before .before .before .before .before .before .before .before .before .before .before .args .text)) (now (c .before .before .before .before .before .before .before .before .before .before .before .before .before .before .before .before .before .before .before .before .args .records)) (now (c .before .before .before .before .before .before .before .before .before .before .before .before .before .before .before .before .before .before .before .before .args .texts)) (c .before .before .before .before .before .before .before .before .before .before .before .before .before .before .before .before .before .before .before .before .args .line) (c .before .before .before .before .before .before .before .before .before .before .before .before .before .before .before .before .before .before .before .before .args .log))) (length (now (c .before .before .before .before .before .before .before .before .before .before .before .before .before .before .before .before .before .before .before .before .args .text))) (c .before .before .before .before .before .before .before .before .before .before .before .before .before .before .is-single .result) (delete (c .before .before .before .before .before .before .before .before .before .before .before .before .before .before .before .before .before .before .before .before .args .from) (part (take (c .before .before .before .before .before .before .before .before .before .before .before .before .before .before .before .before .before .before .before .before .args .line .len) (now (c .before .before .before .before .before .before .before .before .before .before .before .before .before .before .before .before .before .before .before .before .args .text))) (c .before .before .before .before .before .before .before .before .before .before .before .before .before .before .before .before .before .before .before .before .args .from) (c .before .before .before .before .before .before .before .before .before .before .before .before .before .before .before .before .before .before .before .before .args .to))) (c .before .before .before .before .before .before .before .before .before .before .before .before .before .before .before .before .before .before .before .before .args .from) (stateOf catalogue (c .before .before .before .before .before .before .before .before .before .before .before .before .before .before .before .before .before .before .before .before .args .f) (lent (now (c .before .before .before .before .before .before .before .before .before .before .before .before .before .before .before .before .before .before .before .before .args .text)) (now (c .before .before .before .before .before .before .before .before .before .before .before .before .before .before .before .before .before .before .before .before .args .records)) (now (c .before .before .before .before .before .before .before .before .before .before .before .before .before .before .before .before .before .before .before .before .args .texts)) (c .before .before .before .before .before .before .before .before .before .before .before .before .before .before .before .before .before .before .before .before .args .line) (c .before .before .before .before .before .before .before .before .before .before .before .before .before .before .before .before .before .before .before .before .args .log)))) (edited catalogue (c .before .before .before .before .before .before .before .before .before .before .before .before .before .before .before .before .before .before .before .before .args .f) (sizesOf (lent (now (c .before .before .before .before .before .before .before .before .before .before .before .before .before .before .before .before .before .before .before .before .args .text)) (now (c .before .before .before .before .before .before .before .before .before .before .before .before .before .before .before .before .before .before .before .before .args .records)) (now (c .before .before .before .before .before .before .before .before .before .before .before .before .before .before .before .before .before .before .before .before .args .texts)) (c .before .before .before .before .before .before .before .before .before .before .before .before .before .before .before .before .before .before .before .before .args .line) (c .before .before .before .before .before .before .before .before .before .before .before .before .before .before .before .before .before .before .before .before .args .log))) (length (now (c .before .before .before .before .before .before .before .before .before .before .before .before .before .before .before .before .before .before .before .before .args .text))) (once (cutting (c .before .before .before .before .before .before .before .before .before .before .before .before .before .before .before .before .before .before .before .before .args .from) (c .before .before .before .before .before .before .before .before .before .before .before .before .before .before .before .before .before .before .before .before .args .to)) (c .before .before .before .before .before .before .before .before .before .before .before .before .before .before .before .before .before .before .before .before .args .from)) (stateOf catalogue (c .before .before .before .before .before .before .before .before .before .before .before .before .before .before .before .before .before .before .before .before .args .f) (lent (now (c .before .before .before .before .before .before .before .before .before .before .before .before .before .before .before .before .before .before .before .before .args .text)) (now (c .before .before .before .before .before .before .before .before .before .before .before .before .before .before .before .before .before .before .before .before .args .records)) (now (c .before .before .before .before .before .before .before .before .before .before .before .before .before .before .before .before .before .before .before .before .args .texts)) (c .before .before .before .before .before .before .before .before .before .before .before .before .before .before .before .before .before .before .before .before .args .line) (c .before .before .before .before .before .before .before .before .before .before .before .before .before .before .before .before .before .before .before .before .args .log)))) _ _ _ _ (once-cut catalogue (c .before .before .before .before .before .before .before .before .before .before .before .before .before .before .before .before .before .before .before .before .args .f) (sizesOf (lent (now (c .before .before .before .before .before .before .before .before .before .before .before .before .before .before .before .before .before .before .before .before .args .text)) (now (c .before .before .before .before .before .before .before .before .before .before .before .before .before .before .before .before .before .before .before .before .args .records)) (now (c .before .before .before .before .before .before .before .before .before .before .before .before .before .before .before .before .before .before .before .before .args .texts)) (c .before .before .before .before .before .before .before .before .before .before .before .before .before .before .before .before .before .before .before .before .args .line) (c .before .before .before .before .before .before .before .before .before .before .before .before .before .before .before .before .before .before .before .before .args .log))) (length (now (c .before .before .before .before .before .before .before .before .before .before .before .before .before .before .before .before .before .before .before .before .args .text))) (c .before .before .before .before .before .before .before .before .before .before .before .before .before .before .before .before .before .before .before .before .args .from) (stateOf catalogue (c .before .before .before .before .before .before .before .before .before .before .before .before .before .before .before .before .before .before .before .before .args .f) (lent (now (c .before .before .before .before .before .before .before .before .before .before .before .before .before .before .before .before .before .before .before .before .args .text)) (now (c .before .before .before .before .before .before .before .before .before .before .before .before .before .before .before .before .before .before .before .before .args .records)) (now (c .before .before .before .before .before .before .before .before .before .before .before .before .before .before .before .before .before .before .before .before .args .texts)) (c .before .before .before .before .before .before .before .before .before .before .before .before .before .before .before .before .before .before .before .before .args .line) (c .before .before .before .before .before .before .before .before .before .before .before .before .before .before .before .before .before .before .before .before .args .log))) (c .before .before .before .before .before .before .before .before .before .before .before .before .before .before .before .before .before .before .before .before .args .from) (c .before .before .before .before .before .before .before .before .before .before .before .before .before .before .before .before .before .before .before .before .args .to) (c .before .before .before .before .before .before .before .before .before .before .before .before .before .before .is-single .result) (c .before .before .before .before .before .before .before .before .before .before .before .before .before .before .before .before .before .before .before .before .pre .1 .1) (c .before .before .before .before .before .before .before .before .before .before .before .before .before .before .is-single .ensures ∙ ap (λ (s : List ℕ). isSingle catalogue (clustersOf catalogue s)) (sym (raw-part (now (c .before .before .before .before .before .before .before .before .before .before .before .before .before .before .before .before .before .before .before .before .args .text)) (c .before .before .before .before .before .before .before .before .before .before .before .before .before .before .before .before .before .before .before .before .args .line .len) (c .before .before .before .before .before .before .before .before .before .before .before .before .before .before .before .before .before .before .before .before .args .from) (c .before .before .before .before .before .before .before .before .before .before .before .before .before .before .before .before .before .before .before .before .args .to) (let w : (c .before .before .before .before .before .before .before .before .before .before .before .before .before .before .before .before .before .before .before .before .args .to) ≤ c .before .before .before .before .before .before .before .before .before .before .before .before .before .before .before .before .before .before .before .before .args .line .len = omega (arith, (c .before .before .before .before .before .before .before .before .before .before .before .before .before .before .before .before .before .before .before .before .pre .1 .1) .1, length-take-le (c .before .before .before .before .before .before .before .before .before .before .before .before .before .before .before .before .before .before .before .before .args .line .len) (now (c .before .before .before .before .before .before .before .before .before .before .before .before .before .before .before .before .before .before .before .before .args .text)) ((c .before .before .before .before .before .before .before .before .before .before .before .before .before .before .before .before .before .before .before .before .pre .1 .0) .used)) in w))))) (c .before .before .before .before .before .before .change .ensures)
+returns c =
+    let after-change = c .before .before .before .before .before .before in
+    let after-is-single = after-change .before .before .before .before .before .before .before .before in
+    let entry = after-is-single .before .before .before .before .before .before in
+    let l = lent (now entry.args.text) (now entry.args.records) (now entry.args.texts) entry.args.line entry.args.log in
+    let stateOf1 = stateOf catalogue entry.args.f l in
+    let sizesOf1 = sizesOf l in
+    outcome-as entry.args.f l
+    (changeOut entry.args.f sizesOf1 (length (now entry.args.text)) after-is-single.is-single.result
+    (delete entry.args.from (part (take entry.args.line.len (now entry.args.text)) entry.args.from entry.args.to)) entry.args.from stateOf1)
+    (edited catalogue entry.args.f sizesOf1 (length (now entry.args.text)) (once (cutting entry.args.from entry.args.to) entry.args.from)
+    stateOf1) _ _ _ _
+    (once-cut catalogue entry.args.f sizesOf1 (length (now entry.args.text)) entry.args.from stateOf1 entry.args.from entry.args.to
+    after-is-single.is-single.result entry.pre.1.1
+    (after-is-single.is-single.ensures
+    ∙ ap (λ (s : List ℕ). isSingle catalogue (clustersOf catalogue s))
+    (sym
+    (raw-part (now entry.args.text) entry.args.line.len entry.args.from entry.args.to
+    (let w : entry.args.to ≤ entry.args.line.len = omega
+    (arith, entry.pre.1.1.1, length-take-le entry.args.line.len (now entry.args.text) entry.pre.1.0.used) in
+    w))))) after-change.change.ensures
 
 pub cut-out-spec : {M : Type 1} → statement M
 cut-out-spec =

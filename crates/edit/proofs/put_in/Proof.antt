@@ -14,7 +14,33 @@ use Rattle.edit.proofs.put_in.Statement.{statement}
 use Rattle.edit.proofs.put_in.Tie as tie
 
 change-requires : tie.Need-change-requires
-change-requires c κs = let z : c .before .before .before .before .before .before .before .args .at - c .before .before .before .before .before .before .before .args .at ≡ 0 = omega arith in ((c .before .before .before .before .before .before .before .pre) .0, ((c .before .before .before .before .before .before .before .pre) .1 .0, ((omega arith, omega (arith, (c .before .before .before .before .before .before .before .pre) .1 .1 .0 .1, length-take-le (c .before .before .before .before .before .before .before .args .line .len) (now (c .before .before .before .before .before .before .before .args .text)) ((c .before .before .before .before .before .before .before .pre) .1 .0 .used))), ((λ e. never _ _ e refl), (record { kind = refl; place = refl; old = sym (ap (λ (i : ℕ). take i (drop (c .before .before .before .before .before .before .before .args .at) (take (c .before .before .before .before .before .before .before .args .line .len) (now (c .before .before .before .before .before .before .before .args .text))))) z); new = refl }, (c .before .before .before .before .before .before .before .pre) .1 .1 .1)))))
+change-requires c κs =
+    let entry = c .before .before .before .before .before .before .before in
+    let z : entry.args.at - entry.args.at ≡ 0 = omega arith in (
+      entry.pre.0,
+      (
+        entry.pre.1.0,
+        (
+          (
+            omega arith,
+            omega (arith, entry.pre.1.1.0.1, length-take-le entry.args.line.len (now entry.args.text) entry.pre.1.0.used),
+          ),
+          (
+            (λ e. never _ _ e refl),
+            (
+              record {
+                kind = refl;
+                place = refl;
+                old = sym
+                    (ap (λ (i : ℕ). take i (drop entry.args.at (take entry.args.line.len (now entry.args.text)))) z);
+                new = refl;
+              },
+              entry.pre.1.1.1,
+            ),
+          ),
+        ),
+      ),
+    )
 
 same-length : tie.Need-same-length
 same-length c = search needs
@@ -26,7 +52,13 @@ same-length-3 : tie.Need-same-length-3
 same-length-3 c = search needs
 
 returns : tie.Need-returns
-returns c = outcome-as (c .before .before .before .before .before .before .before .before .before .before .before .before .before .before .args .f) (lent (now (c .before .before .before .before .before .before .before .before .before .before .before .before .before .before .args .text)) (now (c .before .before .before .before .before .before .before .before .before .before .before .before .before .before .args .records)) (now (c .before .before .before .before .before .before .before .before .before .before .before .before .before .before .args .texts)) (c .before .before .before .before .before .before .before .before .before .before .before .before .before .before .args .line) (c .before .before .before .before .before .before .before .before .before .before .before .before .before .before .args .log)) _ _ _ _ _ _ (once-paste catalogue (c .before .before .before .before .before .before .before .before .before .before .before .before .before .before .args .f) (sizesOf (lent (now (c .before .before .before .before .before .before .before .before .before .before .before .before .before .before .args .text)) (now (c .before .before .before .before .before .before .before .before .before .before .before .before .before .before .args .records)) (now (c .before .before .before .before .before .before .before .before .before .before .before .before .before .before .args .texts)) (c .before .before .before .before .before .before .before .before .before .before .before .before .before .before .args .line) (c .before .before .before .before .before .before .before .before .before .before .before .before .before .before .args .log))) (length (now (c .before .before .before .before .before .before .before .before .before .before .before .before .before .before .args .text))) (c .before .before .before .before .before .before .before .before .before .before .before .before .before .before .args .cursor) (stateOf catalogue (c .before .before .before .before .before .before .before .before .before .before .before .before .before .before .args .f) (lent (now (c .before .before .before .before .before .before .before .before .before .before .before .before .before .before .args .text)) (now (c .before .before .before .before .before .before .before .before .before .before .before .before .before .before .args .records)) (now (c .before .before .before .before .before .before .before .before .before .before .before .before .before .before .args .texts)) (c .before .before .before .before .before .before .before .before .before .before .before .before .before .before .args .line) (c .before .before .before .before .before .before .before .before .before .before .before .before .before .before .args .log))) (c .before .before .before .before .before .before .before .before .before .before .before .before .before .before .args .at) (now (c .before .before .before .before .before .before .before .before .before .before .before .before .before .before .args .new))) (c .before .before .before .before .before .before .change .ensures)
+returns c =
+    let after-change = c .before .before .before .before .before .before in
+    let entry = after-change .before .before .before .before .before .before .before .before in
+    let l = lent (now entry.args.text) (now entry.args.records) (now entry.args.texts) entry.args.line entry.args.log in
+    outcome-as entry.args.f l _ _ _ _ _ _
+    (once-paste catalogue entry.args.f (sizesOf l) (length (now entry.args.text)) entry.args.cursor (stateOf catalogue entry.args.f l)
+    entry.args.at (now entry.args.new)) after-change.change.ensures
 
 pub put-in-spec : {M : Type 1} → statement M
 put-in-spec = tie.close (tie.spec

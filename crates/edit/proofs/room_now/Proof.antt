@@ -12,19 +12,28 @@ use Rattle.edit.proofs.room_now.Statement.{statement}
 use Rattle.edit.proofs.room_now.Tie as tie
 
 slice-aggregate-last-for : tie.Need-slice-aggregate-last-for
-slice-aggregate-last-for c = let entry = c .before .before .before .before in sym (length-take-le _ _ (omega (arith, entry.pre.1.hold.room)))
+slice-aggregate-last-for c =
+    let entry = c .before .before .before .before in
+    sym (length-take-le _ _ (omega (arith, entry.pre.1.hold.room)))
 
 last-for-requires : tie.Need-last-for-requires
-last-for-requires c κs = let entry = c .before .before .before .before in (entry.pre.0, listed entry.args.f (lent (now entry.args.records) (now entry.args.texts) entry.args.log) entry.pre.1)
+last-for-requires c κs =
+    let entry = c .before .before .before .before in
+    (entry.pre.0, listed entry.args.f (lent (now entry.args.records) (now entry.args.texts) entry.args.log) entry.pre.1)
 
 slice-aggregate-tail-at : tie.Need-slice-aggregate-tail-at
-slice-aggregate-tail-at c = let entry = c .before .before .before .before .before .before in sym (length-take-le _ _ (omega (arith, entry.pre.1.hold.room)))
+slice-aggregate-tail-at c =
+    let entry = c .before .before .before .before .before .before in
+    sym (length-take-le _ _ (omega (arith, entry.pre.1.hold.room)))
 
 tail-at-requires : tie.Need-tail-at-requires
 tail-at-requires c κs = let entry = c .before .before .before .before .before .before in (entry.pre.0, c.before.last-for.ensures refl)
 
 returns : tie.Need-returns
-returns c = ap (λ (t : Tail). record { fits = true; tail = t }) (tail-now (c .before .before .before .before .before .before .before .args .f) (lent (now (c .before .before .before .before .before .before .before .args .records)) (now (c .before .before .before .before .before .before .before .args .texts)) (c .before .before .before .before .before .before .before .args .log)) (c .before .before .before .before .before .before .before .pre .1) _ (c .tail-at .ensures))
+returns c =
+    let entry = c .before .before .before .before .before .before .before in
+    ap (λ (t : Tail). record { fits = true; tail = t })
+    (tail-now entry.args.f (lent (now entry.args.records) (now entry.args.texts) entry.args.log) entry.pre.1 _ c.tail-at.ensures)
 
 pub room-now-spec : {M : Type 1} → statement M
 room-now-spec = tie.close (tie.spec

@@ -10,7 +10,9 @@ note-requires : tie.Need-note-requires
 note-requires c κs = search needs
 
 returns-2 : tie.Need-returns-2
-returns-2 c = put-some (c .before .before .before .args .f) (c .before .before .before .args .at) (c .before .before .before .args .size) (c .before .before .before .args .t) _ (c .before .before .if1 .left) (c .before .note .ensures)
+returns-2 c =
+    let entry = c .before .before .before in
+    put-some entry.args.f entry.args.at entry.args.size entry.args.t _ c.before.before.if1.left c.before.note.ensures
 
 pub tail-put-spec : {M : Type 1} → statement M
 tail-put-spec = tie.close (tie.spec returns note-requires returns-2)

@@ -94,9 +94,12 @@ type-char-requires c κs =
     let after-encode-at = c .before .before .before .before .before .before .before in
     let else1 = c .before .before .before .before .before .before .before .before .before in
     let after-check = c .before .before .before .before .before .before .before .before .before .before .before in
-    let after-format-for = c .before .before .before .before .before .before .before .before .before .before .before .before .before .before .before in
-    let after-check-char = c .before .before .before .before .before .before .before .before .before .before .before .before .before .before .before .before in
-    let entry = c .before .before .before .before .before .before .before .before .before .before .before .before .before .before .before .before .before .before .before .before in
+    let after-format-for = c .before .before .before .before .before .before .before .before .before .before .before .before .before
+    .before .before in
+    let after-check-char = c .before .before .before .before .before .before .before .before .before .before .before .before .before
+    .before .before .before in
+    let entry = c .before .before .before .before .before .before .before .before .before .before .before .before .before .before
+    .before .before .before .before .before .before in
     let insert-char1 = insert-char after-format-for.format-for.result
     (lent (now entry.args.text) (now entry.args.records) (now entry.args.texts) entry.args.line entry.args.log) entry.args.ch entry.args.n
     after-check.check.result.number after-check-char.check-char.result after-check.check.ensures.0 after-check-char.check-char.ensures
@@ -125,11 +128,16 @@ returns-2 : tie.Need-returns-2
 returns-2 c =
     let after-type-char = c .before .before .before .before .before .before in
     let then2 = c .before .before .before .before .before .before .before .before .before .before .before in
-    let else1 = c .before .before .before .before .before .before .before .before .before .before .before .before .before .before .before .before in
-    let after-check = c .before .before .before .before .before .before .before .before .before .before .before .before .before .before .before .before .before .before in
-    let after-format-for = c .before .before .before .before .before .before .before .before .before .before .before .before .before .before .before .before .before .before .before .before .before .before in
-    let after-check-char = c .before .before .before .before .before .before .before .before .before .before .before .before .before .before .before .before .before .before .before .before .before .before .before in
-    let entry = c .before .before .before .before .before .before .before .before .before .before .before .before .before .before .before .before .before .before .before .before .before .before .before .before .before .before .before in
+    let else1 = c .before .before .before .before .before .before .before .before .before .before .before .before .before .before
+    .before .before in
+    let after-check = c .before .before .before .before .before .before .before .before .before .before .before .before .before
+    .before .before .before .before .before in
+    let after-format-for = c .before .before .before .before .before .before .before .before .before .before .before .before .before
+    .before .before .before .before .before .before .before .before .before in
+    let after-check-char = c .before .before .before .before .before .before .before .before .before .before .before .before .before
+    .before .before .before .before .before .before .before .before .before .before in
+    let entry = c .before .before .before .before .before .before .before .before .before .before .before .before .before .before
+    .before .before .before .before .before .before .before .before .before .before .before .before .before in
     let l = lent (now entry.args.text) (now entry.args.records) (now entry.args.texts) entry.args.line entry.args.log in
     in-format l (λ (F : Format). insertCall catalogue F l entry.args.ch entry.args.n) after-format-for.format-for.ensures
     (insert-one after-format-for.format-for.result l entry.args.ch entry.args.n after-check.check.result.number
@@ -141,9 +149,12 @@ put-copies-requires c κs =
     let after-encode-at = c .before .before .before .before .before .before in
     let else1 = c .before .before .before .before .before .before .before .before in
     let after-check = c .before .before .before .before .before .before .before .before .before .before in
-    let after-format-for = c .before .before .before .before .before .before .before .before .before .before .before .before .before .before in
-    let after-check-char = c .before .before .before .before .before .before .before .before .before .before .before .before .before .before .before in
-    let entry = c .before .before .before .before .before .before .before .before .before .before .before .before .before .before .before .before .before .before .before in
+    let after-format-for = c .before .before .before .before .before .before .before .before .before .before .before .before .before
+    .before in
+    let after-check-char = c .before .before .before .before .before .before .before .before .before .before .before .before .before
+    .before .before in
+    let entry = c .before .before .before .before .before .before .before .before .before .before .before .before .before .before
+    .before .before .before .before .before in
     let insert-char1 = insert-char after-format-for.format-for.result
     (lent (now entry.args.text) (now entry.args.records) (now entry.args.texts) entry.args.line entry.args.log) entry.args.ch entry.args.n
     after-check.check.result.number after-check-char.check-char.result after-check.check.ensures.0 after-check-char.check-char.ensures
@@ -172,15 +183,19 @@ returns-3 c =
     let else2 = c .before .before .before .before .before .before .before .before .before .before in
     let after-encode-at = c .before .before .before .before .before .before .before .before .before .before .before .before .before in
     let else1 = c .before .before .before .before .before .before .before .before .before .before .before .before .before .before .before in
-    let after-check = c .before .before .before .before .before .before .before .before .before .before .before .before .before .before .before .before .before in
-    let after-format-for = c .before .before .before .before .before .before .before .before .before .before .before .before .before .before .before .before .before .before .before .before .before in
-    let after-check-char = c .before .before .before .before .before .before .before .before .before .before .before .before .before .before .before .before .before .before .before .before .before .before in
-    let entry = c .before .before .before .before .before .before .before .before .before .before .before .before .before .before .before .before .before .before .before .before .before .before .before .before .before .before in
+    let after-check = c .before .before .before .before .before .before .before .before .before .before .before .before .before
+    .before .before .before .before in
+    let after-format-for = c .before .before .before .before .before .before .before .before .before .before .before .before .before
+    .before .before .before .before .before .before .before .before in
+    let after-check-char = c .before .before .before .before .before .before .before .before .before .before .before .before .before
+    .before .before .before .before .before .before .before .before .before in
+    let entry = c .before .before .before .before .before .before .before .before .before .before .before .before .before .before
+    .before .before .before .before .before .before .before .before .before .before .before .before in
     let l = lent (now entry.args.text) (now entry.args.records) (now entry.args.texts) entry.args.line entry.args.log in
     in-format l (λ (F : Format). insertCall catalogue F l entry.args.ch entry.args.n) after-format-for.format-for.ensures
     (insert-many after-format-for.format-for.result l entry.args.ch entry.args.n after-check.check.result.number
-    after-check-char.check-char.result after-check.check.ensures.0 after-check-char.check-char.ensures else1.if1.left _ _ _ _
-    else2.if2.left (take after-encode-at.encode-at.result after-encode-at.encode-at.last.0)
+    after-check-char.check-char.result after-check.check.ensures.0 after-check-char.check-char.ensures else1.if1.left _ _ _ _ else2.if2.left
+    (take after-encode-at.encode-at.result after-encode-at.encode-at.last.0)
     (typed-bytes entry.args.ch
     (insert-char after-format-for.format-for.result l entry.args.ch entry.args.n after-check.check.result.number
     after-check-char.check-char.result after-check.check.ensures.0 after-check-char.check-char.ensures else1.if1.left) _

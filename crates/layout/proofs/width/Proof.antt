@@ -38,25 +38,57 @@ sub-result : tie.Need-sub-result Inv-loop μ-loop
 sub-result c = search needs
 
 returns : tie.Need-returns Inv-loop μ-loop
-returns c = measure-end catalogue mostColumns reach (c .before .before .before .before .before .before .args .s .now) (c .before .before .before .before .before .before .args .col) _ _ (c .before .before .before .before .loop .inv) (sym (c .before .before .decode-at .ensures) ∙ ap asFirst (c .enum-told .given .1))
+returns c =
+    let at-loop = c .before .before .before .before in
+    let entry = at-loop.before.before in
+    measure-end catalogue mostColumns reach entry.args.s.now entry.args.col _ _ at-loop.loop.inv
+    (sym c.before.before.decode-at.ensures ∙ ap asFirst c.enum-told.given.1)
 
 advance-requires : tie.Need-advance-requires Inv-loop μ-loop
-advance-requires c κs = omega (arith, c .before .before .before .before .before .loop .inv .high, c .before .before .before .before .before .loop .inv .within, c .before .before .before .before .before .before .before .pre)
+advance-requires c κs =
+    let at-loop = c .before .before .before .before .before in
+    let entry = at-loop.before.before in
+    omega (arith, at-loop.loop.inv.high, at-loop.loop.inv.within, entry.pre)
 
 add-at : tie.Need-add-at Inv-loop μ-loop
-add-at c = omega (arith, within-at (c .before .before .before .before .before .before .before .before .args .s .now) _ _ _ (c .before .before .before .before .before .before .loop .inv .within) (sym (c .before .before .before .before .decode-at .ensures) ∙ ap asFirst (c .before .before .d .given .1)))
+add-at c =
+    let after-decode-at = c .before .before .before .before in
+    let at-loop = after-decode-at.before.before in
+    let entry = at-loop.before.before in
+    omega (
+      arith,
+      within-at entry.args.s.now _ _ _ at-loop.loop.inv.within
+          (sym after-decode-at.decode-at.ensures ∙ ap asFirst c.before.before.d.given.1),
+    )
 
 loop-less : tie.Need-loop-less Inv-loop μ-loop
-loop-less c = omega (arith, c .before .before .before .before .before .before .loop .inv .within, within-at (c .before .before .before .before .before .before .before .before .args .s .now) _ _ _ (c .before .before .before .before .before .before .loop .inv .within) (sym (c .before .before .before .before .decode-at .ensures) ∙ ap asFirst (c .before .before .d .given .1)))
+loop-less c =
+    let after-decode-at = c .before .before .before .before in
+    let at-loop = after-decode-at.before.before in
+    let entry = at-loop.before.before in
+    omega (
+      arith,
+      at-loop.loop.inv.within,
+      within-at entry.args.s.now _ _ _ at-loop.loop.inv.within
+          (sym after-decode-at.decode-at.ensures ∙ ap asFirst c.before.before.d.given.1),
+    )
 
 loop-again : tie.Need-loop-again Inv-loop μ-loop
-loop-again c = measure-on catalogue mostColumns reach (c .before .before .before .before .before .before .before .before .args .s .now) (c .before .before .before .before .before .before .before .before .args .col) _ _ (c .before .before .before .before .before .before .loop .inv) _ _ _ (sym (c .before .before .before .before .decode-at .ensures) ∙ ap asFirst (c .before .before .d .given .1)) (c .advance .ensures)
+loop-again c =
+    let after-decode-at = c .before .before .before .before in
+    let at-loop = after-decode-at.before.before in
+    let entry = at-loop.before.before in
+    measure-on catalogue mostColumns reach entry.args.s.now entry.args.col _ _ at-loop.loop.inv _ _ _
+    (sym after-decode-at.decode-at.ensures ∙ ap asFirst c.before.before.d.given.1) c.advance.ensures
 
 sub-result-2 : tie.Need-sub-result-2 Inv-loop μ-loop
 sub-result-2 c = search needs
 
 returns-2 : tie.Need-returns-2 Inv-loop μ-loop
-returns-2 c = measure-end catalogue mostColumns reach (c .before .before .before .args .s .now) (c .before .before .before .args .col) _ _ (c .before .loop .inv) (first-end (c .before .before .before .args .s .now) (c .before .loop .at) (c .loop-test .left))
+returns-2 c =
+    let entry = c .before .before .before in
+    measure-end catalogue mostColumns reach entry.args.s.now entry.args.col _ _ c.before.loop.inv
+    (first-end entry.args.s.now c.before.loop.at c.loop-test.left)
 
 pub width-spec : {M : Type 1} → statement M
 width-spec =

@@ -36,7 +36,12 @@ add-result : tie.Need-add-result Inv-loop μ-loop
 add-result c = search needs
 
 returns : tie.Need-returns Inv-loop μ-loop
-returns c = let s = c .before .before .before .before .before .before .args in (num-two (s .width) (s .at) (now (s .s)) _ _ (c .before .before .before .before .if1 .taken) (c .before .before .wide .ensures .0) (c .wide2 .ensures .0), omega (arith, c .before .before .wide .ensures .1, c .wide2 .ensures .1))
+returns c =
+    let then1 = c .before .before .before .before in
+    let s = c .before .before .before .before .before .before .args in (
+      num-two s.width s.at (now s.s) _ _ then1.if1.taken c.before.before.wide.ensures.0 c.wide2.ensures.0,
+      omega (arith, c.before.before.wide.ensures.1, c.wide2.ensures.1),
+    )
 
 loop-holds : tie.Need-loop-holds Inv-loop μ-loop
 loop-holds c = let s = c .before .before .args in (omega arith, num-none (s .width) (s .at) (now (s .s)), top-none (s .width))
@@ -45,31 +50,49 @@ sub-left : tie.Need-sub-left Inv-loop μ-loop
 sub-left c = search needs
 
 add-wide-2 : tie.Need-add-wide-2 Inv-loop μ-loop
-add-wide-2 c = omega (arith, c .before .loop .inv .0, c .before .before .before .before .pre .1)
+add-wide-2 c =
+    let entry = c .before .before .before .before in
+    omega (arith, c.before.loop.inv.0, entry.pre.1)
 
 shared-slice-read-wide-3 : tie.Need-shared-slice-read-wide-3 Inv-loop μ-loop
-shared-slice-read-wide-3 c = omega (arith, c .before .before .loop .inv .0, c .before .before .before .before .before .pre .1)
+shared-slice-read-wide-3 c =
+    let entry = c .before .before .before .before .before in
+    omega (arith, c.before.before.loop.inv.0, entry.pre.1)
 
 wide-requires-3 : tie.Need-wide-requires-3 Inv-loop μ-loop
 wide-requires-3 c κs = search needs
 
 mul-value : tie.Need-mul-value Inv-loop μ-loop
-mul-value c = omega (arith, c .before .before .before .loop .inv .2, top-max (c .before .before .before .before .before .before .args .width - c .before .before .before .loop .left) (omega (arith, c .before .before .before .before .before .before .pre .0)))
+mul-value c =
+    let at-loop = c .before .before .before in
+    let entry = at-loop .before .before .before in
+    omega (arith, at-loop.loop.inv.2, top-max (entry.args.width - at-loop.loop.left) (omega (arith, entry.pre.0)))
 
 add-value : tie.Need-add-value Inv-loop μ-loop
-add-value c = omega (arith, c .before .before .before .loop .inv .2, c .wide3 .ensures .1, top-max (c .before .before .before .before .before .before .args .width - c .before .before .before .loop .left) (omega (arith, c .before .before .before .before .before .before .pre .0)))
+add-value c =
+    let at-loop = c .before .before .before in
+    let entry = at-loop .before .before .before in
+    omega (arith, at-loop.loop.inv.2, c.wide3.ensures.1, top-max (entry.args.width - at-loop.loop.left) (omega (arith, entry.pre.0)))
 
 loop-less : tie.Need-loop-less Inv-loop μ-loop
 loop-less c = omega arith
 
 loop-again : tie.Need-loop-again Inv-loop μ-loop
-loop-again c = let s = c .before .before .before .before .before .before .args in let l = c .before .before .before .loop in
-    (omega (arith, l .inv .0), num-down (s .width) (l .left) (s .at) (now (s .s)) _ (l .value) (c .before .before .loop-test .taken) (l .inv .0) (c .wide3 .ensures .0) (l .inv .1), top-down (s .width) (l .left) _ (l .value) (c .before .before .loop-test .taken) (l .inv .0) (c .wide3 .ensures .1) (l .inv .2))
+loop-again c =
+    let s = c .before .before .before .before .before .before .args in
+    let l = c .before .before .before .loop in (
+      omega (arith, l.inv.0),
+      num-down s.width l.left s.at (now s.s) _ l.value c.before.before.loop-test.taken l.inv.0 c.wide3.ensures.0 l.inv.1,
+      top-down s.width l.left _ l.value c.before.before.loop-test.taken l.inv.0 c.wide3.ensures.1 l.inv.2,
+    )
 
 returns-2 : tie.Need-returns-2 Inv-loop μ-loop
-returns-2 c = let s = c .before .before .before .before .args in let l = c .before .loop in
-    let z : l .left ≡ 0 = omega arith in
-    (num-whole (s .width) (l .left) (s .at) (now (s .s)) _ z (l .inv .1), omega (arith, l .inv .2, top-max (s .width - l .left) (omega (arith, c .before .before .before .before .pre .0))))
+returns-2 c =
+    let entry = c .before .before .before .before in
+    let s = entry.args in
+    let l = c.before.loop in
+    let z : l.left ≡ 0 = omega arith in
+    (num-whole s.width l.left s.at (now s.s) _ z l.inv.1, omega (arith, l.inv.2, top-max (s.width - l.left) (omega (arith, entry.pre.0))))
 
 pub read-num-spec : {M : Type 1} → statement M
 read-num-spec =

@@ -21,16 +21,22 @@ sub-left : tie.Need-sub-left Inv-loop μ-loop
 sub-left c = search needs
 
 mul-above : tie.Need-mul-above Inv-loop μ-loop
-mul-above c = let l = c .before .loop in omega (arith, l .inv .1, top-max (c .before .before .args .width - l .left) (omega (arith, c .before .before .pre)))
+mul-above c =
+    let l = c.before.loop in
+    omega (arith, l.inv.1, top-max (c.before.before.args.width - l.left) (omega (arith, c.before.before.pre)))
 
 loop-less : tie.Need-loop-less Inv-loop μ-loop
 loop-less c = omega arith
 
 loop-again : tie.Need-loop-again Inv-loop μ-loop
-loop-again c = let l = c .before .loop in (omega (arith, l .inv .0), top-more (c .before .before .args .width) (l .left) (l .above) (c .loop-test .taken) (l .inv .0) (l .inv .1))
+loop-again c =
+    let l = c.before.loop in
+    (omega (arith, l.inv.0), top-more c.before.before.args.width l.left l.above c.loop-test.taken l.inv.0 l.inv.1)
 
 returns : tie.Need-returns Inv-loop μ-loop
-returns c = let l = c .before .loop in top-whole (c .before .before .args .width) (l .left) (l .above) (omega (arith, c .loop-test .left)) (l .inv .1)
+returns c =
+    let l = c.before.loop in
+    top-whole c.before.before.args.width l.left l.above (omega (arith, c.loop-test.left)) l.inv.1
 
 pub top-of-spec : {M : Type 1} → statement M
 top-of-spec =

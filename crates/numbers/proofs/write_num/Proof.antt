@@ -10,7 +10,8 @@ use Rattle.numbers.proofs.write_num.Statement.{statement}
 use Rattle.numbers.proofs.write_num.Tie as tie
 
 abbrev Inv-loop : tie.InvT-loop
-Inv-loop s₀ at v width rest₀ i₀ s rest i = (i ≤ width) × (length s ≡ length s₀) × (sets s (at + i) (le (width - i) rest) ≡ sets s₀ at (le width v))
+Inv-loop s₀ at v width rest₀ i₀ s rest i =
+    (i ≤ width) × (length s ≡ length s₀) × (sets s (at + i) (le (width - i) rest) ≡ sets s₀ at (le width v))
 
 abbrev μ-loop : tie.MeasureT-loop
 μ-loop s₀ at v width rest₀ i₀ s rest i = width - i

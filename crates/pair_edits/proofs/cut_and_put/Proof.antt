@@ -14,10 +14,22 @@ use Rattle.pair_edits.proofs.cut_and_put.Statement.{statement}
 use Rattle.pair_edits.proofs.cut_and_put.Tie as tie
 
 sub-left : tie.Need-sub-left
-sub-left c = (cut-suits (c .before .before .before .before .args .f) (lent (now (c .before .before .before .before .args .text)) (now (c .before .before .before .before .args .records)) (now (c .before .before .before .before .args .texts)) (c .before .before .before .before .args .line) (c .before .before .before .before .args .log)) ((c .before .before .before .before .pre) .1 .0) ((c .before .before .before .before .args .from)) ((c .before .before .before .before .args .to)) (c .before .before .before .before .args .at) (now (c .before .before .before .before .args .new)) ((c .before .before .before .before .pre) .1 .1)) .0
+sub-left c =
+    let entry = c .before .before .before .before in
+    (cut-suits entry.args.f (lent (now entry.args.text) (now entry.args.records) (now entry.args.texts) entry.args.line entry.args.log)
+    entry.pre.1.0 entry.args.from entry.args.to entry.args.at (now entry.args.new) entry.pre.1.1) .0
 
 sub-left-2 : tie.Need-sub-left-2
-sub-left-2 c = omega (arith, ((let w : ((c .before .before .before .before .before .args .to)) ≤ c .before .before .before .before .before .args .line .len = omega (arith, (cut-suits (c .before .before .before .before .before .args .f) (lent (now (c .before .before .before .before .before .args .text)) (now (c .before .before .before .before .before .args .records)) (now (c .before .before .before .before .before .args .texts)) (c .before .before .before .before .before .args .line) (c .before .before .before .before .before .args .log)) ((c .before .before .before .before .before .pre) .1 .0) ((c .before .before .before .before .before .args .from)) ((c .before .before .before .before .before .args .to)) (c .before .before .before .before .before .args .at) (now (c .before .before .before .before .before .args .new)) ((c .before .before .before .before .before .pre) .1 .1)) .1, length-kept (c .before .before .before .before .before .args .f) (lent (now (c .before .before .before .before .before .args .text)) (now (c .before .before .before .before .before .args .records)) (now (c .before .before .before .before .before .args .texts)) (c .before .before .before .before .before .args .line) (c .before .before .before .before .before .args .log)) ((c .before .before .before .before .before .pre) .1 .0)) in w)), (cut-suits (c .before .before .before .before .before .args .f) (lent (now (c .before .before .before .before .before .args .text)) (now (c .before .before .before .before .before .args .records)) (now (c .before .before .before .before .before .args .texts)) (c .before .before .before .before .before .args .line) (c .before .before .before .before .before .args .log)) ((c .before .before .before .before .before .pre) .1 .0) ((c .before .before .before .before .before .args .from)) ((c .before .before .before .before .before .args .to)) (c .before .before .before .before .before .args .at) (now (c .before .before .before .before .before .args .new)) ((c .before .before .before .before .before .pre) .1 .1)) .0)
+sub-left-2 c =
+    let entry = c .before .before .before .before .before in
+    let l = lent (now entry.args.text) (now entry.args.records) (now entry.args.texts) entry.args.line entry.args.log in
+    let cut-suits1 = cut-suits entry.args.f l entry.pre.1.0 entry.args.from entry.args.to entry.args.at (now entry.args.new)
+    entry.pre.1.1 in
+    omega (
+      arith,
+      (let w : entry.args.to ≤ entry.args.line.len = omega (arith, cut-suits1.1, length-kept entry.args.f l entry.pre.1.0) in w),
+      cut-suits1.0,
+    )
 
 sub-if1 : tie.Need-sub-if1
 sub-if1 c = search needs
@@ -26,10 +38,25 @@ says-requires : tie.Need-says-requires
 says-requires c κs = search needs
 
 returns : tie.Need-returns
-returns c = nine (c .before .before .before .before .before .before .before .args .f) (lent (now (c .before .before .before .before .before .before .before .args .text)) (now (c .before .before .before .before .before .before .before .args .records)) (now (c .before .before .before .before .before .before .before .args .texts)) (c .before .before .before .before .before .before .before .args .line) (c .before .before .before .before .before .before .before .args .log)) (record { pieces = cutting ((c .before .before .before .before .before .before .before .args .from)) ((c .before .before .before .before .before .before .before .args .to)) ∷ pasted (c .before .before .before .before .before .before .before .args .at) (now (c .before .before .before .before .before .before .before .args .new)) ∷ []; cursor = c .before .before .before .before .before .before .before .args .cursor; number = c .before .before .before .before .before .before .before .args .number; from = 0; to = 0 }) _ (pair-long (c .before .before .before .before .before .before .before .args .f) (lent (now (c .before .before .before .before .before .before .before .args .text)) (now (c .before .before .before .before .before .before .before .args .records)) (now (c .before .before .before .before .before .before .before .args .texts)) (c .before .before .before .before .before .before .before .args .line) (c .before .before .before .before .before .before .before .args .log)) ((c .before .before .before .before .before .before .before .pre) .1 .0) ((c .before .before .before .before .before .before .before .args .from)) ((c .before .before .before .before .before .before .before .args .to)) (c .before .before .before .before .before .before .before .args .at) (now (c .before .before .before .before .before .before .before .args .new)) ((c .before .before .before .before .before .before .before .pre) .1 .1) (c .before .if1 .taken)) (c .says .ensures)
+returns c =
+    let entry = c .before .before .before .before .before .before .before in
+    let l = lent (now entry.args.text) (now entry.args.records) (now entry.args.texts) entry.args.line entry.args.log in
+    nine entry.args.f l
+    (record {
+      pieces = cutting entry.args.from entry.args.to ∷ pasted entry.args.at (now entry.args.new) ∷ [];
+      cursor = entry.args.cursor;
+      number = entry.args.number;
+      from = 0;
+      to = 0;
+    }) _
+    (pair-long entry.args.f l entry.pre.1.0 entry.args.from entry.args.to entry.args.at (now entry.args.new) entry.pre.1.1
+    c.before.if1.taken) c.says.ensures
 
 pair-fits-requires : tie.Need-pair-fits-requires
-pair-fits-requires c κs = ((c .before .before .before .before .before .before .before .before .before .pre) .0, (((c .before .before .before .before .before .before .before .before .before .pre) .1 .0), ((c .before .before .before .before .before .before .before .before .before .pre) .1 .1, omega (arith, c .before .before .before .if1 .left, ((c .before .before .before .before .before .before .before .before .before .pre) .1 .0) .small))))
+pair-fits-requires c κs =
+    let else1 = c .before .before .before in
+    let entry = else1 .before .before .before .before .before .before in
+    (entry.pre.0, (entry.pre.1.0, (entry.pre.1.1, omega (arith, else1.if1.left, entry.pre.1.0.small))))
 
 says-requires-2 : tie.Need-says-requires-2
 says-requires-2 c κs = search needs
@@ -44,13 +71,55 @@ same-length-3 : tie.Need-same-length-3
 same-length-3 c = search needs
 
 returns-2 : tie.Need-returns-2
-returns-2 c = ten (c .before .before .before .before .before .before .before .before .before .before .before .before .args .f) (lent (now (c .before .before .before .before .before .before .before .before .before .before .before .before .args .text)) (now (c .before .before .before .before .before .before .before .before .before .before .before .before .args .records)) (now (c .before .before .before .before .before .before .before .before .before .before .before .before .args .texts)) (c .before .before .before .before .before .before .before .before .before .before .before .before .args .line) (c .before .before .before .before .before .before .before .before .before .before .before .before .args .log)) (record { pieces = cutting ((c .before .before .before .before .before .before .before .before .before .before .before .before .args .from)) ((c .before .before .before .before .before .before .before .before .before .before .before .before .args .to)) ∷ pasted (c .before .before .before .before .before .before .before .before .before .before .before .before .args .at) (now (c .before .before .before .before .before .before .before .before .before .before .before .before .args .new)) ∷ []; cursor = c .before .before .before .before .before .before .before .before .before .before .before .before .args .cursor; number = c .before .before .before .before .before .before .before .before .before .before .before .before .args .number; from = 0; to = 0 }) _ (pair-short (c .before .before .before .before .before .before .before .before .before .before .before .before .args .f) (lent (now (c .before .before .before .before .before .before .before .before .before .before .before .before .args .text)) (now (c .before .before .before .before .before .before .before .before .before .before .before .before .args .records)) (now (c .before .before .before .before .before .before .before .before .before .before .before .before .args .texts)) (c .before .before .before .before .before .before .before .before .before .before .before .before .args .line) (c .before .before .before .before .before .before .before .before .before .before .before .before .args .log)) ((c .before .before .before .before .before .before .before .before .before .before .before .before .pre) .1 .0) ((c .before .before .before .before .before .before .before .before .before .before .before .before .args .from)) ((c .before .before .before .before .before .before .before .before .before .before .before .before .args .to)) (c .before .before .before .before .before .before .before .before .before .before .before .before .args .at) (now (c .before .before .before .before .before .before .before .before .before .before .before .before .args .new)) ((c .before .before .before .before .before .before .before .before .before .before .before .before .pre) .1 .1) (c .before .before .before .before .before .before .if1 .left)) (sym (c .before .before .pair-fits .ensures) ∙ not-true _ (c .before .if2 .taken)) (c .says2 .ensures)
+returns-2 c =
+    let else1 = c .before .before .before .before .before .before in
+    let entry = else1 .before .before .before .before .before .before in
+    let l = lent (now entry.args.text) (now entry.args.records) (now entry.args.texts) entry.args.line entry.args.log in
+    ten entry.args.f l
+    (record {
+      pieces = cutting entry.args.from entry.args.to ∷ pasted entry.args.at (now entry.args.new) ∷ [];
+      cursor = entry.args.cursor;
+      number = entry.args.number;
+      from = 0;
+      to = 0;
+    }) _
+    (pair-short entry.args.f l entry.pre.1.0 entry.args.from entry.args.to entry.args.at (now entry.args.new) entry.pre.1.1 else1.if1.left)
+    (sym c.before.before.pair-fits.ensures ∙ not-true _ c.before.if2.taken) c.says2.ensures
 
 cut-out-requires : tie.Need-cut-out-requires
-cut-out-requires c κs = ((c .before .before .before .before .before .before .before .before .before .before .before .before .before .before .pre) .0, (((c .before .before .before .before .before .before .before .before .before .before .before .before .before .before .pre) .1 .0), (cut-suits (c .before .before .before .before .before .before .before .before .before .before .before .before .before .before .args .f) (lent (now (c .before .before .before .before .before .before .before .before .before .before .before .before .before .before .args .text)) (now (c .before .before .before .before .before .before .before .before .before .before .before .before .before .before .args .records)) (now (c .before .before .before .before .before .before .before .before .before .before .before .before .before .before .args .texts)) (c .before .before .before .before .before .before .before .before .before .before .before .before .before .before .args .line) (c .before .before .before .before .before .before .before .before .before .before .before .before .before .before .args .log)) ((c .before .before .before .before .before .before .before .before .before .before .before .before .before .before .pre) .1 .0) ((c .before .before .before .before .before .before .before .before .before .before .before .before .before .before .args .from)) ((c .before .before .before .before .before .before .before .before .before .before .before .before .before .before .args .to)) (c .before .before .before .before .before .before .before .before .before .before .before .before .before .before .args .at) (now (c .before .before .before .before .before .before .before .before .before .before .before .before .before .before .args .new)) ((c .before .before .before .before .before .before .before .before .before .before .before .before .before .before .pre) .1 .1))))
+cut-out-requires c κs =
+    let entry = c .before .before .before .before .before .before .before .before .before .before .before .before .before .before in (
+      entry.pre.0,
+      (
+        entry.pre.1.0,
+        (cut-suits entry.args.f
+            (lent (now entry.args.text) (now entry.args.records) (now entry.args.texts) entry.args.line entry.args.log) entry.pre.1.0
+            entry.args.from entry.args.to entry.args.at (now entry.args.new) entry.pre.1.1),
+      ),
+    )
 
 put-in-requires : tie.Need-put-in-requires
-put-in-requires c κs = ((c .before .before .before .before .before .before .before .before .before .before .before .before .before .before .before .before .before .before .before .before .before .before .before .before .before .before .pre) .0, (((pair-mid (c .before .before .before .before .before .before .before .before .before .before .before .before .before .before .before .before .before .before .before .before .before .before .before .before .before .before .args .f) (lent (now (c .before .before .before .before .before .before .before .before .before .before .before .before .before .before .before .before .before .before .before .before .before .before .before .before .before .before .args .text)) (now (c .before .before .before .before .before .before .before .before .before .before .before .before .before .before .before .before .before .before .before .before .before .before .before .before .before .before .args .records)) (now (c .before .before .before .before .before .before .before .before .before .before .before .before .before .before .before .before .before .before .before .before .before .before .before .before .before .before .args .texts)) (c .before .before .before .before .before .before .before .before .before .before .before .before .before .before .before .before .before .before .before .before .before .before .before .before .before .before .args .line) (c .before .before .before .before .before .before .before .before .before .before .before .before .before .before .before .before .before .before .before .before .before .before .before .before .before .before .args .log)) ((c .before .before .before .before .before .before .before .before .before .before .before .before .before .before .before .before .before .before .before .before .before .before .before .before .before .before .pre) .1 .0) ((c .before .before .before .before .before .before .before .before .before .before .before .before .before .before .before .before .before .before .before .before .before .before .before .before .before .before .args .from)) ((c .before .before .before .before .before .before .before .before .before .before .before .before .before .before .before .before .before .before .before .before .before .before .before .before .before .before .args .to)) (c .before .before .before .before .before .before .before .before .before .before .before .before .before .before .before .before .before .before .before .before .before .before .before .before .before .before .args .at) (now (c .before .before .before .before .before .before .before .before .before .before .before .before .before .before .before .before .before .before .before .before .before .before .before .before .before .before .args .new)) ((c .before .before .before .before .before .before .before .before .before .before .before .before .before .before .before .before .before .before .before .before .before .before .before .before .before .before .pre) .1 .1) (c .before .before .before .before .before .before .before .before .before .before .before .before .before .before .before .before .before .before .before .before .before .before .before .before .before .before .args .cursor) (c .before .before .before .before .before .before .before .before .before .before .before .before .before .before .before .before .before .before .before .before .before .before .before .before .before .before .args .number) ((pair-short (c .before .before .before .before .before .before .before .before .before .before .before .before .before .before .before .before .before .before .before .before .before .before .before .before .before .before .args .f) (lent (now (c .before .before .before .before .before .before .before .before .before .before .before .before .before .before .before .before .before .before .before .before .before .before .before .before .before .before .args .text)) (now (c .before .before .before .before .before .before .before .before .before .before .before .before .before .before .before .before .before .before .before .before .before .before .before .before .before .before .args .records)) (now (c .before .before .before .before .before .before .before .before .before .before .before .before .before .before .before .before .before .before .before .before .before .before .before .before .before .before .args .texts)) (c .before .before .before .before .before .before .before .before .before .before .before .before .before .before .before .before .before .before .before .before .before .before .before .before .before .before .args .line) (c .before .before .before .before .before .before .before .before .before .before .before .before .before .before .before .before .before .before .before .before .before .before .before .before .before .before .args .log)) ((c .before .before .before .before .before .before .before .before .before .before .before .before .before .before .before .before .before .before .before .before .before .before .before .before .before .before .pre) .1 .0) ((c .before .before .before .before .before .before .before .before .before .before .before .before .before .before .before .before .before .before .before .before .before .before .before .before .before .before .args .from)) ((c .before .before .before .before .before .before .before .before .before .before .before .before .before .before .before .before .before .before .before .before .before .before .before .before .before .before .args .to)) (c .before .before .before .before .before .before .before .before .before .before .before .before .before .before .before .before .before .before .before .before .before .before .before .before .before .before .args .at) (now (c .before .before .before .before .before .before .before .before .before .before .before .before .before .before .before .before .before .before .before .before .before .before .before .before .before .before .args .new)) ((c .before .before .before .before .before .before .before .before .before .before .before .before .before .before .before .before .before .before .before .before .before .before .before .before .before .before .pre) .1 .1) (c .before .before .before .before .before .before .before .before .before .before .before .before .before .before .before .before .before .before .before .before .if1 .left))) ((sym (c .before .before .before .before .before .before .before .before .before .before .before .before .before .before .before .before .pair-fits .ensures) ∙ not-false _ (c .before .before .before .before .before .before .before .before .before .before .before .before .before .before .before .if2 .left))) _ _ _ _ (c .before .before .before .before .before .before .before .before .before .before .before .cut-out .ensures) (c .before .before .before .before .before .before .before .before .before .before .before .cut-out .kept .1 .0) (c .before .before .before .before .before .before .before .before .before .before .before .cut-out .kept .1 .1 .0) (c .before .before .before .before .before .before .before .before .before .before .before .cut-out .kept .1 .1 .1 .0))) .ready, (((next-suits (c .before .before .before .before .before .before .before .before .before .before .before .before .before .before .before .before .before .before .before .before .before .before .before .before .before .before .args .f) (lent (now (c .before .before .before .before .before .before .before .before .before .before .before .before .before .before .before .before .before .before .before .before .before .before .before .before .before .before .args .text)) (now (c .before .before .before .before .before .before .before .before .before .before .before .before .before .before .before .before .before .before .before .before .before .before .before .before .before .before .args .records)) (now (c .before .before .before .before .before .before .before .before .before .before .before .before .before .before .before .before .before .before .before .before .before .before .before .before .before .before .args .texts)) (c .before .before .before .before .before .before .before .before .before .before .before .before .before .before .before .before .before .before .before .before .before .before .before .before .before .before .args .line) (c .before .before .before .before .before .before .before .before .before .before .before .before .before .before .before .before .before .before .before .before .before .before .before .before .before .before .args .log)) (record { pieces = cutting ((c .before .before .before .before .before .before .before .before .before .before .before .before .before .before .before .before .before .before .before .before .before .before .before .before .before .before .args .from)) ((c .before .before .before .before .before .before .before .before .before .before .before .before .before .before .before .before .before .before .before .before .before .before .before .before .before .before .args .to)) ∷ pasted (c .before .before .before .before .before .before .before .before .before .before .before .before .before .before .before .before .before .before .before .before .before .before .before .before .before .before .args .at) (now (c .before .before .before .before .before .before .before .before .before .before .before .before .before .before .before .before .before .before .before .before .before .before .before .before .before .before .args .new)) ∷ []; cursor = c .before .before .before .before .before .before .before .before .before .before .before .before .before .before .before .before .before .before .before .before .before .before .before .before .before .before .args .cursor; number = c .before .before .before .before .before .before .before .before .before .before .before .before .before .before .before .before .before .before .before .before .before .before .before .before .before .before .args .number; from = 0; to = 0 }) (pasted (c .before .before .before .before .before .before .before .before .before .before .before .before .before .before .before .before .before .before .before .before .before .before .before .before .before .before .args .at) (now (c .before .before .before .before .before .before .before .before .before .before .before .before .before .before .before .before .before .before .before .before .before .before .before .before .before .before .args .new))) [] _ ((pair-mid (c .before .before .before .before .before .before .before .before .before .before .before .before .before .before .before .before .before .before .before .before .before .before .before .before .before .before .args .f) (lent (now (c .before .before .before .before .before .before .before .before .before .before .before .before .before .before .before .before .before .before .before .before .before .before .before .before .before .before .args .text)) (now (c .before .before .before .before .before .before .before .before .before .before .before .before .before .before .before .before .before .before .before .before .before .before .before .before .before .before .args .records)) (now (c .before .before .before .before .before .before .before .before .before .before .before .before .before .before .before .before .before .before .before .before .before .before .before .before .before .before .args .texts)) (c .before .before .before .before .before .before .before .before .before .before .before .before .before .before .before .before .before .before .before .before .before .before .before .before .before .before .args .line) (c .before .before .before .before .before .before .before .before .before .before .before .before .before .before .before .before .before .before .before .before .before .before .before .before .before .before .args .log)) ((c .before .before .before .before .before .before .before .before .before .before .before .before .before .before .before .before .before .before .before .before .before .before .before .before .before .before .pre) .1 .0) ((c .before .before .before .before .before .before .before .before .before .before .before .before .before .before .before .before .before .before .before .before .before .before .before .before .before .before .args .from)) ((c .before .before .before .before .before .before .before .before .before .before .before .before .before .before .before .before .before .before .before .before .before .before .before .before .before .before .args .to)) (c .before .before .before .before .before .before .before .before .before .before .before .before .before .before .before .before .before .before .before .before .before .before .before .before .before .before .args .at) (now (c .before .before .before .before .before .before .before .before .before .before .before .before .before .before .before .before .before .before .before .before .before .before .before .before .before .before .args .new)) ((c .before .before .before .before .before .before .before .before .before .before .before .before .before .before .before .before .before .before .before .before .before .before .before .before .before .before .pre) .1 .1) (c .before .before .before .before .before .before .before .before .before .before .before .before .before .before .before .before .before .before .before .before .before .before .before .before .before .before .args .cursor) (c .before .before .before .before .before .before .before .before .before .before .before .before .before .before .before .before .before .before .before .before .before .before .before .before .before .before .args .number) ((pair-short (c .before .before .before .before .before .before .before .before .before .before .before .before .before .before .before .before .before .before .before .before .before .before .before .before .before .before .args .f) (lent (now (c .before .before .before .before .before .before .before .before .before .before .before .before .before .before .before .before .before .before .before .before .before .before .before .before .before .before .args .text)) (now (c .before .before .before .before .before .before .before .before .before .before .before .before .before .before .before .before .before .before .before .before .before .before .before .before .before .before .args .records)) (now (c .before .before .before .before .before .before .before .before .before .before .before .before .before .before .before .before .before .before .before .before .before .before .before .before .before .before .args .texts)) (c .before .before .before .before .before .before .before .before .before .before .before .before .before .before .before .before .before .before .before .before .before .before .before .before .before .before .args .line) (c .before .before .before .before .before .before .before .before .before .before .before .before .before .before .before .before .before .before .before .before .before .before .before .before .before .before .args .log)) ((c .before .before .before .before .before .before .before .before .before .before .before .before .before .before .before .before .before .before .before .before .before .before .before .before .before .before .pre) .1 .0) ((c .before .before .before .before .before .before .before .before .before .before .before .before .before .before .before .before .before .before .before .before .before .before .before .before .before .before .args .from)) ((c .before .before .before .before .before .before .before .before .before .before .before .before .before .before .before .before .before .before .before .before .before .before .before .before .before .before .args .to)) (c .before .before .before .before .before .before .before .before .before .before .before .before .before .before .before .before .before .before .before .before .before .before .before .before .before .before .args .at) (now (c .before .before .before .before .before .before .before .before .before .before .before .before .before .before .before .before .before .before .before .before .before .before .before .before .before .before .args .new)) ((c .before .before .before .before .before .before .before .before .before .before .before .before .before .before .before .before .before .before .before .before .before .before .before .before .before .before .pre) .1 .1) (c .before .before .before .before .before .before .before .before .before .before .before .before .before .before .before .before .before .before .before .before .if1 .left))) ((sym (c .before .before .before .before .before .before .before .before .before .before .before .before .before .before .before .before .pair-fits .ensures) ∙ not-false _ (c .before .before .before .before .before .before .before .before .before .before .before .before .before .before .before .if2 .left))) _ _ _ _ (c .before .before .before .before .before .before .before .before .before .before .before .cut-out .ensures) (c .before .before .before .before .before .before .before .before .before .before .before .cut-out .kept .1 .0) (c .before .before .before .before .before .before .before .before .before .before .before .cut-out .kept .1 .1 .0) (c .before .before .before .before .before .before .before .before .before .before .before .cut-out .kept .1 .1 .1 .0))))) .0, ((next-suits (c .before .before .before .before .before .before .before .before .before .before .before .before .before .before .before .before .before .before .before .before .before .before .before .before .before .before .args .f) (lent (now (c .before .before .before .before .before .before .before .before .before .before .before .before .before .before .before .before .before .before .before .before .before .before .before .before .before .before .args .text)) (now (c .before .before .before .before .before .before .before .before .before .before .before .before .before .before .before .before .before .before .before .before .before .before .before .before .before .before .args .records)) (now (c .before .before .before .before .before .before .before .before .before .before .before .before .before .before .before .before .before .before .before .before .before .before .before .before .before .before .args .texts)) (c .before .before .before .before .before .before .before .before .before .before .before .before .before .before .before .before .before .before .before .before .before .before .before .before .before .before .args .line) (c .before .before .before .before .before .before .before .before .before .before .before .before .before .before .before .before .before .before .before .before .before .before .before .before .before .before .args .log)) (record { pieces = cutting ((c .before .before .before .before .before .before .before .before .before .before .before .before .before .before .before .before .before .before .before .before .before .before .before .before .before .before .args .from)) ((c .before .before .before .before .before .before .before .before .before .before .before .before .before .before .before .before .before .before .before .before .before .before .before .before .before .before .args .to)) ∷ pasted (c .before .before .before .before .before .before .before .before .before .before .before .before .before .before .before .before .before .before .before .before .before .before .before .before .before .before .args .at) (now (c .before .before .before .before .before .before .before .before .before .before .before .before .before .before .before .before .before .before .before .before .before .before .before .before .before .before .args .new)) ∷ []; cursor = c .before .before .before .before .before .before .before .before .before .before .before .before .before .before .before .before .before .before .before .before .before .before .before .before .before .before .args .cursor; number = c .before .before .before .before .before .before .before .before .before .before .before .before .before .before .before .before .before .before .before .before .before .before .before .before .before .before .args .number; from = 0; to = 0 }) (pasted (c .before .before .before .before .before .before .before .before .before .before .before .before .before .before .before .before .before .before .before .before .before .before .before .before .before .before .args .at) (now (c .before .before .before .before .before .before .before .before .before .before .before .before .before .before .before .before .before .before .before .before .before .before .before .before .before .before .args .new))) [] _ ((pair-mid (c .before .before .before .before .before .before .before .before .before .before .before .before .before .before .before .before .before .before .before .before .before .before .before .before .before .before .args .f) (lent (now (c .before .before .before .before .before .before .before .before .before .before .before .before .before .before .before .before .before .before .before .before .before .before .before .before .before .before .args .text)) (now (c .before .before .before .before .before .before .before .before .before .before .before .before .before .before .before .before .before .before .before .before .before .before .before .before .before .before .args .records)) (now (c .before .before .before .before .before .before .before .before .before .before .before .before .before .before .before .before .before .before .before .before .before .before .before .before .before .before .args .texts)) (c .before .before .before .before .before .before .before .before .before .before .before .before .before .before .before .before .before .before .before .before .before .before .before .before .before .before .args .line) (c .before .before .before .before .before .before .before .before .before .before .before .before .before .before .before .before .before .before .before .before .before .before .before .before .before .before .args .log)) ((c .before .before .before .before .before .before .before .before .before .before .before .before .before .before .before .before .before .before .before .before .before .before .before .before .before .before .pre) .1 .0) ((c .before .before .before .before .before .before .before .before .before .before .before .before .before .before .before .before .before .before .before .before .before .before .before .before .before .before .args .from)) ((c .before .before .before .before .before .before .before .before .before .before .before .before .before .before .before .before .before .before .before .before .before .before .before .before .before .before .args .to)) (c .before .before .before .before .before .before .before .before .before .before .before .before .before .before .before .before .before .before .before .before .before .before .before .before .before .before .args .at) (now (c .before .before .before .before .before .before .before .before .before .before .before .before .before .before .before .before .before .before .before .before .before .before .before .before .before .before .args .new)) ((c .before .before .before .before .before .before .before .before .before .before .before .before .before .before .before .before .before .before .before .before .before .before .before .before .before .before .pre) .1 .1) (c .before .before .before .before .before .before .before .before .before .before .before .before .before .before .before .before .before .before .before .before .before .before .before .before .before .before .args .cursor) (c .before .before .before .before .before .before .before .before .before .before .before .before .before .before .before .before .before .before .before .before .before .before .before .before .before .before .args .number) ((pair-short (c .before .before .before .before .before .before .before .before .before .before .before .before .before .before .before .before .before .before .before .before .before .before .before .before .before .before .args .f) (lent (now (c .before .before .before .before .before .before .before .before .before .before .before .before .before .before .before .before .before .before .before .before .before .before .before .before .before .before .args .text)) (now (c .before .before .before .before .before .before .before .before .before .before .before .before .before .before .before .before .before .before .before .before .before .before .before .before .before .before .args .records)) (now (c .before .before .before .before .before .before .before .before .before .before .before .before .before .before .before .before .before .before .before .before .before .before .before .before .before .before .args .texts)) (c .before .before .before .before .before .before .before .before .before .before .before .before .before .before .before .before .before .before .before .before .before .before .before .before .before .before .args .line) (c .before .before .before .before .before .before .before .before .before .before .before .before .before .before .before .before .before .before .before .before .before .before .before .before .before .before .args .log)) ((c .before .before .before .before .before .before .before .before .before .before .before .before .before .before .before .before .before .before .before .before .before .before .before .before .before .before .pre) .1 .0) ((c .before .before .before .before .before .before .before .before .before .before .before .before .before .before .before .before .before .before .before .before .before .before .before .before .before .before .args .from)) ((c .before .before .before .before .before .before .before .before .before .before .before .before .before .before .before .before .before .before .before .before .before .before .before .before .before .before .args .to)) (c .before .before .before .before .before .before .before .before .before .before .before .before .before .before .before .before .before .before .before .before .before .before .before .before .before .before .args .at) (now (c .before .before .before .before .before .before .before .before .before .before .before .before .before .before .before .before .before .before .before .before .before .before .before .before .before .before .args .new)) ((c .before .before .before .before .before .before .before .before .before .before .before .before .before .before .before .before .before .before .before .before .before .before .before .before .before .before .pre) .1 .1) (c .before .before .before .before .before .before .before .before .before .before .before .before .before .before .before .before .before .before .before .before .if1 .left))) ((sym (c .before .before .before .before .before .before .before .before .before .before .before .before .before .before .before .before .pair-fits .ensures) ∙ not-false _ (c .before .before .before .before .before .before .before .before .before .before .before .before .before .before .before .if2 .left))) _ _ _ _ (c .before .before .before .before .before .before .before .before .before .before .before .cut-out .ensures) (c .before .before .before .before .before .before .before .before .before .before .before .cut-out .kept .1 .0) (c .before .before .before .before .before .before .before .before .before .before .before .cut-out .kept .1 .1 .0) (c .before .before .before .before .before .before .before .before .before .before .before .cut-out .kept .1 .1 .1 .0))))) .1)))
+put-in-requires c κs =
+    let after-cut-out = c .before .before .before .before .before .before .before .before .before .before .before in
+    let else2 = after-cut-out .before .before .before .before in
+    let after-pair-fits = else2.before in
+    let else1 = after-pair-fits .before .before .before .before in
+    let entry = else1 .before .before .before .before .before .before in
+    let l = lent (now entry.args.text) (now entry.args.records) (now entry.args.texts) entry.args.line entry.args.log in
+    let pair-mid1 = pair-mid entry.args.f l entry.pre.1.0 entry.args.from entry.args.to entry.args.at (now entry.args.new) entry.pre.1.1
+    entry.args.cursor entry.args.number
+    (pair-short entry.args.f l entry.pre.1.0 entry.args.from entry.args.to entry.args.at (now entry.args.new) entry.pre.1.1 else1.if1.left)
+    (sym after-pair-fits.pair-fits.ensures ∙ not-false _ else2.if2.left) _ _ _ _ after-cut-out.cut-out.ensures
+    after-cut-out.cut-out.kept.1.0 after-cut-out.cut-out.kept.1.1.0 after-cut-out.cut-out.kept.1.1.1.0 in
+    let next-suits1 = next-suits entry.args.f l
+    (record {
+      pieces = cutting entry.args.from entry.args.to ∷ pasted entry.args.at (now entry.args.new) ∷ [];
+      cursor = entry.args.cursor;
+      number = entry.args.number;
+      from = 0;
+      to = 0;
+    }) (pasted entry.args.at (now entry.args.new)) [] _ pair-mid1 in
+    (entry.pre.0, (pair-mid1.ready, (next-suits1.0, next-suits1.1)))
 
 same-length-4 : tie.Need-same-length-4
 same-length-4 c = search needs
@@ -62,7 +131,20 @@ same-length-6 : tie.Need-same-length-6
 same-length-6 c = search needs
 
 returns-3 : tie.Need-returns-3
-returns-3 c = pair-made (c .before .before .before .before .before .before .before .before .before .before .before .before .before .before .before .before .before .before .before .before .before .before .before .before .before .before .before .before .before .before .before .before .before .before .before .args .f) (lent (now (c .before .before .before .before .before .before .before .before .before .before .before .before .before .before .before .before .before .before .before .before .before .before .before .before .before .before .before .before .before .before .before .before .before .before .before .args .text)) (now (c .before .before .before .before .before .before .before .before .before .before .before .before .before .before .before .before .before .before .before .before .before .before .before .before .before .before .before .before .before .before .before .before .before .before .before .args .records)) (now (c .before .before .before .before .before .before .before .before .before .before .before .before .before .before .before .before .before .before .before .before .before .before .before .before .before .before .before .before .before .before .before .before .before .before .before .args .texts)) (c .before .before .before .before .before .before .before .before .before .before .before .before .before .before .before .before .before .before .before .before .before .before .before .before .before .before .before .before .before .before .before .before .before .before .before .args .line) (c .before .before .before .before .before .before .before .before .before .before .before .before .before .before .before .before .before .before .before .before .before .before .before .before .before .before .before .before .before .before .before .before .before .before .before .args .log)) ((c .before .before .before .before .before .before .before .before .before .before .before .before .before .before .before .before .before .before .before .before .before .before .before .before .before .before .before .before .before .before .before .before .before .before .before .pre) .1 .0) ((c .before .before .before .before .before .before .before .before .before .before .before .before .before .before .before .before .before .before .before .before .before .before .before .before .before .before .before .before .before .before .before .before .before .before .before .args .from)) ((c .before .before .before .before .before .before .before .before .before .before .before .before .before .before .before .before .before .before .before .before .before .before .before .before .before .before .before .before .before .before .before .before .before .before .before .args .to)) (c .before .before .before .before .before .before .before .before .before .before .before .before .before .before .before .before .before .before .before .before .before .before .before .before .before .before .before .before .before .before .before .before .before .before .before .args .at) (now (c .before .before .before .before .before .before .before .before .before .before .before .before .before .before .before .before .before .before .before .before .before .before .before .before .before .before .before .before .before .before .before .before .before .before .before .args .new)) ((c .before .before .before .before .before .before .before .before .before .before .before .before .before .before .before .before .before .before .before .before .before .before .before .before .before .before .before .before .before .before .before .before .before .before .before .pre) .1 .1) (c .before .before .before .before .before .before .before .before .before .before .before .before .before .before .before .before .before .before .before .before .before .before .before .before .before .before .before .before .before .before .before .before .before .before .before .args .cursor) (c .before .before .before .before .before .before .before .before .before .before .before .before .before .before .before .before .before .before .before .before .before .before .before .before .before .before .before .before .before .before .before .before .before .before .before .args .number) ((pair-short (c .before .before .before .before .before .before .before .before .before .before .before .before .before .before .before .before .before .before .before .before .before .before .before .before .before .before .before .before .before .before .before .before .before .before .before .args .f) (lent (now (c .before .before .before .before .before .before .before .before .before .before .before .before .before .before .before .before .before .before .before .before .before .before .before .before .before .before .before .before .before .before .before .before .before .before .before .args .text)) (now (c .before .before .before .before .before .before .before .before .before .before .before .before .before .before .before .before .before .before .before .before .before .before .before .before .before .before .before .before .before .before .before .before .before .before .before .args .records)) (now (c .before .before .before .before .before .before .before .before .before .before .before .before .before .before .before .before .before .before .before .before .before .before .before .before .before .before .before .before .before .before .before .before .before .before .before .args .texts)) (c .before .before .before .before .before .before .before .before .before .before .before .before .before .before .before .before .before .before .before .before .before .before .before .before .before .before .before .before .before .before .before .before .before .before .before .args .line) (c .before .before .before .before .before .before .before .before .before .before .before .before .before .before .before .before .before .before .before .before .before .before .before .before .before .before .before .before .before .before .before .before .before .before .before .args .log)) ((c .before .before .before .before .before .before .before .before .before .before .before .before .before .before .before .before .before .before .before .before .before .before .before .before .before .before .before .before .before .before .before .before .before .before .before .pre) .1 .0) ((c .before .before .before .before .before .before .before .before .before .before .before .before .before .before .before .before .before .before .before .before .before .before .before .before .before .before .before .before .before .before .before .before .before .before .before .args .from)) ((c .before .before .before .before .before .before .before .before .before .before .before .before .before .before .before .before .before .before .before .before .before .before .before .before .before .before .before .before .before .before .before .before .before .before .before .args .to)) (c .before .before .before .before .before .before .before .before .before .before .before .before .before .before .before .before .before .before .before .before .before .before .before .before .before .before .before .before .before .before .before .before .before .before .before .args .at) (now (c .before .before .before .before .before .before .before .before .before .before .before .before .before .before .before .before .before .before .before .before .before .before .before .before .before .before .before .before .before .before .before .before .before .before .before .args .new)) ((c .before .before .before .before .before .before .before .before .before .before .before .before .before .before .before .before .before .before .before .before .before .before .before .before .before .before .before .before .before .before .before .before .before .before .before .pre) .1 .1) (c .before .before .before .before .before .before .before .before .before .before .before .before .before .before .before .before .before .before .before .before .before .before .before .before .before .before .before .before .before .if1 .left))) ((sym (c .before .before .before .before .before .before .before .before .before .before .before .before .before .before .before .before .before .before .before .before .before .before .before .before .before .pair-fits .ensures) ∙ not-false _ (c .before .before .before .before .before .before .before .before .before .before .before .before .before .before .before .before .before .before .before .before .before .before .before .before .if2 .left))) _ _ _ _ (c .before .before .before .before .before .before .before .before .before .before .before .before .before .before .before .before .before .before .before .before .cut-out .ensures) (c .before .before .before .before .before .before .before .before .before .before .before .before .before .before .before .before .before .before .before .before .cut-out .kept .1 .0) (c .before .before .before .before .before .before .before .before .before .before .before .before .before .before .before .before .before .before .before .before .cut-out .kept .1 .1 .0) (c .before .before .before .before .before .before .before .before .before .before .before .before .before .before .before .before .before .before .before .before .cut-out .kept .1 .1 .1 .0) _ _ _ _ (c .before .before .before .before .before .before .before .before .put-in .ensures) (c .before .before .before .before .before .before .before .before .put-in .kept .1 .0) (c .before .before .before .before .before .before .before .before .put-in .kept .1 .1 .0) (c .before .before .before .before .before .before .before .before .put-in .kept .1 .1 .1 .0)
+returns-3 c =
+    let after-put-in = c .before .before .before .before .before .before .before .before in
+    let after-cut-out = after-put-in .before .before .before .before .before .before .before .before .before .before .before .before in
+    let else2 = after-cut-out .before .before .before .before in
+    let after-pair-fits = else2.before in
+    let else1 = after-pair-fits .before .before .before .before in
+    let entry = else1 .before .before .before .before .before .before in
+    let l = lent (now entry.args.text) (now entry.args.records) (now entry.args.texts) entry.args.line entry.args.log in
+    pair-made entry.args.f l entry.pre.1.0 entry.args.from entry.args.to entry.args.at (now entry.args.new) entry.pre.1.1 entry.args.cursor
+    entry.args.number
+    (pair-short entry.args.f l entry.pre.1.0 entry.args.from entry.args.to entry.args.at (now entry.args.new) entry.pre.1.1 else1.if1.left)
+    (sym after-pair-fits.pair-fits.ensures ∙ not-false _ else2.if2.left) _ _ _ _ after-cut-out.cut-out.ensures
+    after-cut-out.cut-out.kept.1.0 after-cut-out.cut-out.kept.1.1.0 after-cut-out.cut-out.kept.1.1.1.0 _ _ _ _ after-put-in.put-in.ensures
+    after-put-in.put-in.kept.1.0 after-put-in.put-in.kept.1.1.0 after-put-in.put-in.kept.1.1.1.0
 
 pub cut-and-put-spec : {M : Type 1} → statement M
 cut-and-put-spec =

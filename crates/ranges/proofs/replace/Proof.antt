@@ -70,9 +70,10 @@ slice-aggregate-last-for c =
 
 last-for-requires : tie.Need-last-for-requires
 last-for-requires c κs =
-    let else1 = c .before .before in
+    let else1 = c.before.before in
     let after-format-for = c .before .before .before .before .before .before .before in
-    let entry = c .before .before .before .before .before .before .before .before .before .before .before .before .before .before .before .before .before in
+    let entry = c .before .before .before .before .before .before .before .before .before .before .before .before .before .before
+    .before .before .before in
     let ready = else1.before.refusal.ensures.1 else1.if1.left in (
       ready.log.fit,
       listed after-format-for.format-for.result (log.lent (now entry.args.records) (now entry.args.texts) entry.args.log) ready.log,

@@ -34,19 +34,35 @@ enum-told : tie.Need-enum-told Inv-loop μ-loop
 enum-told c = search needs
 
 same-length : tie.Need-same-length Inv-loop μ-loop
-same-length c = writing-length (c .before .before .before .before .loop .inv)
+same-length c =
+    let at-loop = c .before .before .before .before in
+    writing-length at-loop.loop.inv
 
 returns-2 : tie.Need-returns-2 Inv-loop μ-loop
-returns-2 c = writing-end _ _ _ _ _ _ (c .before .before .before .before .loop .inv) (sym (c .before .before .decode-at .ensures) ∙ ap asFirst (c .enum-told .given .1))
+returns-2 c =
+    let at-loop = c .before .before .before .before in
+    writing-end _ _ _ _ _ _ at-loop.loop.inv (sym c.before.before.decode-at.ensures ∙ ap asFirst c.enum-told.given.1)
 
 case-of-requires : tie.Need-case-of-requires Inv-loop μ-loop
 case-of-requires c κs = search needs
 
 write-mapped-requires : tie.Need-write-mapped-requires Inv-loop μ-loop
-write-mapped-requires c κs = writing-fits catalogue _ _ _ catalogue-lawful _ _ _ _ _ _ (c .before .before .before .before .before .before .before .loop .inv) (sym (c .before .before .before .before .before .decode-at .ensures) ∙ ap asFirst (c .before .before .before .d .given .1)) (c .case-of .ensures)
+write-mapped-requires c κs =
+    let after-d = c .before .before .before in
+    let after-decode-at = after-d.before.before in
+    let at-loop = after-decode-at.before.before in
+    writing-fits catalogue _ _ _ catalogue-lawful _ _ _ _ _ _ at-loop.loop.inv
+    (sym after-decode-at.decode-at.ensures ∙ ap asFirst after-d.d.given.1) c.case-of.ensures
 
 loop-again : tie.Need-loop-again Inv-loop μ-loop
-loop-again c = writing-step catalogue _ _ _ catalogue-lawful _ _ _ _ _ _ (c .before .before .before .before .before .before .before .before .before .before .loop .inv) (sym (c .before .before .before .before .before .before .before .before .decode-at .ensures) ∙ ap asFirst (c .before .before .before .before .before .before .d .given .1)) (c .before .before .before .case-of .ensures) _ _ (c .before .before .write-mapped .ensures)
+loop-again c =
+    let after-case-of = c .before .before .before in
+    let after-d = after-case-of .before .before .before in
+    let after-decode-at = after-d.before.before in
+    let at-loop = after-decode-at.before.before in
+    writing-step catalogue _ _ _ catalogue-lawful _ _ _ _ _ _ at-loop.loop.inv
+    (sym after-decode-at.decode-at.ensures ∙ ap asFirst after-d.d.given.1) after-case-of.case-of.ensures _ _
+    c.before.before.write-mapped.ensures
 
 add-n : tie.Need-add-n Inv-loop μ-loop
 add-n c = let w = loop-again c in omega (arith, w .under, w .within)
@@ -55,14 +71,20 @@ add-i : tie.Need-add-i Inv-loop μ-loop
 add-i c = let w = loop-again c in omega (arith, w .within)
 
 loop-less : tie.Need-loop-less Inv-loop μ-loop
-loop-less c = let h = within-at _ _ _ _ (c .before .before .before .before .before .before .before .before .before .before .loop .inv .within) (sym (c .before .before .before .before .before .before .before .before .decode-at .ensures) ∙ ap asFirst (c .before .before .before .before .before .before .d .given .1)) in
-    omega (arith, h .0, h .1)
+loop-less c =
+    let after-d = c .before .before .before .before .before .before in
+    let after-decode-at = after-d.before.before in
+    let at-loop = after-decode-at.before.before in
+    let h = within-at _ _ _ _ at-loop.loop.inv.within (sym after-decode-at.decode-at.ensures ∙ ap asFirst after-d.d.given.1) in
+    omega (arith, h.0, h.1)
 
 same-length-2 : tie.Need-same-length-2 Inv-loop μ-loop
 same-length-2 c = writing-length (c .before .loop .inv)
 
 returns-3 : tie.Need-returns-3 Inv-loop μ-loop
-returns-3 c = writing-end _ _ _ _ _ _ (c .before .loop .inv) (first-end (c .before .before .before .before .before .args .s .now) (c .before .loop .i) (c .loop-test .left))
+returns-3 c =
+    let entry = c .before .before .before .before .before in
+    writing-end _ _ _ _ _ _ c.before.loop.inv (first-end entry.args.s.now c.before.loop.i c.loop-test.left)
 
 pub change-case-spec : {M : Type 1} → statement M
 change-case-spec =

@@ -17,13 +17,21 @@ says-requires : tie.Need-says-requires
 says-requires c κs = search needs
 
 returns : tie.Need-returns
-returns c = answered-as (c .before .before .before .before .before .args .f) (lent (now (c .before .before .before .before .before .args .records)) (now (c .before .before .before .before .before .args .texts)) (c .before .before .before .before .before .args .self)) (beginOut (c .before .before .before .before .before .args .f) (sizesOf (lent (now (c .before .before .before .before .before .args .records)) (now (c .before .before .before .before .before .args .texts)) (c .before .before .before .before .before .args .self))) (valueOf catalogue (c .before .before .before .before .before .args .f) (lent (now (c .before .before .before .before .before .args .records)) (now (c .before .before .before .before .before .args .texts)) (c .before .before .before .before .before .args .self)))) _ _ _ _ (c .says .ensures) (begin-high (c .before .before .before .before .before .args .f) (lent (now (c .before .before .before .before .before .args .records)) (now (c .before .before .before .before .before .args .texts)) (c .before .before .before .before .before .args .self)) (c .before .before .before .before .before .pre .1 .0) (c .before .if1 .taken))
+returns c =
+    let entry = c .before .before .before .before .before in
+    let l = lent (now entry.args.records) (now entry.args.texts) entry.args.self in
+    answered-as entry.args.f l (beginOut entry.args.f (sizesOf l) (valueOf catalogue entry.args.f l)) _ _ _ _ c.says.ensures
+    (begin-high entry.args.f l entry.pre.1.0 c.before.if1.taken)
 
 says-requires-2 : tie.Need-says-requires-2
 says-requires-2 c κs = search needs
 
 returns-2 : tie.Need-returns-2
-returns-2 c = answered-as (c .before .before .before .before .before .before .args .f) (lent (now (c .before .before .before .before .before .before .args .records)) (now (c .before .before .before .before .before .before .args .texts)) (c .before .before .before .before .before .before .args .self)) (beginOut (c .before .before .before .before .before .before .args .f) (sizesOf (lent (now (c .before .before .before .before .before .before .args .records)) (now (c .before .before .before .before .before .before .args .texts)) (c .before .before .before .before .before .before .args .self))) (valueOf catalogue (c .before .before .before .before .before .before .args .f) (lent (now (c .before .before .before .before .before .before .args .records)) (now (c .before .before .before .before .before .before .args .texts)) (c .before .before .before .before .before .before .args .self)))) _ _ _ _ (c .says2 .ensures) (begin-full (c .before .before .before .before .before .before .args .f) (lent (now (c .before .before .before .before .before .before .args .records)) (now (c .before .before .before .before .before .before .args .texts)) (c .before .before .before .before .before .before .args .self)) (c .before .before .before .before .before .before .pre .1 .0) (c .before .before .if1 .left) (c .before .if2 .taken))
+returns-2 c =
+    let entry = c .before .before .before .before .before .before in
+    let l = lent (now entry.args.records) (now entry.args.texts) entry.args.self in
+    answered-as entry.args.f l (beginOut entry.args.f (sizesOf l) (valueOf catalogue entry.args.f l)) _ _ _ _ c.says2.ensures
+    (begin-full entry.args.f l entry.pre.1.0 c.before.before.if1.left c.before.if2.taken)
 
 slice-write-records : tie.Need-slice-write-records
 slice-write-records c = search needs
@@ -46,8 +54,10 @@ returns-3 c =
     let f = entry.args.f in
     let l = lending entry in
     let count = entry.args.newest.count in
-    answered-as f l (beginOut f (sizesOf l) (valueOf catalogue f l)) _ _ _ _ (ap (λ (g : Log). record { number = 0; from = count; to = 0; log = g }) c.only-undo.ensures)
-    (begin-takes f l entry.pre.1.0 count c.before.before.if1.left c.before.if2.left (begin-mark f l entry.pre.1.0 entry.args.newest entry.pre.1.1))
+    answered-as f l (beginOut f (sizesOf l) (valueOf catalogue f l)) _ _ _ _
+    (ap (λ (g : Log). record { number = 0; from = count; to = 0; log = g }) c.only-undo.ensures)
+    (begin-takes f l entry.pre.1.0 count c.before.before.if1.left c.before.if2.left
+    (begin-mark f l entry.pre.1.0 entry.args.newest entry.pre.1.1))
 
 pub begin-spec : {M : Type 1} → statement M
 begin-spec =

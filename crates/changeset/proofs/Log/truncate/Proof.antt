@@ -16,22 +16,50 @@ slice-reshare-prefix-walk : tie.Need-slice-reshare-prefix-walk
 slice-reshare-prefix-walk c = search needs
 
 slice-aggregate-walk : tie.Need-slice-aggregate-walk
-slice-aggregate-walk c = sym (length-take-le _ _ (omega (arith, (c .before .before .before .before .before .pre .1) .hold .room)))
+slice-aggregate-walk c =
+    let entry = c .before .before .before .before .before in
+    sym (length-take-le _ _ (omega (arith, entry.pre.1.hold.room)))
 
 walk-requires : tie.Need-walk-requires
-walk-requires c κs = (c .before .before .before .before .before .pre .0, (listed (c .before .before .before .before .before .args .f) (lent (now (c .before .before .before .before .before .args .records)) (now (c .before .before .before .before .before .args .texts)) (c .before .before .before .before .before .args .self)) (c .before .before .before .before .before .pre .1), omega (arith, length-take-le (c .before .before .before .before .before .args .self .undo .records) (now (c .before .before .before .before .before .args .records)) (omega (arith, (c .before .before .before .before .before .pre .1) .hold .room)), (c .before .before .before .before .before .pre .1) .records)))
+walk-requires c κs =
+    let entry = c .before .before .before .before .before in (
+      entry.pre.0,
+      (
+        listed entry.args.f (lent (now entry.args.records) (now entry.args.texts) entry.args.self) entry.pre.1,
+        omega (
+          arith,
+          length-take-le entry.args.self.undo.records (now entry.args.records) (omega (arith, entry.pre.1.hold.room)),
+          entry.pre.1.records,
+        ),
+      ),
+    )
 
 add-cut-bytes : tie.Need-add-cut-bytes
-add-cut-bytes c = omega (arith, (c .before .before .before .before .before .before .before .before .pre .1) .hold .room, (c .before .before .before .before .before .before .before .before .pre .1) .records)
+add-cut-bytes c =
+    let entry = c .before .before .before .before .before .before .before .before in
+    omega (arith, entry.pre.1.hold.room, entry.pre.1.records)
 
 cut-bytes-requires : tie.Need-cut-bytes-requires
-cut-bytes-requires c κs = (cut-within (c .before .before .before .before .before .before .before .before .args .f) (lent (now (c .before .before .before .before .before .before .before .before .args .records)) (now (c .before .before .before .before .before .before .before .before .args .texts)) (c .before .before .before .before .before .before .before .before .args .self)) (c .before .before .before .before .before .before .before .before .pre .1) (c .before .before .before .before .before .before .before .before .args .len) (c .before .before .walk .result) (c .before .before .walk .ensures) .0, (omega arith, (c .before .before .before .before .before .before .before .before .pre .1) .hold .room))
+cut-bytes-requires c κs =
+    let entry = c .before .before .before .before .before .before .before .before in (
+      (cut-within entry.args.f (lent (now entry.args.records) (now entry.args.texts) entry.args.self) entry.pre.1 entry.args.len
+          c.before.before.walk.result c.before.before.walk.ensures) .0,
+      (omega arith, entry.pre.1.hold.room),
+    )
 
 add-cut-bytes-2 : tie.Need-add-cut-bytes-2
-add-cut-bytes-2 c = omega (arith, (c .before .before .before .before .before .before .before .before .before .before .before .before .before .pre .1) .hold .space, (c .before .before .before .before .before .before .before .before .before .before .before .before .before .pre .1) .texts)
+add-cut-bytes-2 c =
+    let entry = c .before .before .before .before .before .before .before .before .before .before .before .before .before in
+    omega (arith, entry.pre.1.hold.space, entry.pre.1.texts)
 
 cut-bytes-requires-2 : tie.Need-cut-bytes-requires-2
-cut-bytes-requires-2 c κs = (cut-within (c .before .before .before .before .before .before .before .before .before .before .before .before .before .args .f) (lent (now (c .before .before .before .before .before .before .before .before .before .before .before .before .before .args .records)) (now (c .before .before .before .before .before .before .before .before .before .before .before .before .before .args .texts)) (c .before .before .before .before .before .before .before .before .before .before .before .before .before .args .self)) (c .before .before .before .before .before .before .before .before .before .before .before .before .before .pre .1) (c .before .before .before .before .before .before .before .before .before .before .before .before .before .args .len) (c .before .before .before .before .before .before .before .walk .result) (c .before .before .before .before .before .before .before .walk .ensures) .1, (omega arith, (c .before .before .before .before .before .before .before .before .before .before .before .before .before .pre .1) .hold .space))
+cut-bytes-requires-2 c κs =
+    let after-walk = c .before .before .before .before .before .before .before in
+    let entry = after-walk .before .before .before .before .before .before in (
+      (cut-within entry.args.f (lent (now entry.args.records) (now entry.args.texts) entry.args.self) entry.pre.1 entry.args.len
+          after-walk.walk.result after-walk.walk.ensures) .1,
+      (omega arith, entry.pre.1.hold.space),
+    )
 
 says-requires : tie.Need-says-requires
 says-requires c κs = search needs
@@ -43,7 +71,16 @@ same-length-2 : tie.Need-same-length-2
 same-length-2 c = search needs
 
 returns : tie.Need-returns
-returns c = answered-as (c .before .before .before .before .before .before .before .before .before .before .before .before .before .before .before .before .before .args .f) (lent (now (c .before .before .before .before .before .before .before .before .before .before .before .before .before .before .before .before .before .args .records)) (now (c .before .before .before .before .before .before .before .before .before .before .before .before .before .before .before .before .before .args .texts)) (c .before .before .before .before .before .before .before .before .before .before .before .before .before .before .before .before .before .args .self)) (truncateOut (c .before .before .before .before .before .before .before .before .before .before .before .before .before .before .before .before .before .args .len) (valueOf catalogue (c .before .before .before .before .before .before .before .before .before .before .before .before .before .before .before .before .before .args .f) (lent (now (c .before .before .before .before .before .before .before .before .before .before .before .before .before .before .before .before .before .args .records)) (now (c .before .before .before .before .before .before .before .before .before .before .before .before .before .before .before .before .before .args .texts)) (c .before .before .before .before .before .before .before .before .before .before .before .before .before .before .before .before .before .args .self)))) _ _ _ _ (c .says .ensures) (truncates (c .before .before .before .before .before .before .before .before .before .before .before .before .before .before .before .before .before .args .f) (lent (now (c .before .before .before .before .before .before .before .before .before .before .before .before .before .before .before .before .before .args .records)) (now (c .before .before .before .before .before .before .before .before .before .before .before .before .before .before .before .before .before .args .texts)) (c .before .before .before .before .before .before .before .before .before .before .before .before .before .before .before .before .before .args .self)) (c .before .before .before .before .before .before .before .before .before .before .before .before .before .before .before .before .before .pre .1) (c .before .before .before .before .before .before .before .before .before .before .before .before .before .before .before .before .before .args .len) (c .before .before .before .before .before .before .before .before .before .before .before .walk .result) (c .before .before .before .before .before .before .before .before .before .before .before .walk .ensures) (c .before .before .before .before .before .before .before .before .cut-bytes .last .0) (c .before .before .before .cut-bytes2 .last .0) (c .before .before .before .before .before .before .before .before .cut-bytes .kept .0) (c .before .before .before .cut-bytes2 .kept .0) (c .before .before .before .before .before .before .before .before .cut-bytes .ensures) (c .before .before .before .cut-bytes2 .ensures))
+returns c =
+    let after-cut-bytes2 = c .before .before .before in
+    let after-cut-bytes = after-cut-bytes2 .before .before .before .before .before in
+    let after-walk = after-cut-bytes .before .before .before in
+    let entry = after-walk .before .before .before .before .before .before in
+    let l = lent (now entry.args.records) (now entry.args.texts) entry.args.self in
+    answered-as entry.args.f l (truncateOut entry.args.len (valueOf catalogue entry.args.f l)) _ _ _ _ c.says.ensures
+    (truncates entry.args.f l entry.pre.1 entry.args.len after-walk.walk.result after-walk.walk.ensures after-cut-bytes.cut-bytes.last.0
+    after-cut-bytes2.cut-bytes2.last.0 after-cut-bytes.cut-bytes.kept.0 after-cut-bytes2.cut-bytes2.kept.0 after-cut-bytes.cut-bytes.ensures
+    after-cut-bytes2.cut-bytes2.ensures)
 
 pub truncate-spec : {M : Type 1} → statement M
 truncate-spec =
