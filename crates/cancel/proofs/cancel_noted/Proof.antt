@@ -8,7 +8,8 @@ use Rattle.records.specs.Walks.{SizesOf}
 use Rattle.undo.specs.Steps.{lineOf, lentBy}
 use Rattle.undo.proofs.Seams.{newest-some}
 use Rattle.undo.proofs.Walks.{sizes-next}
-use Rattle.cancel.proofs.Cancels.{Cancelling, mark-within, cancelling-first, cancel-more, cancel-stop, cancelling-next, cancel-ended}
+use Rattle.cancel.proofs.Cancels.{Cancelling, mark-within, cancelling-first, cancel-more}
+use Rattle.cancel.proofs.Cancels.{cancel-stop, cancelling-next, cancel-ended}
 use Rattle.cancel.proofs.cancel_noted.Statement.{statement}
 use Rattle.cancel.proofs.cancel_noted.Tie as tie
 

@@ -30,7 +30,8 @@ unfolding overSizes
 returns-4 c =
     let else2 = c .before .before .before in
     let else1 = else2.before.before in
-    simp (le-ltb _ _ else1.if1.left, le-ltb _ _ else2.if2.left, sym c.before.before.is-over.ensures ∙ c.before.if3.left) c.is-over2.ensures
+    simp (le-ltb _ _ else1.if1.left, le-ltb _ _ else2.if2.left, sym c.before.before.is-over.ensures ∙ c.before.if3.left)
+    c.is-over2.ensures
 
 pub over-sizes-spec : {M : Type 1} → statement M
 over-sizes-spec =

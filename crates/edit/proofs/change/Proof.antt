@@ -139,7 +139,8 @@ returns-3 c =
     ∙ else2.if2.left) after-record.«record».result _ _
     (logged-as entry.args.f l entry.args.joins entry.args.kind entry.args.from (now entry.args.new)
     (take (entry.args.to - entry.args.from) (drop entry.args.from (now entry.args.text))) part1
-    (sym (raw-part (now entry.args.text) entry.args.line.len entry.args.from entry.args.to entry.pre.1.1.0.1)) after-record.«record».result
+    (sym (raw-part (now entry.args.text) entry.args.line.len entry.args.from entry.args.to entry.pre.1.1.0.1))
+    after-record.«record».result
     after-record.«record».last.1.1.0 after-record.«record».last.1.1.1.0 after-record.«record».ensures) c.before.if3.taken)
 
 cut-bytes-requires : tie.Need-cut-bytes-requires
@@ -200,7 +201,8 @@ returns-4 c =
     ∙ else2.if2.left) after-record.«record».result _ _
     (logged-as entry.args.f l entry.args.joins entry.args.kind entry.args.from (now entry.args.new)
     (take (entry.args.to - entry.args.from) (drop entry.args.from (now entry.args.text))) part1
-    (sym (raw-part (now entry.args.text) entry.args.line.len entry.args.from entry.args.to entry.pre.1.1.0.1)) after-record.«record».result
+    (sym (raw-part (now entry.args.text) entry.args.line.len entry.args.from entry.args.to entry.pre.1.1.0.1))
+    after-record.«record».result
     after-record.«record».last.1.1.0 after-record.«record».last.1.1.1.0 after-record.«record».ensures) else3.if3.left
     after-cut-bytes.cut-bytes.last.0 _ after-cut-bytes.cut-bytes.ensures after-insert-bytes.insert-bytes.ensures)
 

@@ -70,7 +70,8 @@ returns-4 c =
     let entry = after-over-sizes .before .before .before .before in
     let fine = sym after-over-sizes.over-sizes.ensures ∙ else2.before.if1.left in
     let k = after-refusal-in.refusal-in in (
-      number ∙ by-split entry.args.f (lending entry) entry.args.o fine else2.if2.left k.result k.ensures else3.if3.left c.before.if4.taken,
+      number ∙ by-split entry.args.f (lending entry) entry.args.o fine else2.if2.left k.result k.ensures else3.if3.left
+          c.before.if4.taken,
       ((λ e. absurd (omega (arith, number))), (λ e. absurd (omega (arith, number)))),
     )
 
@@ -99,7 +100,8 @@ returns-5 c =
     let k = after-refusal-in.refusal-in in
     let broken = not-false _ (sym after-look.look.ensures.0 ∙ not-true _ c.before.if5.taken) in (
       number
-          ∙ by-damage entry.args.f (lending entry) entry.args.o fine else2.if2.left k.result k.ensures else3.if3.left else4.if4.left broken,
+          ∙ by-damage entry.args.f (lending entry) entry.args.o fine else2.if2.left k.result k.ensures else3.if3.left else4.if4.left
+          broken,
       ((λ e. absurd (omega (arith, number))), (λ e. absurd (omega (arith, number)))),
     )
 

@@ -52,7 +52,8 @@ is-single-requires c κs =
     (let w : entry.args.to ≤ entry.args.line.len = omega
     (arith, entry.pre.1.1.1, length-take-le entry.args.line.len (now entry.args.text) entry.pre.1.0.used) in
     w)))
-    ∙ (part-text catalogue (take entry.args.line.len (now entry.args.text)) entry.args.from entry.args.to entry.pre.1.1 entry.pre.1.0.text)
+    ∙ (part-text catalogue (take entry.args.line.len (now entry.args.text)) entry.args.from entry.args.to entry.pre.1.1
+    entry.pre.1.0.text)
 
 slice-reshare-prefix-last-for : tie.Need-slice-reshare-prefix-last-for
 slice-reshare-prefix-last-for c = search needs

@@ -13,12 +13,15 @@ use Rattle.indent_lines.proofs.dedent_lines.Statement.{statement}
 use Rattle.indent_lines.proofs.dedent_lines.Tie as tie
 
 abbrev Inv-loop : tie.InvT-loop
-Inv-loop f text₀ records₀ texts₀ m from to line-now₀ log-now₀ cursor₀ at₀ end₀ text records texts line-now log-now cursor at end =
-    Lines f (lent text₀ records₀ texts₀ line-now₀ log-now₀) (linesPlan (lent text₀ records₀ texts₀ line-now₀ log-now₀) m true from to)
+Inv-loop f text₀ records₀ texts₀ m from to line-now₀ log-now₀ cursor₀ at₀ end₀ text records texts line-now log-now
+    cursor at end =
+    Lines f (lent text₀ records₀ texts₀ line-now₀ log-now₀)
+    (linesPlan (lent text₀ records₀ texts₀ line-now₀ log-now₀) m true from to)
     (way m true at) (lent text records texts line-now log-now) cursor at end
 
 abbrev μ-loop : tie.MeasureT-loop
-μ-loop f text₀ records₀ texts₀ m from to line-now₀ log-now₀ cursor₀ at₀ end₀ text records texts line-now log-now cursor at end =
+μ-loop f text₀ records₀ texts₀ m from to line-now₀ log-now₀ cursor₀ at₀ end₀ text records texts line-now log-now cursor
+    at end =
     end - at
 
 loop-holds : tie.Need-loop-holds Inv-loop μ-loop

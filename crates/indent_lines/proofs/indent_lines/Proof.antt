@@ -25,14 +25,16 @@ use Rattle.indent_lines.proofs.indent_lines.Statement.{statement}
 use Rattle.indent_lines.proofs.indent_lines.Tie as tie
 
 abbrev Inv-loop : tie.InvT-loop
-Inv-loop f text₀ records₀ texts₀ m from to spaces line-now₀ log-now₀ cursor₀ at₀ end₀ left₀ text records texts line-now log-now cursor at
+Inv-loop f text₀ records₀ texts₀ m from to spaces line-now₀ log-now₀ cursor₀ at₀ end₀ left₀ text records texts
+    line-now log-now cursor at
     end left =
     Indenting f (lent text₀ records₀ texts₀ line-now₀ log-now₀)
     (linesPlan (lent text₀ records₀ texts₀ line-now₀ log-now₀) m false from to) m
     (lent text records texts line-now log-now) cursor at end left
 
 abbrev μ-loop : tie.MeasureT-loop
-μ-loop f text₀ records₀ texts₀ m from to spaces line-now₀ log-now₀ cursor₀ at₀ end₀ left₀ text records texts line-now log-now cursor at
+μ-loop f text₀ records₀ texts₀ m from to spaces line-now₀ log-now₀ cursor₀ at₀ end₀ left₀ text records texts line-now
+    log-now cursor at
     end left =
     turns m at end left
 
@@ -118,7 +120,8 @@ piece c = c .before .before .before .before .before
 abbrev put : tie.After-log-now Inv-loop μ-loop → tie.After-put-in Inv-loop μ-loop
 put c = c .before .before .before .before .before .before .before .before
 
-sizes : (c : tie.After-piece Inv-loop μ-loop) → (0 < c .piece .result) × (c .piece .result ≤ 32) × (c .piece .result ≤ c .before .before
+sizes : (c : tie.After-piece Inv-loop μ-loop) → (0 < c .piece .result) × (c .piece .result ≤ 32)
+    × (c .piece .result ≤ c .before .before
     .loop .left) × (c .before .before .loop .end ≤ textMax)
 sizes c = piece-within c.before.before.loop.inv c.before.if1.left c.piece.ensures
 

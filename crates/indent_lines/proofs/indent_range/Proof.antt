@@ -13,7 +13,8 @@ asked s =
     asks (lent (now s.args.text) (now s.args.records) (now s.args.texts) s.args.line s.args.log) s.pre.1.0 s.args.m s.args.from s.args.to
     s.pre.1.1
 
-tried : (c : tie.After-has-room) → Tried (asked (c .before .before .before .before .before .before .before .before .before .before .before))
+tried : (c : tie.After-has-room) → Tried (asked (c .before .before .before .before .before .before .before .before .before .before
+    .before))
     false c.has-room.result
 tried c =
     let else1 = c .before .before .before in

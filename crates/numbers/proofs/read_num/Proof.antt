@@ -9,7 +9,8 @@ use Rattle.numbers.proofs.read_num.Statement.{statement}
 use Rattle.numbers.proofs.read_num.Tie as tie
 
 abbrev Inv-loop : tie.InvT-loop
-Inv-loop s at width value₀ left₀ value left = (left ≤ width) × (value ≡ numAt (width - left) s (at + left)) × (value < top (width - left))
+Inv-loop s at width value₀ left₀ value left = (left ≤ width) × (value ≡ numAt (width - left) s (at + left))
+    × (value < top (width - left))
 
 abbrev μ-loop : tie.MeasureT-loop
 μ-loop s at width value₀ left₀ value left = left

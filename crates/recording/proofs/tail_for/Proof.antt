@@ -15,7 +15,8 @@ returns : tie.Need-returns
 returns c =
     let entry = c .before .before .before in
     λ ts us l e. c.no-edit.ensures
-    ∙ tail-apart catalogue entry.args.f (now entry.args.records) entry.args.texts entry.args.joins (not-true _ c.before.if1.taken) ts us l e
+    ∙ tail-apart catalogue entry.args.f (now entry.args.records) entry.args.texts entry.args.joins (not-true _ c.before.if1.taken) ts
+    us l e
 
 tail-at-requires : tie.Need-tail-at-requires
 tail-at-requires c κs = (c .before .before .pre .0, c .before .before .pre .1 (not-false _ (c .if1 .left)))

@@ -18,7 +18,8 @@ use Rattle.redo.proofs.redo_unit.Tie as tie
 
 abbrev Inv-loop : tie.InvT-loop
 Inv-loop f text₀ records texts s₀ g₀ ends₀ begins₀ text s g ends begins =
-    Walking f (lentBy text₀ records texts s₀ g₀) false (redoWalk (length text₀) (stateOf catalogue f (lentBy text₀ records texts s₀ g₀)))
+    Walking f (lentBy text₀ records texts s₀ g₀) false
+    (redoWalk (length text₀) (stateOf catalogue f (lentBy text₀ records texts s₀ g₀)))
     text s g 0 ends begins
 
 abbrev μ-loop : tie.MeasureT-loop

@@ -2,7 +2,8 @@ use borrow.Author.Needs.{needs}
 use native.Mathlib.Omega.{arith}
 use mathlib.Core.Path.{_∙_}
 use Rattle.edit.specs.Calls.{lent}
-use Rattle.redo.proofs.Redos.{Redoing, redoing-first, redo-ended, more-left, redoing-next, redo-stopped, ended-still, stopped-still}
+use Rattle.redo.proofs.Redos.{Redoing, redoing-first, redo-ended, more-left, redoing-next}
+use Rattle.redo.proofs.Redos.{redo-stopped, ended-still, stopped-still}
 use Rattle.redo.proofs.redo_units.Statement.{statement}
 use Rattle.redo.proofs.redo_units.Tie as tie
 

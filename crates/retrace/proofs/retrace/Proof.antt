@@ -10,7 +10,8 @@ use Rattle.retrace.proofs.retrace.Statement.{statement}
 use Rattle.retrace.proofs.retrace.Tie as tie
 
 -- what the record, undone or redone, takes out and puts in
-faces : (c : tie.Joined2) → Faces (c .before .before .before .before .before .before .before .args .back) (c .before .before .before .before
+faces : (c : tie.Joined2) → Faces (c .before .before .before .before .before .before .before .args .back)
+    (c .before .before .before .before
     .before .before .before .args .r) (c .before .before .before .before .before .before .before .args .t) (c .if2 .out) (c .if2 .from) (c
     .if2 .to)
 faces c =
@@ -113,7 +114,8 @@ returns-3 c =
     .before .before .before .before in
     let a = s.args in
     let j = c .before .before .before .before .before .before .before .before .before .before .before in
-    λ F x h. moves a.r (now a.texts) a.t a.s (now a.text) s.pre.0.0 s.pre.0.1 j.if2.out j.if2.from j.if2.to after-exchange.exchange.result _
+    λ F x h. moves a.r (now a.texts) a.t a.s (now a.text) s.pre.0.0 s.pre.0.1 j.if2.out j.if2.from j.if2.to
+    after-exchange.exchange.result _
     (inside j) after-exchange.exchange.ensures else3.if3.left a.back F x h else1.if1.left (faces j)
 
 pub retrace-spec : {M : Type 1} → statement M

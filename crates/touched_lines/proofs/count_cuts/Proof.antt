@@ -13,7 +13,8 @@ use Rattle.touched_lines.proofs.count_cuts.Tie as tie
 
 abbrev Inv-loop : tie.InvT-loop
 Inv-loop p m records₀ bytes₀ i₀ records bytes i =
-    (i ≤ length p) × (records ≤ i) × (bytes ≤ i) × (records + cutsIn catalogue m (split (drop i p)) ≡ cutsIn catalogue m (split p)) ×
+    (i ≤ length p) × (records ≤ i) × (bytes ≤ i)
+    × (records + cutsIn catalogue m (split (drop i p)) ≡ cutsIn catalogue m (split p)) ×
     (bytes + bytesIn catalogue m (split (drop i p)) ≡ bytesIn catalogue m (split p))
 
 abbrev μ-loop : tie.MeasureT-loop

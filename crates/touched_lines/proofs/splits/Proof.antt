@@ -13,7 +13,8 @@ use Rattle.touched_lines.proofs.splits.Statement.{statement}
 use Rattle.touched_lines.proofs.splits.Tie as tie
 
 abbrev Inv-loop : tie.InvT-loop
-Inv-loop p m i₀ i = (i ≤ length p) × (valid (drop i p) ≡ true) × (splits catalogue m (split p) ≡ splits catalogue m (split (drop i p)))
+Inv-loop p m i₀ i = (i ≤ length p) × (valid (drop i p) ≡ true)
+    × (splits catalogue m (split p) ≡ splits catalogue m (split (drop i p)))
 
 abbrev μ-loop : tie.MeasureT-loop
 μ-loop p m i₀ i = length p + 1 - i

@@ -19,7 +19,8 @@ use Rattle.undo.proofs.undo_noted.Tie as tie
 
 abbrev Inv-loop : tie.InvT-loop
 Inv-loop f text₀ records texts sizes n s₀ g₀ left₀ ends₀ begins₀ text s g left ends begins =
-    Walking f (lentBy text₀ records texts s₀ g₀) true (undoWalk (length text₀) n (stateOf catalogue f (lentBy text₀ records texts s₀ g₀)))
+    Walking f (lentBy text₀ records texts s₀ g₀) true
+    (undoWalk (length text₀) n (stateOf catalogue f (lentBy text₀ records texts s₀ g₀)))
     text s g (left - 1) ends begins × SizesOf f sizes ((stateOf catalogue f (lentBy text records texts s g)) .log .undo)
 
 abbrev μ-loop : tie.MeasureT-loop

@@ -11,7 +11,8 @@ apart-requires c κs = search needs
 returns : tie.Need-returns
 returns c =
     c.apart.ensures
-    ∙ may-not c.before.before.args.f c.before.before.args.kind c.before.before.args.place c.before.before.args.old c.before.before.args.new
+    ∙ may-not c.before.before.args.f c.before.before.args.kind c.before.before.args.place c.before.before.args.old
+    c.before.before.args.new
     c.before.before.args.self c.before.before.args.joins (not-true _ c.before.if1.taken)
 
 apart-requires-2 : tie.Need-apart-requires-2
