@@ -7,7 +7,9 @@ ghost use Rattle.lists.specs.Lists.{part};
 ghost use Rattle.utf8.specs.Chars.{valid, boundary, In};
 ghost use Rattle.unicode.specs.Repertoire.{catalogue};
 ghost use Rattle.unicode.specs.Text.{isText};
+ghost use Rattle.cluster.specs.Clusters.{clustersOf};
 ghost use Rattle.journal.specs.Change.{edit};
+ghost use Rattle.journal.specs.Recording.{isSingle};
 ghost use Rattle.numbers.specs.Numbers.{top};
 ghost use Rattle.journal.specs.Layout.{okChange};
 ghost use Rattle.formats.specs.Formats.{Fit};
@@ -29,7 +31,6 @@ use checks::Line;
 use checks::refusal_in;
 use formats::Format;
 use recording::Tail;
-use recording::last_for;
 use recording::tail_at;
 use utf8::is_boundary;
 
@@ -213,7 +214,8 @@ pub fn change(
     )
 }
 
-// The bytes from a place up to another cut out, and the cursor left where they were.
+// The bytes from a place up to another cut out, and the cursor left where they were. The newest record, which a single character
+// that is cut may join, begins at last.
 pub fn cut_out(
     f: Format,
     text: &mut [u8],
@@ -221,21 +223,20 @@ pub fn cut_out(
     texts: &mut [u8],
     line: Line,
     log: Log,
+    last: usize,
     from: usize,
     to: usize,
 ) -> EditAnswer
     requires { ⌜ Fit f ⌝ }
     requires { ⌜ Ready f (lent (now text) (now records) (now texts) line log) ⌝ }
     requires { ⌜ In (take (line .len) (now text)) from to ⌝ }
+    requires { ⌜ (isSingle catalogue (clustersOf catalogue (part (take (line .len) (now text)) from to)) ≡ true → LastAt catalogue f (take (log .undo .records) (now records)) last) ⌝ }
     ensures { λ r. ⌜ Edited f (lent (now (text .entry)) (now (records .entry)) (now (texts .entry)) line log)
         (edited catalogue f (sizesOf (lent (now (text .entry)) (now (records .entry)) (now (texts .entry)) line log)) (length (now (text .entry))) (once (cutting from to) from)
         (stateOf catalogue f (lent (now (text .entry)) (now (records .entry)) (now (texts .entry)) line log)))
         r (now (text .exit)) (now (records .exit)) (now (texts .exit)) ⌝ }
 {
     let joins = is_single(&text[from..to]);
-    let u = log.undo;
-    let ur = u.records;
-    let last = last_for(f, joins, &records[..ur]);
     let none = [0u8; 1];
     change(
         f,
@@ -292,15 +293,15 @@ pub fn put_in(
     )
 }
 
-// The dry run begins with the undo list as it is.
-pub fn room_now(f: Format, records: &[u8], texts: &[u8], log: Log) -> Room
+// The dry run begins with the undo list as it is, whose newest record begins at last.
+pub fn room_now(f: Format, records: &[u8], texts: &[u8], log: Log, last: usize) -> Room
     requires { ⌜ Fit f ⌝ }
     requires { ⌜ Log·Ready f (Log·lent (now records) (now texts) log) ⌝ }
+    requires { ⌜ LastAt catalogue f (take (log .undo .records) (now records)) last ⌝ }
     ensures { λ r. ⌜ r ≡ record { fits = true; tail = tailOf f (valueOf catalogue f (Log·lent (now (records .entry)) (now (texts .entry)) log) .undo) } ⌝ }
 {
     let u = log.undo;
     let ur = u.records;
-    let last = last_for(f, true, &records[..ur]);
     Room {
         fits: true,
         tail: tail_at(f, &records[..ur], last, u.texts),

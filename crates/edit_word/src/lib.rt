@@ -8,6 +8,7 @@ ghost use Rattle.utf8.specs.Chars.{In};
 ghost use Rattle.unicode.specs.Repertoire.{catalogue};
 ghost use Rattle.unicode.specs.Case.{cased};
 ghost use Rattle.formats.specs.Formats.{textMax};
+ghost use Rattle.records.specs.Walks.{LastAt};
 ghost use Rattle.edit.specs.Plan.{edited};
 ghost use Rattle.edit.specs.Calls.{lent, formatOf, sizesOf, stateOf, Edited, Ready};
 ghost use Rattle.places.specs.Places.{wordsOn};
@@ -18,6 +19,7 @@ use checks::Line;
 use cluster::next_cluster;
 use edit::EditAnswer;
 use edit::Own;
+use edit::check;
 use edit::refusal;
 use edit::says;
 use formats::Format;
@@ -97,10 +99,12 @@ fn case_from(
     texts: &mut [u8],
     line: Line,
     log: Log,
+    last: usize,
     action: WordAction,
     from: usize,
 ) -> EditAnswer
     requires { ⌜ Ready f (lent (now text) (now records) (now texts) line log) ⌝ }
+    requires { ⌜ LastAt catalogue f (take (log .undo .records) (now records)) last ⌝ }
     requires { ⌜ In (take (line .len) (now text)) from from ⌝ }
     ensures { λ r. ⌜ Edited f (lent (now (text .entry)) (now (records .entry)) (now (texts .entry)) line log)
         (edited catalogue f (sizesOf (lent (now (text .entry)) (now (records .entry)) (now (texts .entry)) line log)) (length (now (text .entry)))
@@ -120,6 +124,7 @@ fn case_from(
         texts,
         line,
         log,
+        last,
         from,
         to,
         from,
@@ -143,15 +148,16 @@ fn edit_word_by(
         r (now (text .exit)) (now (records .exit)) (now (texts .exit)) ⌝ }
 {
     let f = format_for(text.len());
-    let k = refusal(f, text, records, texts, line, log, Own::none());
-    if k != 0 {
-        return says(k, line, log);
+    let c = check(f, text, records, texts, line, log, Own::none());
+    if c.number != 0 {
+        return says(c.number, line, log);
     }
+    let newest = c.newest;
     let len = line.len;
     let cursor = line.cursor;
     let found = skip_whitespace(&text[..len], cursor);
     match found {
-        Found::At(p) => case_from(f, text, records, texts, line, log, action, p),
+        Found::At(p) => case_from(f, text, records, texts, line, log, newest.last, action, p),
         Found::Nothing => says(1, line, log),
     }
 }

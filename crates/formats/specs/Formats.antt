@@ -1,6 +1,6 @@
 -- Which format and which limits go with a text buffer of C bytes: document 01, check 2 and "Log and ring".
 use Prim.Native.Nat.{ℕ, _≤_, _<_}
-use Rattle.numbers.specs.Numbers.{top}
+use Rattle.numbers.specs.Numbers.{Width, top}
 use Rattle.formats.specs.declared.Format.{Format}
 
 -- numbers of 2 bytes and kinds 1 to 5; texts of 4,096 bytes, records of 32,768, log texts of 65,535. Check 2 refuses every C over 4,096
@@ -20,8 +20,8 @@ recordsMax = 32768
 
 -- what the laws ask of a format
 pub record Fit (F : Format) : Type 0 where
-  -- numbers of at most 4 bytes, and kinds of a byte
-  pub width : F .width ≤ 4
+  -- numbers of 2 or of 4 bytes, and kinds of a byte
+  pub width : Width (F .width)
   pub offset : F .offset ≤ 16
   -- every place and every length is such a number
   pub places : F .text ≤ F .texts

@@ -1,23 +1,32 @@
 -- The lines dedented one after the other, each by a cut at its front. Assumes nothing.
 use native.Mathlib.Omega.{arith}
 use mathlib.Core.Path.{_≡_, refl, sym, ap, ap₂, _∙_}
-use mathlib.Core.Bool.{true}
-use mathlib.Core.List.{List, _∷_}
+use mathlib.Core.Bool.{Bool, true, false}
+use mathlib.Core.List.{List, [], _∷_}
 use Prim.Native.Nat.{ℕ, _+_, _-_, _≤_}
 use lib.ListN.{length, take, drop}
+use lib.Seq.{take-take}
 use Rattle.lists.specs.Lists.{part}
-use Rattle.utf8.specs.Chars.{In}
+use Rattle.lists.proofs.Bools.{by-less}
+use Rattle.utf8.specs.Chars.{In, valid}
+use Rattle.utf8.proofs.Forms.{first-end}
 use Rattle.unicode.specs.Repertoire.{catalogue}
+use Rattle.unicode.proofs.Text.{text-valid}
+use Rattle.unicode.proofs.Catalogue.{catalogue-lawful}
+use Rattle.cluster.specs.Clusters.{clustersOf}
+use Rattle.cluster.proofs.Clusters.{clusters-none}
 use Rattle.lines.specs.Lines.{endOfLine}
+use Rattle.journal.specs.Recording.{isSingle}
 use Rattle.formats.specs.declared.Format.{Format}
 use Rattle.formats.specs.Formats.{textMax}
 use Rattle.edit.specs.declared.EditAnswer.{EditAnswer}
 use Rattle.edit.specs.Plan.{cutting, once, Plan, edited}
 use Rattle.edit.specs.Calls.{Lent, lent, textOf, sizesOf, stateOf, Edited}
-use Rattle.edit.proofs.Parts.{raw-part}
+use Rattle.edit.proofs.Parts.{raw-part, part-text}
 use Rattle.touched_lines.specs.Touched.{split, deleting}
-use Rattle.touched_lines.proofs.White.{deleting-in}
+use Rattle.touched_lines.proofs.White.{deleting-in, deleting-white}
 use Rattle.indent_plans.specs.IndentPlans.{dedentLines, dedented, dedentCursor}
+use Rattle.indent_plans.proofs.Counted.{white-apart}
 use Rattle.indent_plans.proofs.Lines.{way, none, ahead, Lines, end-in, line-in, last-line, more-lines, first-line, line-width, suits, turn}
 
 -- the first of the lines from at up to end ends at e; d bytes are cut from it, and the cursor goes to c
@@ -41,6 +50,20 @@ module _ {F : Format} (m : ℕ) {l₀ l : Lent} {p : Plan} {cursor at end : ℕ}
 
   pub cut-suits : In t at (at + d)
   cut-suits = suits k (first-cut (first-line k q .1) refl)
+
+  abbrev single : List ℕ → Bool
+  single s = isSingle catalogue (clustersOf catalogue s)
+
+  -- white space, which is never merged
+  pub cut-apart : isSingle catalogue (clustersOf catalogue (part t at (at + d))) ≡ false
+  cut-apart =
+      let x = part t at e in
+      let n : at + d - at ≡ d = omega arith in
+      let p : part t at (at + d) ≡ take d x = ap (λ (i : ℕ). take i (drop at t)) n ∙ sym (take-take d (e - at) (drop at t) (omega (arith, cut-in))) in
+      let v = ap valid (sym p) ∙ text-valid catalogue (part t at (at + d)) (part-text catalogue t at (at + d) cut-suits (k .left .ready .text)) in
+      by-less _ 0 d
+      (λ h. ap single p ∙ white-apart catalogue (catalogue-lawful .whites) x d h (omega (arith, deleting-white catalogue m x, size)) (omega (arith, deleting-in catalogue m x, size)) v)
+      (λ h. let z : d ≡ 0 = omega arith in ap single (p ∙ ap (λ (i : ℕ). take i x) z) ∙ ap (isSingle catalogue) (clusters-none catalogue [] (first-end [] 0 (omega arith))))
 
   module _ {r : EditAnswer} {tn rb tb : List ℕ} (o : Edited F l (edited catalogue F (sizesOf l) (length (l .text)) (once (cutting at (at + d)) at) (stateOf catalogue F l)) r tn rb tb)
       (lt : length tn ≡ length (l .text)) (lr : length rb ≡ length (l .records)) (ls : length tb ≡ length (l .texts)) {c : ℕ} (h : c ≡ dedented at d cursor) where

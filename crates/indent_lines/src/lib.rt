@@ -175,7 +175,7 @@ fn dedent_lines(
     loop {
         let e = end_of_line(&text[..end], at);
         let d = deleting(&text[at..e], m);
-        let a = cut_out(f, text, records, texts, line_now, log_now, at, at + d);
+        let a = cut_out(f, text, records, texts, line_now, log_now, 0, at, at + d);
         line_now = a.line;
         log_now = a.log;
         cursor = dedented(at, d, cursor);

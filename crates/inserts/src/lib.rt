@@ -11,7 +11,6 @@ use edit::EditAnswer;
 use edit::Own;
 use edit::check;
 use edit::is_split;
-use edit::refusal;
 use edit::says;
 use formats::format_for;
 use keymap::RepeatCount;
@@ -52,11 +51,21 @@ pub fn insert(
     let mut buf = [0u8; 4];
     let size = encode_at(&mut buf, 0, ch);
     let s = &buf[..size];
+    let newest = c.newest;
     if n == 1 {
-        let newest = c.newest;
         return type_char(f, text, records, texts, line, log, newest.last, ch, s);
     }
-    put_copies(f, text, records, texts, line, log, s, n as usize)
+    put_copies(
+        f,
+        text,
+        records,
+        texts,
+        line,
+        log,
+        newest.last,
+        s,
+        n as usize,
+    )
 }
 
 // Wrong answers ruled out: an empty text answered 0; 10 where n copies pass the text's room (9).
@@ -81,14 +90,25 @@ pub fn yank(
         split: false,
     };
     let f = format_for(text.len());
-    let k = refusal(f, text, records, texts, line, log, own);
-    if k != 0 {
-        return says(k, line, log);
+    let c = check(f, text, records, texts, line, log, own);
+    if c.number != 0 {
+        return says(c.number, line, log);
     }
+    let newest = c.newest;
     if buf.len() == 0 {
         return says(1, line, log);
     }
-    put_copies(f, text, records, texts, line, log, buf, n as usize)
+    put_copies(
+        f,
+        text,
+        records,
+        texts,
+        line,
+        log,
+        newest.last,
+        buf,
+        n as usize,
+    )
 }
 
 // The place so many bytes before another, 0 where there are not so many.
@@ -137,10 +157,11 @@ pub fn yank_pop(
         split,
     };
     let f = format_for(text.len());
-    let k = refusal(f, text, records, texts, line, log, own);
-    if k != 0 {
-        return says(k, line, log);
+    let c = check(f, text, records, texts, line, log, own);
+    if c.number != 0 {
+        return says(c.number, line, log);
     }
+    let newest = c.newest;
     let number = empty_is(buf);
     cut_and_put(
         f,
@@ -149,6 +170,7 @@ pub fn yank_pop(
         texts,
         line,
         log,
+        newest.last,
         at,
         pos,
         at,
@@ -180,10 +202,25 @@ pub fn update(
         split: !is_boundary(buf, pos),
     };
     let f = format_for(text.len());
-    let k = refusal(f, text, records, texts, line, log, own);
-    if k != 0 {
-        return says(k, line, log);
+    let c = check(f, text, records, texts, line, log, own);
+    if c.number != 0 {
+        return says(c.number, line, log);
     }
+    let newest = c.newest;
     let len = line.len;
-    cut_and_put(f, text, records, texts, line, log, 0, len, 0, buf, pos, 0)
+    cut_and_put(
+        f,
+        text,
+        records,
+        texts,
+        line,
+        log,
+        newest.last,
+        0,
+        len,
+        0,
+        buf,
+        pos,
+        0,
+    )
 }

@@ -14,6 +14,7 @@ use copies::copied;
 use copies::is_foreign;
 use edit::EditAnswer;
 use edit::Own;
+use edit::check;
 use edit::cut_out;
 use edit::refusal;
 use edit::says;
@@ -104,15 +105,16 @@ pub fn kill_movement(
         split: false,
     };
     let f = format_for(text.len());
-    let k = refusal(f, text, records, texts, line, log, own);
-    if k != 0 {
-        return says(k, line, log);
+    let c = check(f, text, records, texts, line, log, own);
+    if c.number != 0 {
+        return says(c.number, line, log);
     }
+    let newest = c.newest;
     let len = line.len;
     let cursor = line.cursor;
     let r = kill_range(&text[..len], cursor, m);
     match r {
-        Range::Places(a, b) => cut_out(f, text, records, texts, line, log, a, b),
+        Range::Places(a, b) => cut_out(f, text, records, texts, line, log, newest.last, a, b),
         Range::Nowhere => says(1, line, log),
     }
 }

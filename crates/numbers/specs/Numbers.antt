@@ -1,7 +1,14 @@
 -- Numbers of w bytes, little-endian: document 01, "Log and ring".
-use Prim.Native.Nat.{ℕ, zero, suc, _+_, _*_, _/_, _%_}
+use Prim.Native.Nat.{ℕ, zero, suc, _+_, _*_, _/_, _%_, _≤_}
+use mathlib.Core.Path.{_≡_}
 use mathlib.Core.List.{List, [], _∷_}
 use lib.ListN.{getD}
+
+-- the bytes of a number that is read: 2, or 4 in the wide records of document 02, order 10
+pub record Width (w : ℕ) : Type 0 where
+  pub least : 2 ≤ w
+  pub most : w ≤ 4
+  pub even : w % 2 ≡ 0
 
 -- numbers of w bytes are below top w
 abbrev pub top : ℕ → ℕ

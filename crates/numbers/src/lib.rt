@@ -3,7 +3,7 @@ ghost use mathlib.Core.Path.{_≡_};
 ghost use Prim.Native.Nat.{_+_, _≤_, _<_};
 ghost use lib.ListN.{length};
 ghost use lib.Seq.{sets};
-ghost use Rattle.numbers.specs.Numbers.{top, le, numAt};
+ghost use Rattle.numbers.specs.Numbers.{Width, top, le, numAt};
 
 // A byte as a number.
 pub fn wide(b: u8) -> usize
@@ -12,21 +12,17 @@ pub fn wide(b: u8) -> usize
     b as usize
 }
 
-// The little-endian number in the width bytes at a place. Two bytes are read at once.
+// The little-endian number in the width bytes at a place: 2 bytes, or 4.
 pub fn read_num(s: &[u8], at: usize, width: usize) -> usize
-    requires { ⌜ (width ≤ 4) × (at + width ≤ length (now s)) ⌝ }
+    requires { ⌜ Width width ⌝ }
+    requires { ⌜ at + width ≤ length (now s) ⌝ }
     ensures { λ r. ⌜ (r ≡ numAt width (now (s .entry)) at) × (r < 4294967296) ⌝ }
 {
+    let low = wide(s[at]) + 256 * wide(s[at + 1]);
     if width == 2 {
-        return wide(s[at]) + 256 * wide(s[at + 1]);
+        return low;
     }
-    let mut value: usize = 0;
-    let mut left = width;
-    while 0 < left {
-        left -= 1;
-        value = wide(s[at + left]) + 256 * value;
-    }
-    value
+    low + 65536 * (wide(s[at + 2]) + 256 * wide(s[at + 3]))
 }
 
 // A number of width bytes, little-endian, at a place.

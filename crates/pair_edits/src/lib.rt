@@ -7,6 +7,7 @@ ghost use lib.ListN.{length, take};
 ghost use Rattle.unicode.specs.Repertoire.{catalogue};
 ghost use Rattle.journal.specs.Undo.{fits};
 ghost use Rattle.formats.specs.Formats.{Fit, textMax};
+ghost use Rattle.records.specs.Walks.{LastAt};
 ghost use Rattle.edit.specs.Plan.{cutting, pasted, AllSuit, listAfter, edited};
 ghost use Rattle.edit.specs.Calls.{lent, sizesOf, stateOf, Edited, Ready};
 use changeset::Log;
@@ -29,6 +30,7 @@ fn pair_fits(
     texts: &[u8],
     line: Line,
     log: Log,
+    last: usize,
     from: usize,
     to: usize,
     at: usize,
@@ -36,20 +38,21 @@ fn pair_fits(
 ) -> bool
     requires { ⌜ Fit f ⌝ }
     requires { ⌜ Ready f (lent (now text) (now records) (now texts) line log) ⌝ }
+    requires { ⌜ LastAt catalogue f (take (log .undo .records) (now records)) last ⌝ }
     requires { ⌜ AllSuit catalogue (cutting from to ∷ pasted at (now new) ∷ []) (take (line .len) (now text)) ⌝ }
     requires { ⌜ length (now new) ≤ textMax ⌝ }
     ensures { λ r. ⌜ r ≡ fits f (sizesOf (lent (now (text .entry)) (now (records .entry)) (now (texts .entry)) line log))
         (listAfter catalogue (cutting from to ∷ pasted at (now (new .entry)) ∷ []) (take (line .len) (now (text .entry))) (stateOf catalogue f (lent (now (text .entry)) (now (records .entry)) (now (texts .entry)) line log) .log .undo)) ⌝ }
 {
     let joins = is_single(&text[from..to]);
-    let a = room_now(f, records, texts, log);
+    let a = room_now(f, records, texts, log, last);
     let b = room_cut(f, records, texts, a, joins, from, to);
     let c = room_put(f, records, texts, b, at, new.len());
     c.fits
 }
 
 // The bytes from a place up to another cut out, then a text put in at a place of what is left. 9 and 10 are decided over both
-// before a byte changes.
+// before a byte changes. The newest record begins at last.
 pub fn cut_and_put(
     f: Format,
     text: &mut [u8],
@@ -57,6 +60,7 @@ pub fn cut_and_put(
     texts: &mut [u8],
     line: Line,
     log: Log,
+    last: usize,
     from: usize,
     to: usize,
     at: usize,
@@ -66,6 +70,7 @@ pub fn cut_and_put(
 ) -> EditAnswer
     requires { ⌜ Fit f ⌝ }
     requires { ⌜ Ready f (lent (now text) (now records) (now texts) line log) ⌝ }
+    requires { ⌜ LastAt catalogue f (take (log .undo .records) (now records)) last ⌝ }
     requires { ⌜ AllSuit catalogue (cutting from to ∷ pasted at (now new) ∷ []) (take (line .len) (now text)) ⌝ }
     ensures { λ r. ⌜ Edited f (lent (now (text .entry)) (now (records .entry)) (now (texts .entry)) line log)
         (edited catalogue f (sizesOf (lent (now (text .entry)) (now (records .entry)) (now (texts .entry)) line log)) (length (now (text .entry))) (record { pieces = cutting from to ∷ pasted at (now (new .entry)) ∷ []; cursor = cursor; number = number; from = 0; to = 0 })
@@ -76,17 +81,17 @@ pub fn cut_and_put(
     if text.len() - left < new.len() {
         return says(9, line, log);
     }
-    if !pair_fits(f, text, records, texts, line, log, from, to, at, new) {
+    if !pair_fits(f, text, records, texts, line, log, last, from, to, at, new) {
         return says(10, line, log);
     }
-    let a = cut_out(f, text, records, texts, line, log, from, to);
+    let a = cut_out(f, text, records, texts, line, log, last, from, to);
     let cut = a.line;
     let cut_log = a.log;
     let b = put_in(f, text, records, texts, cut, cut_log, at, new, at);
-    let last = b.line;
+    let put = b.line;
     let log = b.log;
     let line = Line {
-        len: last.len,
+        len: put.len,
         cursor,
     };
     EditAnswer {

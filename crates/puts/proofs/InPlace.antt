@@ -70,7 +70,7 @@ module _ (F : Format) (l : Lent) (h : Ready F l) (s : List ℕ) (is : isText cat
     now-roomy = subst (Roomy catalogue F (sizesOf l) u) (sym e₀) (dry-now F l h)
 
     pub copies-in-range : r₀ .fits ≡ true → InRange (r₀ .tail) 0 (length s * n)
-    copies-in-range = dry-in-range F l h u r₀ now-roomy 0 (length s * n) (top-max (F .width) (h .log .fit .width)) (omega arith) (omega (arith, h .small, h .log .fit .text, h .used))
+    copies-in-range = dry-in-range F l h u r₀ now-roomy 0 (length s * n) (top-max (F .width) (h .log .fit .width .most)) (omega arith) (omega (arith, h .small, h .log .fit .text, h .used))
 
     module _ (r₁ : Room) (e₁ : r₁ ≡ roomPut F (sizesOf l) pos (length s * n) r₀) where
       room-is : r₁ .fits ≡ fits F (sizesOf l) (recorded catalogue (pasted pos x) t u)

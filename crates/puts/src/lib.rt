@@ -63,7 +63,8 @@ pub fn type_char(
     )
 }
 
-// n copies of a text put in at the cursor, in place: 9 is answered before one is made, and 10 before a byte changes.
+// n copies of a text put in at the cursor, in place: 9 is answered before one is made, and 10 before a byte changes. The newest
+// record begins at last.
 pub fn put_copies(
     f: Format,
     text: &mut [u8],
@@ -71,10 +72,12 @@ pub fn put_copies(
     texts: &mut [u8],
     line: Line,
     log: Log,
+    last: usize,
     s: &[u8],
     n: usize,
 ) -> EditAnswer
     requires { ⌜ Ready f (lent (now text) (now records) (now texts) line log) ⌝ }
+    requires { ⌜ LastAt catalogue f (take (log .undo .records) (now records)) last ⌝ }
     requires { ⌜ isText catalogue (now s) ≡ true ⌝ }
     requires { ⌜ (length (now s) ≤ textMax) × (n ≤ 65535) ⌝ }
     ensures { λ r. ⌜ Edited f (lent (now (text .entry)) (now (records .entry)) (now (texts .entry)) line log)
@@ -94,7 +97,7 @@ pub fn put_copies(
     if size == 0 {
         return put_in(f, text, records, texts, line, log, pos, &none[..0], end);
     }
-    let now = room_now(f, records, texts, log);
+    let now = room_now(f, records, texts, log, last);
     let room = room_put(f, records, texts, now, pos, size);
     if !room.fits {
         return says(10, line, log);

@@ -8,12 +8,11 @@ use checks::Line;
 use edit::EditAnswer;
 use edit::Own;
 use edit::change;
+use edit::check;
 use edit::cut_out;
 use edit::is_split;
-use edit::refusal;
 use edit::says;
 use formats::format_for;
-use recording::last_for;
 use unicode::check_text;
 
 // Wrong answers ruled out: the redo list kept for an empty range; the cursor left behind the cut.
@@ -40,11 +39,12 @@ pub fn delete_range(
         split,
     };
     let f = format_for(text.len());
-    let k = refusal(f, text, records, texts, line, log, own);
-    if k != 0 {
-        return says(k, line, log);
+    let c = check(f, text, records, texts, line, log, own);
+    if c.number != 0 {
+        return says(c.number, line, log);
     }
-    cut_out(f, text, records, texts, line, log, start, end)
+    let newest = c.newest;
+    cut_out(f, text, records, texts, line, log, newest.last, start, end)
 }
 
 // Wrong answers ruled out: nothing by nothing left unrecorded; the cursor left at the start.
@@ -72,13 +72,11 @@ pub fn replace(
         split,
     };
     let f = format_for(text.len());
-    let k = refusal(f, text, records, texts, line, log, own);
-    if k != 0 {
-        return says(k, line, log);
+    let c = check(f, text, records, texts, line, log, own);
+    if c.number != 0 {
+        return says(c.number, line, log);
     }
-    let u = log.undo;
-    let ur = u.records;
-    let last = last_for(f, true, &records[..ur]);
+    let newest = c.newest;
     change(
         f,
         text,
@@ -86,7 +84,7 @@ pub fn replace(
         texts,
         line,
         log,
-        last,
+        newest.last,
         true,
         5,
         start,

@@ -5,7 +5,6 @@ ghost use Prim.Native.Nat.{_+_, _≤_};
 ghost use lib.Dec.{eqb};
 ghost use lib.ListN.{length};
 ghost use Rattle.unicode.specs.Repertoire.{catalogue};
-ghost use Rattle.journal.specs.Hold.{Listed};
 ghost use Rattle.formats.specs.Formats.{Fit};
 ghost use Rattle.records.specs.Walks.{LastAt};
 ghost use Rattle.records.specs.Written.{editSize};
@@ -13,7 +12,6 @@ ghost use Rattle.recording.specs.Tails.{tail, TailAt, TailFor, apart as 
 use buffer::insert_bytes;
 use formats::Format;
 use records::edit_size;
-use records::last_start;
 use records::read_record;
 use records::write_record;
 
@@ -66,18 +64,6 @@ pub fn tail_at(f: Format, records: &[u8], last: usize, texts: usize) -> Tail
         old: r.old,
         new: r.new,
     }
-}
-
-// Where the newest record begins, as far as recording a change asks: it is sought only where the change may be joined to it.
-pub fn last_for(f: Format, joins: bool, records: &[u8]) -> usize
-    requires { ⌜ Fit f ⌝ }
-    requires { ⌜ Listed catalogue f (now records) ⌝ }
-    ensures { λ r. ⌜ (joins ≡ true → LastAt catalogue f (now (records .entry)) r) ⌝ }
-{
-    if !joins {
-        return 0;
-    }
-    last_start(f, records)
 }
 
 // The tail as far as recording a change looks at it: the newest record is read only where the change may be joined to it.

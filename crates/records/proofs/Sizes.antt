@@ -15,10 +15,7 @@ use Rattle.journal.proofs.Holds.{records-snoc}
 use Rattle.journal.proofs.Newest.{reverse-snoc, undo-reverse}
 use Rattle.journal.proofs.Undo.{records-size}
 use Rattle.journal.proofs.Walk.{Next, Come, come-start, come-next}
-use Rattle.records.specs.declared.Record.{Record}
-use Rattle.records.specs.Records.{IsWhole, recordAt}
 use Rattle.records.specs.Walks.{SizesOf}
-use Rattle.records.proofs.Records.{size-is}
 
 -- what is kept of the changes us: their number, and their records' sizes
 abbrev pub NotedOf : Format → ℕ → List ℕ → List Change → Type 0
@@ -57,9 +54,8 @@ module _ (R : Repertoire) (F : Format) (rs : List ℕ) where
   pub noted-none : (sizes : List ℕ) → Come R F rs 0 (NotedOf F 0 sizes)
   noted-none sizes = come-start R F rs (NotedOf F 0 sizes) (refl, tt)
 
-  -- the record r is passed
-  pub noted-on : (at i : ℕ) (r : Record) (sizes : List ℕ) → at < length rs → r ≡ recordAt F rs at → IsWhole F rs at → at + r .size ≤ length sizes → Come R F rs at (NotedOf F i sizes)
-      → Come R F rs (at + r .size) (NotedOf F (i + 1) (set sizes (at + r .size - 1) (r .size)))
-  noted-on at i r sizes h e w l =
-      come-next R F rs at (r .size) (NotedOf F i sizes) (NotedOf F (i + 1) (set sizes (at + r .size - 1) (r .size))) h (size-is F rs at r e w)
-      (λ us c x. noted-more F rs sizes at (r .size) us c x (size-is F rs at r e w) l i)
+  -- a record of n bytes is passed
+  pub noted-on : (at i n : ℕ) (sizes : List ℕ) → at < length rs → n ≡ sizeOf F (getD rs at 0) → at + n ≤ length sizes → Come R F rs at (NotedOf F i sizes)
+      → Come R F rs (at + n) (NotedOf F (i + 1) (set sizes (at + n - 1) n))
+  noted-on at i n sizes h e l =
+      come-next R F rs at n (NotedOf F i sizes) (NotedOf F (i + 1) (set sizes (at + n - 1) n)) h e (λ us c x. noted-more F rs sizes at n us c x e l i)

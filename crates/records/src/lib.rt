@@ -311,8 +311,7 @@ pub fn note_sizes(f: Format, records: &[u8], sizes: &mut [u8]) -> usize
     let mut count: usize = 0;
     let mut at: usize = 0;
     while at < records.len() {
-        let r = read_record(f, records, at);
-        let size = r.size;
+        let size = record_size(f, wide(records[at]));
         at += size;
         sizes[at - 1] = size as u8;
         count += 1;

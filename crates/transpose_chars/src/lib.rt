@@ -8,6 +8,7 @@ ghost use lib.ListN.{length, take};
 ghost use Rattle.utf8.specs.Chars.{valid, boundary, In};
 ghost use Rattle.unicode.specs.Repertoire.{catalogue};
 ghost use Rattle.cluster.specs.Clusters.{clustersOf};
+ghost use Rattle.records.specs.Walks.{LastAt};
 ghost use Rattle.edit.specs.Plan.{edited};
 ghost use Rattle.edit.specs.Calls.{lent, formatOf, sizesOf, stateOf, Edited, Ready};
 ghost use Rattle.transpose_chars.specs.TransposeChars.{startsAt, exchange, transposeCharsCall};
@@ -17,7 +18,7 @@ use checks::Line;
 use cluster::next_cluster;
 use edit::EditAnswer;
 use edit::Own;
-use edit::refusal;
+use edit::check;
 use edit::says;
 use formats::Format;
 use formats::TEXT_MAX;
@@ -57,9 +58,11 @@ fn exchange_at(
     texts: &mut [u8],
     line: Line,
     log: Log,
+    last: usize,
     p: usize,
 ) -> EditAnswer
     requires { ⌜ Ready f (lent (now text) (now records) (now texts) line log) ⌝ }
+    requires { ⌜ LastAt catalogue f (take (log .undo .records) (now records)) last ⌝ }
     requires { ⌜ In (take (line .len) (now text)) p p ⌝ }
     ensures { λ r. ⌜ Edited f (lent (now (text .entry)) (now (records .entry)) (now (texts .entry)) line log)
         (edited catalogue f (sizesOf (lent (now (text .entry)) (now (records .entry)) (now (texts .entry)) line log)) (length (now (text .entry))) (exchange catalogue (take (line .len) (now (text .entry))) p)
@@ -80,6 +83,7 @@ fn exchange_at(
         texts,
         line,
         log,
+        last,
         p,
         q,
         o,
@@ -113,15 +117,16 @@ pub fn transpose_chars(
         r (now (text .exit)) (now (records .exit)) (now (texts .exit)) ⌝ }
 {
     let f = format_for(text.len());
-    let k = refusal(f, text, records, texts, line, log, Own::none());
-    if k != 0 {
-        return says(k, line, log);
+    let c = check(f, text, records, texts, line, log, Own::none());
+    if c.number != 0 {
+        return says(c.number, line, log);
     }
+    let newest = c.newest;
     let len = line.len;
     let cursor = line.cursor;
     let found = starts_at(&text[..len], cursor);
     match found {
-        Found::At(p) => exchange_at(f, text, records, texts, line, log, p),
+        Found::At(p) => exchange_at(f, text, records, texts, line, log, newest.last, p),
         Found::Nothing => says(1, line, log),
     }
 }

@@ -2,6 +2,7 @@
 // unfit is turned away by a number of document 01.
 ghost use lib.ListN.{length, take};
 ghost use Rattle.unicode.specs.Repertoire.{catalogue};
+ghost use Rattle.records.specs.Walks.{LastAt};
 ghost use Rattle.edit.specs.Plan.{edited};
 ghost use Rattle.edit.specs.Calls.{lent, formatOf, sizesOf, stateOf, Edited, Ready};
 ghost use Rattle.word_pairs.specs.WordPairs.{wordsPlan, Apart};
@@ -11,7 +12,7 @@ use changeset::Log;
 use checks::Line;
 use edit::EditAnswer;
 use edit::Own;
-use edit::refusal;
+use edit::check;
 use edit::says;
 use formats::Format;
 use formats::TEXT_MAX;
@@ -30,9 +31,11 @@ fn exchange_words(
     texts: &mut [u8],
     line: Line,
     log: Log,
+    last: usize,
     w: Words,
 ) -> EditAnswer
     requires { ⌜ Ready f (lent (now text) (now records) (now texts) line log) ⌝ }
+    requires { ⌜ LastAt catalogue f (take (log .undo .records) (now records)) last ⌝ }
     requires { ⌜ Apart (take (line .len) (now text)) w ⌝ }
     ensures { λ r. ⌜ Edited f (lent (now (text .entry)) (now (records .entry)) (now (texts .entry)) line log)
         (edited catalogue f (sizesOf (lent (now (text .entry)) (now (records .entry)) (now (texts .entry)) line log)) (length (now (text .entry))) (wordsPlan (take (line .len) (now (text .entry))) w)
@@ -49,7 +52,7 @@ fn exchange_words(
     if text.len() - left < n1 {
         return says(9, line, log);
     }
-    if !words_fit(f, text, records, texts, line, log, w) {
+    if !words_fit(f, text, records, texts, line, log, last, w) {
         return says(10, line, log);
     }
     let mut first = [0u8; TEXT_MAX];
@@ -63,6 +66,7 @@ fn exchange_words(
         texts,
         line,
         log,
+        last,
         w,
         &first[..n1],
         &second[..n2],
@@ -83,10 +87,11 @@ pub fn transpose_words(
         r (now (text .exit)) (now (records .exit)) (now (texts .exit)) ⌝ }
 {
     let f = format_for(text.len());
-    let k = refusal(f, text, records, texts, line, log, Own::none());
-    if k != 0 {
-        return says(k, line, log);
+    let c = check(f, text, records, texts, line, log, Own::none());
+    if c.number != 0 {
+        return says(c.number, line, log);
     }
+    let newest = c.newest;
     let len = line.len;
     let cursor = line.cursor;
     let w = words_around(&text[..len], cursor, n);
@@ -100,5 +105,5 @@ pub fn transpose_words(
             log,
         );
     }
-    exchange_words(f, text, records, texts, line, log, w)
+    exchange_words(f, text, records, texts, line, log, newest.last, w)
 }

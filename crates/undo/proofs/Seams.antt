@@ -60,7 +60,7 @@ module _ {F : Format} {l : Lent} (h : Ready F l) where
 
   -- the log's texts are no more than a number says
   pub texts-below : length (l .texts) < 4294967296
-  texts-below = omega (arith, h .log .texts, h .log .fit .lengths, top-max (F .width) (h .log .fit .width))
+  texts-below = omega (arith, h .log .texts, h .log .fit .lengths, top-max (F .width) (h .log .fit .width .most))
 
   -- the seam between two lists that make the same row
   seam : (u r : List Change) → reverse (v .undo) ++ map turn (v .redo) ≡ reverse u ++ map turn r → {at t : ℕ} → at ≡ length (encodeRecords F (reverse u)) → t ≡ length (encodeTexts (reverse u))

@@ -52,7 +52,7 @@ module _ (F : Format) (l : Lent) (h : Ready F l) (w : Words) (p : Apart (textOf 
 
   -- a number of the log is a machine's
   top-in : top (F .width) ≤ 4294967296
-  top-in = top-max (F .width) (h .log .fit .width)
+  top-in = top-max (F .width) (h .log .fit .width .most)
 
   -- the two words are short
   pub small1 : w .end1 - w .beg1 ≤ textMax

@@ -7,6 +7,7 @@ ghost use Rattle.lists.specs.Lists.{part};
 ghost use Rattle.utf8.specs.Chars.{valid, boundary};
 ghost use Rattle.unicode.specs.Repertoire.{catalogue};
 ghost use Rattle.journal.specs.Undo.{fits};
+ghost use Rattle.records.specs.Walks.{LastAt};
 ghost use Rattle.edit.specs.Plan.{listAfter, tooLong, edited};
 ghost use Rattle.edit.specs.Calls.{lent, sizesOf, stateOf, Edited, Ready};
 ghost use Rattle.word_pairs.specs.WordPairs.{wordsAround, wordsPlan, Apart};
@@ -24,6 +25,7 @@ use formats::Format;
 use keymap::RepeatCount;
 use places::words_back;
 use places::words_on;
+use records::last_start;
 
 // Two words of a text, by their places.
 pub struct Words {
@@ -50,7 +52,7 @@ pub fn words_around(s: &[u8], pos: usize, n: RepeatCount) -> Words
     }
 }
 
-// Has the log room for the two words put in for each other?
+// Has the log room for the two words put in for each other? The newest record begins at last.
 pub fn words_fit(
     f: Format,
     text: &[u8],
@@ -58,9 +60,11 @@ pub fn words_fit(
     texts: &[u8],
     line: Line,
     log: Log,
+    last: usize,
     w: Words,
 ) -> bool
     requires { ⌜ Ready f (lent (now text) (now records) (now texts) line log) ⌝ }
+    requires { ⌜ LastAt catalogue f (take (log .undo .records) (now records)) last ⌝ }
     requires { ⌜ Apart (take (line .len) (now text)) w ⌝ }
     requires { ⌜ tooLong (length (now text)) (wordsPlan (take (line .len) (now text)) w .pieces) (take (line .len) (now text)) ≡ false ⌝ }
     ensures { λ r. ⌜ r ≡ fits f (sizesOf (lent (now (text .entry)) (now (records .entry)) (now (texts .entry)) line log))
@@ -72,7 +76,7 @@ pub fn words_fit(
     let d = w.end2;
     let second = is_single(&text[c..d]);
     let first = is_single(&text[a..b]);
-    let r0 = room_now(f, records, texts, log);
+    let r0 = room_now(f, records, texts, log, last);
     let r1 = room_cut(f, records, texts, r0, second, c, d);
     let r2 = room_put(f, records, texts, r1, c, b - a);
     let r3 = room_cut(f, records, texts, r2, first, a, b);
@@ -80,7 +84,8 @@ pub fn words_fit(
     r4.fits
 }
 
-// The two words put in for each other, where there is room for all four changes.
+// The two words put in for each other, where there is room for all four changes. The newest record begins at last; after the
+// first two changes it is another, which is sought.
 pub fn put_words(
     f: Format,
     text: &mut [u8],
@@ -88,11 +93,13 @@ pub fn put_words(
     texts: &mut [u8],
     line: Line,
     log: Log,
+    last: usize,
     w: Words,
     first: &[u8],
     second: &[u8],
 ) -> EditAnswer
     requires { ⌜ Ready f (lent (now text) (now records) (now texts) line log) ⌝ }
+    requires { ⌜ LastAt catalogue f (take (log .undo .records) (now records)) last ⌝ }
     requires { ⌜ Apart (take (line .len) (now text)) w ⌝ }
     requires { ⌜ now first ≡ part (take (line .len) (now text)) (w .beg1) (w .end1) ⌝ }
     requires { ⌜ now second ≡ part (take (line .len) (now text)) (w .beg2) (w .end2) ⌝ }
@@ -108,21 +115,24 @@ pub fn put_words(
     let b = w.end1;
     let c = w.beg2;
     let d = w.end2;
-    let r1 = cut_out(f, text, records, texts, line, log, c, d);
+    let r1 = cut_out(f, text, records, texts, line, log, last, c, d);
     let line1 = r1.line;
     let log1 = r1.log;
     let r2 = put_in(f, text, records, texts, line1, log1, c, first, c);
     let line2 = r2.line;
     let log2 = r2.log;
-    let r3 = cut_out(f, text, records, texts, line2, log2, a, b);
+    let u = log2.undo;
+    let ur = u.records;
+    let last2 = last_start(f, &records[..ur]);
+    let r3 = cut_out(f, text, records, texts, line2, log2, last2, a, b);
     let line3 = r3.line;
     let log3 = r3.log;
     let r4 = put_in(f, text, records, texts, line3, log3, a, second, a);
     let line4 = r4.line;
     let log4 = r4.log;
-    let last = Line {
+    let moved = Line {
         len: line4.len,
         cursor: d,
     };
-    says(0, last, log4)
+    says(0, moved, log4)
 }

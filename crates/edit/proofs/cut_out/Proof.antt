@@ -1,7 +1,6 @@
-use Rattle.changeset.specs.Calls as log
-use Rattle.changeset.proofs.Recorded.{listed}
 use native.Mathlib.Omega.{arith}
-use mathlib.Core.Path.{refl, sym, ap, _∙_}
+use mathlib.Core.Path.{_≡_, refl, sym, ap, _∙_}
+use mathlib.Core.Bool.{Bool, true}
 use mathlib.Core.List.{List}
 use Prim.Native.Nat.{ℕ, _≤_}
 use lib.ListN.{length, take}
@@ -22,51 +21,48 @@ use borrow.Author.Needs.{needs}
 use Rattle.edit.proofs.cut_out.Statement.{statement}
 use Rattle.edit.proofs.cut_out.Tie as tie
 
+-- the text, and what is cut from it
+abbrev text : tie.Start → List ℕ
+text s = take s.args.line.len (now s.args.text)
+
+abbrev cut : tie.Start → List ℕ
+cut s = part (text s) s.args.from s.args.to
+
+within : (s : tie.Start) → s.args.to ≤ s.args.line.len
+within s = omega (arith, s.pre.1.1.0.1, length-take-le s.args.line.len (now s.args.text) s.pre.1.0.used)
+
+cut-text : (s : tie.Start) → isText catalogue (cut s) ≡ true
+cut-text s = part-text catalogue (text s) s.args.from s.args.to s.pre.1.1.0 s.pre.1.0.text
+
+abbrev single : List ℕ → Bool
+single s = isSingle catalogue (clustersOf catalogue s)
+
+joined : (c : tie.After-is-single) → c.is-single.result ≡ single (cut c.before.before.before.before.before.before)
+joined c =
+    let entry = c .before .before .before .before .before .before in
+    c.is-single.ensures
+    ∙ ap single (sym (raw-part (now entry.args.text) entry.args.line.len entry.args.from entry.args.to (within entry)))
+
 sub-is-single : tie.Need-sub-is-single
 sub-is-single c =
     let entry = c .before .before .before in
-    entry.pre.1.1.0
+    entry.pre.1.1.0.0
 
 part-is-single-start : tie.Need-part-is-single-start
 part-is-single-start c =
     let entry = c .before .before .before .before in
-    entry.pre.1.1.0
+    entry.pre.1.1.0.0
 
 part-is-single-end : tie.Need-part-is-single-end
 part-is-single-end c =
     let entry = c .before .before .before .before in
-    omega (
-      arith,
-      (let w : entry.args.to ≤ entry.args.line.len = omega
-          (arith, entry.pre.1.1.1, length-take-le entry.args.line.len (now entry.args.text) entry.pre.1.0.used) in
-          w),
-      entry.pre.1.0.used,
-    )
+    omega (arith, within entry, entry.pre.1.0.used)
 
 is-single-requires : tie.Need-is-single-requires
 is-single-requires c κs =
     let entry = c .before .before .before .before .before in
-    ap (isText catalogue)
-    (sym
-    (raw-part (now entry.args.text) entry.args.line.len entry.args.from entry.args.to
-    (let w : entry.args.to ≤ entry.args.line.len = omega
-    (arith, entry.pre.1.1.1, length-take-le entry.args.line.len (now entry.args.text) entry.pre.1.0.used) in
-    w)))
-    ∙ (part-text catalogue (take entry.args.line.len (now entry.args.text)) entry.args.from entry.args.to entry.pre.1.1
-    entry.pre.1.0.text)
-
-slice-reshare-prefix-last-for : tie.Need-slice-reshare-prefix-last-for
-slice-reshare-prefix-last-for c = search needs
-
-slice-aggregate-last-for : tie.Need-slice-aggregate-last-for
-slice-aggregate-last-for c =
-    let entry = c .before .before .before .before .before .before .before .before in
-    sym (length-take-le _ _ (omega (arith, entry.pre.1.0.log.hold.room)))
-
-last-for-requires : tie.Need-last-for-requires
-last-for-requires c κs =
-    let entry = c .before .before .before .before .before .before .before .before in
-    (entry.pre.0, listed entry.args.f (log.lent (now entry.args.records) (now entry.args.texts) entry.args.log) entry.pre.1.0.log)
+    ap (isText catalogue) (sym (raw-part (now entry.args.text) entry.args.line.len entry.args.from entry.args.to (within entry)))
+    ∙ cut-text entry
 
 array-share-prefix-none : tie.Need-array-share-prefix-none
 array-share-prefix-none c = search needs
@@ -76,25 +72,16 @@ slice-aggregate-change c = search needs
 
 change-requires : tie.Need-change-requires
 change-requires c κs =
-    let after-last-for = c .before .before .before .before in
-    let entry = after-last-for .before .before .before .before .before .before .before .before .before in (
+    let after-is-single = c .before .before .before .before in
+    let entry = after-is-single .before .before .before .before .before .before in (
       entry.pre.0,
       (
         entry.pre.1.0,
         (
+          (entry.pre.1.1.0.0, within entry),
           (
-            entry.pre.1.1.0,
-            (let w : entry.args.to ≤ entry.args.line.len = omega
-                (arith, entry.pre.1.1.1, length-take-le entry.args.line.len (now entry.args.text) entry.pre.1.0.used) in
-                w),
-          ),
-          (
-            after-last-for.last-for.ensures,
-            (
-              record { kind = refl; place = refl; old = refl; new = refl },
-              (part-text catalogue (take entry.args.line.len (now entry.args.text)) entry.args.from entry.args.to
-                  entry.pre.1.1 entry.pre.1.0.text),
-            ),
+            (λ e. entry.pre.1.1.1 (sym (joined after-is-single) ∙ e)),
+            (record { kind = refl; place = refl; old = refl; new = refl }, cut-text entry),
           ),
         ),
       ),
@@ -112,25 +99,18 @@ same-length-3 c = search needs
 returns : tie.Need-returns
 returns c =
     let after-change = c .before .before .before .before .before .before in
-    let after-is-single = after-change .before .before .before .before .before .before .before .before in
+    let after-is-single = after-change .before .before .before .before .before in
     let entry = after-is-single .before .before .before .before .before .before in
     let l = lent (now entry.args.text) (now entry.args.records) (now entry.args.texts) entry.args.line entry.args.log in
     let stateOf1 = stateOf catalogue entry.args.f l in
     let sizesOf1 = sizesOf l in
     outcome-as entry.args.f l
     (changeOut entry.args.f sizesOf1 (length (now entry.args.text)) after-is-single.is-single.result
-    (delete entry.args.from (part (take entry.args.line.len (now entry.args.text)) entry.args.from entry.args.to)) entry.args.from stateOf1)
+    (delete entry.args.from (cut entry)) entry.args.from stateOf1)
     (edited catalogue entry.args.f sizesOf1 (length (now entry.args.text)) (once (cutting entry.args.from entry.args.to) entry.args.from)
     stateOf1) _ _ _ _
     (once-cut catalogue entry.args.f sizesOf1 (length (now entry.args.text)) entry.args.from stateOf1 entry.args.from entry.args.to
-    after-is-single.is-single.result entry.pre.1.1
-    (after-is-single.is-single.ensures
-    ∙ ap (λ (s : List ℕ). isSingle catalogue (clustersOf catalogue s))
-    (sym
-    (raw-part (now entry.args.text) entry.args.line.len entry.args.from entry.args.to
-    (let w : entry.args.to ≤ entry.args.line.len = omega
-    (arith, entry.pre.1.1.1, length-take-le entry.args.line.len (now entry.args.text) entry.pre.1.0.used) in
-    w))))) after-change.change.ensures
+    after-is-single.is-single.result entry.pre.1.1.0 (joined after-is-single)) after-change.change.ensures
 
 pub cut-out-spec : {M : Type 1} → statement M
 cut-out-spec =
@@ -140,9 +120,6 @@ cut-out-spec =
     part-is-single-start
     part-is-single-end
     is-single-requires
-    slice-reshare-prefix-last-for
-    slice-aggregate-last-for
-    last-for-requires
     array-share-prefix-none
     slice-aggregate-change
     change-requires

@@ -30,13 +30,13 @@ sub-write-case : tie.Need-sub-write-case
 sub-write-case c =
     let entry = c .before .before .before .before .before in
     (word-in entry.args.f (lent (now entry.args.text) (now entry.args.records) (now entry.args.texts) entry.args.line entry.args.log)
-    entry.pre.0 entry.args.from entry.pre.1 c.words-on.result c.words-on.ensures) .0
+    entry.pre.0 entry.args.from entry.pre.1.1 c.words-on.result c.words-on.ensures) .0
 
 part-write-case-start : tie.Need-part-write-case-start
 part-write-case-start c =
     let entry = c .before .before .before .before .before .before in
     (word-in entry.args.f (lent (now entry.args.text) (now entry.args.records) (now entry.args.texts) entry.args.line entry.args.log)
-    entry.pre.0 entry.args.from entry.pre.1 c.before.words-on.result c.before.words-on.ensures) .0
+    entry.pre.0 entry.args.from entry.pre.1.1 c.before.words-on.result c.before.words-on.ensures) .0
 
 part-write-case-end : tie.Need-part-write-case-end
 part-write-case-end c =
@@ -46,7 +46,7 @@ part-write-case-end c =
       arith,
       (let w : c.before.words-on.result ≤ entry.args.line.len = omega (
         arith,
-        (word-in entry.args.f l entry.pre.0 entry.args.from entry.pre.1 c.before.words-on.result c.before.words-on.ensures) .1,
+        (word-in entry.args.f l entry.pre.0 entry.args.from entry.pre.1.1 c.before.words-on.result c.before.words-on.ensures) .1,
         (length-kept entry.args.f l entry.pre.0),
       ) in
           w),
@@ -61,7 +61,7 @@ write-case-requires c κs =
     let after-words-on = c .before .before .before in
     let entry = after-words-on .before .before .before .before .before in
     let l = lent (now entry.args.text) (now entry.args.records) (now entry.args.texts) entry.args.line entry.args.log in
-    let word-in1 = word-in entry.args.f l entry.pre.0 entry.args.from entry.pre.1 after-words-on.words-on.result
+    let word-in1 = word-in entry.args.f l entry.pre.0 entry.args.from entry.pre.1.1 after-words-on.words-on.result
     after-words-on.words-on.ensures in
     let length-kept1 = length-kept entry.args.f l entry.pre.0 in (
       omega (
@@ -85,7 +85,7 @@ add-behind c =
     let after-words-on = c .before .before .before .before .before in
     let entry = after-words-on .before .before .before .before .before in
     let l = lent (now entry.args.text) (now entry.args.records) (now entry.args.texts) entry.args.line entry.args.log in
-    let word-in1 = word-in entry.args.f l entry.pre.0 entry.args.from entry.pre.1 after-words-on.words-on.result
+    let word-in1 = word-in entry.args.f l entry.pre.0 entry.args.from entry.pre.1.1 after-words-on.words-on.result
     after-words-on.words-on.ensures in
     omega (
       arith,
@@ -124,19 +124,22 @@ cut-and-put-requires c κs =
       entry.pre.0.log.fit,
       (
         entry.pre.0,
-        recased-suits entry.args.f l entry.pre.0 entry.args.from entry.pre.1 after-words-on.words-on.result
-            after-words-on.words-on.ensures entry.args.action _
-            (after-write-case.write-case.ensures.bytes
-            ∙ ap (inCase catalogue entry.args.action)
-            (sym
-            (raw-part (now entry.args.text) entry.args.line.len entry.args.from after-words-on.words-on.result
-            (let w : after-words-on.words-on.result ≤ entry.args.line.len = omega (
-              arith,
-              (word-in entry.args.f l entry.pre.0 entry.args.from entry.pre.1 after-words-on.words-on.result
-                  after-words-on.words-on.ensures) .1,
-              (length-kept entry.args.f l entry.pre.0),
-            ) in
-            w)))),
+        (
+          entry.pre.1.0,
+          recased-suits entry.args.f l entry.pre.0 entry.args.from entry.pre.1.1 after-words-on.words-on.result
+              after-words-on.words-on.ensures entry.args.action _
+              (after-write-case.write-case.ensures.bytes
+              ∙ ap (inCase catalogue entry.args.action)
+              (sym
+              (raw-part (now entry.args.text) entry.args.line.len entry.args.from after-words-on.words-on.result
+              (let w : after-words-on.words-on.result ≤ entry.args.line.len = omega (
+                arith,
+                (word-in entry.args.f l entry.pre.0 entry.args.from entry.pre.1.1 after-words-on.words-on.result
+                    after-words-on.words-on.ensures) .1,
+                (length-kept entry.args.f l entry.pre.0),
+              ) in
+              w)))),
+        ),
       ),
     )
 
@@ -156,7 +159,7 @@ returns c =
     let after-words-on = after-write-case .before .before .before .before in
     let entry = after-words-on .before .before .before .before .before in
     let l = lent (now entry.args.text) (now entry.args.records) (now entry.args.texts) entry.args.line entry.args.log in
-    recased entry.args.f l entry.pre.0 entry.args.from entry.pre.1 after-words-on.words-on.result after-words-on.words-on.ensures
+    recased entry.args.f l entry.pre.0 entry.args.from entry.pre.1.1 after-words-on.words-on.result after-words-on.words-on.ensures
     entry.args.action _
     (after-write-case.write-case.ensures.bytes
     ∙ ap (inCase catalogue entry.args.action)
@@ -164,7 +167,7 @@ returns c =
     (raw-part (now entry.args.text) entry.args.line.len entry.args.from after-words-on.words-on.result
     (let w : after-words-on.words-on.result ≤ entry.args.line.len = omega (
       arith,
-      (word-in entry.args.f l entry.pre.0 entry.args.from entry.pre.1 after-words-on.words-on.result after-words-on.words-on.ensures) .1,
+      (word-in entry.args.f l entry.pre.0 entry.args.from entry.pre.1.1 after-words-on.words-on.result after-words-on.words-on.ensures) .1,
       (length-kept entry.args.f l entry.pre.0),
     ) in
     w)))) _ (after-write-case.write-case.ensures.counted ∙ ap length (sym after-write-case.write-case.ensures.bytes)) _ _ _ _

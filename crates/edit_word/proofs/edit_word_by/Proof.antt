@@ -5,6 +5,7 @@ use lib.Seq.{length-take-le}
 use denote.Ref.{now}
 use Rattle.unicode.specs.Repertoire.{catalogue}
 use Rattle.checks.specs.Checks.{ownTests}
+use Rattle.records.proofs.Walks.{newest-last}
 use Rattle.formats.specs.declared.Format.{Format}
 use Rattle.formats.proofs.Formats.{fit-for}
 use Rattle.edit.specs.declared.Own.{Own}
@@ -25,8 +26,8 @@ format-for-requires c κs = search needs
 none-requires : tie.Need-none-requires
 none-requires c κs = search needs
 
-refusal-requires : tie.Need-refusal-requires
-refusal-requires c κs =
+check-requires : tie.Need-check-requires
+check-requires c κs =
     let after-format-for = c .before .before .before .before in
     fit-for _ after-format-for.format-for.ensures
 
@@ -44,34 +45,36 @@ same-length-3 c = search needs
 
 returns : tie.Need-returns
 returns c =
-    let after-none = c .before .before .before in
+    let after-none = c .before .before .before .before in
     let after-format-for = after-none .before .before .before .before in
     let entry = after-format-for .before .before .before .before in
     let l = lent (now entry.args.text) (now entry.args.records) (now entry.args.texts) entry.args.line entry.args.log in
     in-format l (λ (F : Format). editWordBy catalogue F l (actionIs entry.args.action)) after-format-for.format-for.ensures
-    (refused-by after-format-for.format-for.result l c.before.before.refusal.result
+    (refused-by after-format-for.format-for.result l c.before.before.before.check.result.number
     (checked catalogue after-format-for.format-for.result l (ownTests false false false))
     (edited catalogue after-format-for.format-for.result (sizesOf l) (length (now entry.args.text))
     (editWordPlan catalogue (take entry.args.line.len (now entry.args.text)) entry.args.action entry.args.line.cursor)
     (stateOf catalogue after-format-for.format-for.result l)) _
     (sym
-    (c.before.before.refusal.ensures.0
+    (c.before.before.before.check.ensures.0
     ∙ ap (λ (o : Own). checked catalogue after-format-for.format-for.result l (own o)) after-none.none.ensures)) c.before.if1.taken
     c.says.ensures)
 
 slice-reshare-prefix-skip-whitespace : tie.Need-slice-reshare-prefix-skip-whitespace
-slice-reshare-prefix-skip-whitespace c = ((c .before .refusal .ensures .1 (c .if1 .left))) .used
+slice-reshare-prefix-skip-whitespace c = ((c .before .before .before .check .ensures .1 .0 (c .before .if1 .left))) .used
 
 slice-aggregate-skip-whitespace : tie.Need-slice-aggregate-skip-whitespace
-slice-aggregate-skip-whitespace c = sym (length-take-le _ _ (((c .before .before .refusal .ensures .1 (c .before .if1 .left))) .used))
+slice-aggregate-skip-whitespace c =
+    let else1 = c .before .before in
+    sym (length-take-le _ _ ((else1.before.before.check.ensures.1.0 else1.if1.left) .used))
 
 skip-whitespace-requires : tie.Need-skip-whitespace-requires
 skip-whitespace-requires c κs =
-    let after-format-for = c .before .before .before .before .before .before .before in
+    let after-format-for = c .before .before .before .before .before .before .before .before .before in
     let entry = after-format-for .before .before .before .before in
     (cursor-in after-format-for.format-for.result
     (lent (now entry.args.text) (now entry.args.records) (now entry.args.texts) entry.args.line entry.args.log)
-    (c.before.before.refusal.ensures.1 c.before.if1.left)) .1
+    (c.before.before.before.before.check.ensures.1.0 c.before.before.if1.left)) .1
 
 enum-known-found : tie.Need-enum-known-found
 enum-known-found c = search needs
@@ -80,16 +83,19 @@ case-from-requires : tie.Need-case-from-requires
 case-from-requires c κs =
     let after-found = c .before .before .before .before in
     let after-skip-whitespace = after-found.before.before in
-    let else1 = after-skip-whitespace.before.before in
-    let after-refusal = else1.before in
-    let after-format-for = after-refusal .before .before .before .before .before in
+    let else1 = after-skip-whitespace.before.before.before in
+    let after-check = else1.before.before in
+    let after-format-for = after-check .before .before .before .before .before in
     let entry = after-format-for .before .before .before .before in (
-      (after-refusal.refusal.ensures.1 else1.if1.left),
-      skip-in catalogue (take entry.args.line.len (now entry.args.text)) entry.args.action entry.args.line.cursor _
-          after-skip-whitespace.skip-whitespace.ensures ((after-refusal.refusal.ensures.1 else1.if1.left) .text)
-          (cursor-in after-format-for.format-for.result
-          (lent (now entry.args.text) (now entry.args.records) (now entry.args.texts) entry.args.line entry.args.log)
-          (after-refusal.refusal.ensures.1 else1.if1.left)) _ after-found.found.given.1,
+      (after-check.check.ensures.1.0 else1.if1.left),
+      (
+        newest-last catalogue after-format-for.format-for.result _ _ (after-check.check.ensures.1.1 else1.if1.left),
+        skip-in catalogue (take entry.args.line.len (now entry.args.text)) entry.args.action entry.args.line.cursor _
+            after-skip-whitespace.skip-whitespace.ensures ((after-check.check.ensures.1.0 else1.if1.left) .text)
+            (cursor-in after-format-for.format-for.result
+            (lent (now entry.args.text) (now entry.args.records) (now entry.args.texts) entry.args.line entry.args.log)
+            (after-check.check.ensures.1.0 else1.if1.left)) _ after-found.found.given.1,
+      ),
     )
 
 enum-told : tie.Need-enum-told
@@ -112,21 +118,21 @@ returns-2 c =
     let after-case-from = c .before .before .before .before .before .before in
     let after-found = after-case-from .before .before .before .before .before in
     let after-skip-whitespace = after-found.before.before in
-    let else1 = after-skip-whitespace.before.before in
-    let after-refusal = else1.before in
-    let after-none = after-refusal.before in
+    let else1 = after-skip-whitespace.before.before.before in
+    let after-check = else1.before.before in
+    let after-none = after-check.before in
     let after-format-for = after-none .before .before .before .before in
     let entry = after-format-for .before .before .before .before in
     let l = lent (now entry.args.text) (now entry.args.records) (now entry.args.texts) entry.args.line entry.args.log in
     let stateOf1 = stateOf catalogue after-format-for.format-for.result l in
     let sizesOf1 = sizesOf l in
     in-format l (λ (F : Format). editWordBy catalogue F l (actionIs entry.args.action)) after-format-for.format-for.ensures
-    (passed-by after-format-for.format-for.result l after-refusal.refusal.result
+    (passed-by after-format-for.format-for.result l after-check.check.result.number
     (checked catalogue after-format-for.format-for.result l (ownTests false false false))
     (edited catalogue after-format-for.format-for.result sizesOf1 (length (now entry.args.text))
     (editWordPlan catalogue (take entry.args.line.len (now entry.args.text)) entry.args.action entry.args.line.cursor) stateOf1) _ _ _ _
     (sym
-    (after-refusal.refusal.ensures.0
+    (after-check.check.ensures.0
     ∙ ap (λ (o : Own). checked catalogue after-format-for.format-for.result l (own o)) after-none.none.ensures)) else1.if1.left
     (outcome-as after-format-for.format-for.result l _ _ _ _ _ _
     (ap (λ (p : Plan). edited catalogue after-format-for.format-for.result sizesOf1 (length (now entry.args.text)) p stateOf1)
@@ -145,27 +151,27 @@ same-length-9 c = search needs
 returns-3 : tie.Need-returns-3
 returns-3 c =
     let after-skip-whitespace = c .before .before .before in
-    let else1 = after-skip-whitespace.before.before in
-    let after-refusal = else1.before in
-    let after-none = after-refusal.before in
+    let else1 = after-skip-whitespace.before.before.before in
+    let after-check = else1.before.before in
+    let after-none = after-check.before in
     let after-format-for = after-none .before .before .before .before in
     let entry = after-format-for .before .before .before .before in
     let l = lent (now entry.args.text) (now entry.args.records) (now entry.args.texts) entry.args.line entry.args.log in
     let stateOf1 = stateOf catalogue after-format-for.format-for.result l in
     let sizesOf1 = sizesOf l in
     in-format l (λ (F : Format). editWordBy catalogue F l (actionIs entry.args.action)) after-format-for.format-for.ensures
-    (passed-by after-format-for.format-for.result l after-refusal.refusal.result
+    (passed-by after-format-for.format-for.result l after-check.check.result.number
     (checked catalogue after-format-for.format-for.result l (ownTests false false false))
     (edited catalogue after-format-for.format-for.result sizesOf1 (length (now entry.args.text))
     (editWordPlan catalogue (take entry.args.line.len (now entry.args.text)) entry.args.action entry.args.line.cursor) stateOf1) _ _ _ _
     (sym
-    (after-refusal.refusal.ensures.0
+    (after-check.check.ensures.0
     ∙ ap (λ (o : Own). checked catalogue after-format-for.format-for.result l (own o)) after-none.none.ensures)) else1.if1.left
     (outcome-as after-format-for.format-for.result l _ _ _ _ _ _
     (ap (λ (p : Plan). edited catalogue after-format-for.format-for.result sizesOf1 (length (now entry.args.text)) p stateOf1)
     (case-none catalogue (take entry.args.line.len (now entry.args.text)) entry.args.action entry.args.line.cursor _
     after-skip-whitespace.skip-whitespace.ensures c.before.enum-told.given.1))
-    (stays after-format-for.format-for.result l (after-refusal.refusal.ensures.1 else1.if1.left) _ c.says2.ensures)))
+    (stays after-format-for.format-for.result l (after-check.check.ensures.1.0 else1.if1.left) _ c.says2.ensures)))
 
 pub edit-word-by-spec : {M : Type 1} → statement M
 edit-word-by-spec =
@@ -173,7 +179,7 @@ edit-word-by-spec =
     (tie.spec
     format-for-requires
     none-requires
-    refusal-requires
+    check-requires
     says-requires
     same-length
     same-length-2

@@ -5,10 +5,11 @@ use mathlib.Core.Path.{sym, _∙_}
 use lib.Seq.{length-take-le}
 use denote.Ref.{now}
 use borrow.Author.Needs.{needs}
+use Rattle.lists.proofs.Bools.{never}
 use Rattle.formats.specs.Formats.{textMax}
 use Rattle.edit.specs.Calls.{lent}
 use Rattle.indent_plans.proofs.Lines.{way, linesPlan, Lines, lines-begin, end-in, line-in, lines-end}
-use Rattle.indent_lines.proofs.Cuts.{cut-in, cut-suits, last-cut, next-cut}
+use Rattle.indent_lines.proofs.Cuts.{cut-in, cut-suits, cut-apart, last-cut, next-cut}
 use Rattle.indent_lines.proofs.dedent_lines.Statement.{statement}
 use Rattle.indent_lines.proofs.dedent_lines.Tie as tie
 
@@ -76,7 +77,8 @@ cut-out-requires c κs =
     let d = c .before .before .before in
     let e = d .before .before .before in
     let k = e .before .before .loop .inv in
-    (k.left.ready.log.fit, (k.left.ready, cut-suits _ k e.end-of-line.ensures.0 d.deleting.ensures.0))
+    let apart = cut-apart _ k e.end-of-line.ensures.0 d.deleting.ensures.0 in
+    (k.left.ready.log.fit, (k.left.ready, (cut-suits _ k e.end-of-line.ensures.0 d.deleting.ensures.0, (λ j. never _ _ j apart))))
 
 dedented-requires : tie.Need-dedented-requires Inv-loop μ-loop
 dedented-requires c κs = search needs

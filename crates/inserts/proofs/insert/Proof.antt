@@ -44,9 +44,9 @@ same-length-3 c = search needs
 returns : tie.Need-returns
 returns c =
     let after-check = c .before .before .before in
-    let after-format-for = c .before .before .before .before .before .before .before in
-    let after-check-char = c .before .before .before .before .before .before .before .before in
-    let entry = c .before .before .before .before .before .before .before .before .before .before .before .before in
+    let after-format-for = after-check .before .before .before .before in
+    let after-check-char = after-format-for .before in
+    let entry = after-check-char .before .before .before .before in
     let l = lent (now entry.args.text) (now entry.args.records) (now entry.args.texts) entry.args.line entry.args.log in
     in-format l (λ (F : Format). insertCall catalogue F l entry.args.ch entry.args.n) after-format-for.format-for.ensures
     (insert-refused after-format-for.format-for.result l entry.args.ch entry.args.n after-check.check.result.number
@@ -62,11 +62,11 @@ encode-at-requires c κs = search needs
 array-share-prefix-buf : tie.Need-array-share-prefix-buf
 array-share-prefix-buf c =
     let after-encode-at = c .before in
-    let else1 = c .before .before .before in
-    let after-check = c .before .before .before .before .before in
-    let after-format-for = c .before .before .before .before .before .before .before .before .before in
-    let after-check-char = c .before .before .before .before .before .before .before .before .before .before in
-    let entry = c .before .before .before .before .before .before .before .before .before .before .before .before .before .before in
+    let else1 = after-encode-at .before .before in
+    let after-check = else1 .before .before in
+    let after-format-for = after-check .before .before .before .before in
+    let after-check-char = after-format-for .before in
+    let entry = after-check-char .before .before .before .before in
     typed-within entry.args.ch
     (insert-char after-format-for.format-for.result
     (lent (now entry.args.text) (now entry.args.records) (now entry.args.texts) entry.args.line entry.args.log) entry.args.ch entry.args.n
@@ -76,11 +76,11 @@ array-share-prefix-buf c =
 slice-aggregate-s : tie.Need-slice-aggregate-s
 slice-aggregate-s c =
     let after-encode-at = c .before .before in
-    let else1 = c .before .before .before .before in
-    let after-check = c .before .before .before .before .before .before in
-    let after-format-for = c .before .before .before .before .before .before .before .before .before .before in
-    let after-check-char = c .before .before .before .before .before .before .before .before .before .before .before in
-    let entry = c .before .before .before .before .before .before .before .before .before .before .before .before .before .before .before in
+    let else1 = after-encode-at .before .before in
+    let after-check = else1 .before .before in
+    let after-format-for = after-check .before .before .before .before in
+    let after-check-char = after-format-for .before in
+    let entry = after-check-char .before .before .before .before in
     sym
     (length-take-le _ _
     (typed-within entry.args.ch
@@ -92,14 +92,11 @@ slice-aggregate-s c =
 type-char-requires : tie.Need-type-char-requires
 type-char-requires c κs =
     let after-encode-at = c .before .before .before .before .before .before .before in
-    let else1 = c .before .before .before .before .before .before .before .before .before in
-    let after-check = c .before .before .before .before .before .before .before .before .before .before .before in
-    let after-format-for = c .before .before .before .before .before .before .before .before .before .before .before .before .before
-    .before .before in
-    let after-check-char = c .before .before .before .before .before .before .before .before .before .before .before .before .before
-    .before .before .before in
-    let entry = c .before .before .before .before .before .before .before .before .before .before .before .before .before .before
-    .before .before .before .before .before .before in
+    let else1 = after-encode-at .before .before in
+    let after-check = else1 .before .before in
+    let after-format-for = after-check .before .before .before .before in
+    let after-check-char = after-format-for .before in
+    let entry = after-check-char .before .before .before .before in
     let insert-char1 = insert-char after-format-for.format-for.result
     (lent (now entry.args.text) (now entry.args.records) (now entry.args.texts) entry.args.line entry.args.log) entry.args.ch entry.args.n
     after-check.check.result.number after-check-char.check-char.result after-check.check.ensures.0 after-check-char.check-char.ensures
@@ -127,17 +124,12 @@ same-length-6 c = search needs
 returns-2 : tie.Need-returns-2
 returns-2 c =
     let after-type-char = c .before .before .before .before .before .before in
-    let then2 = c .before .before .before .before .before .before .before .before .before .before .before in
-    let else1 = c .before .before .before .before .before .before .before .before .before .before .before .before .before .before
-    .before .before in
-    let after-check = c .before .before .before .before .before .before .before .before .before .before .before .before .before
-    .before .before .before .before .before in
-    let after-format-for = c .before .before .before .before .before .before .before .before .before .before .before .before .before
-    .before .before .before .before .before .before .before .before .before in
-    let after-check-char = c .before .before .before .before .before .before .before .before .before .before .before .before .before
-    .before .before .before .before .before .before .before .before .before .before in
-    let entry = c .before .before .before .before .before .before .before .before .before .before .before .before .before .before
-    .before .before .before .before .before .before .before .before .before .before .before .before .before in
+    let then2 = after-type-char .before .before .before .before in
+    let else1 = then2 .before .before .before .before .before .before in
+    let after-check = else1 .before .before in
+    let after-format-for = after-check .before .before .before .before in
+    let after-check-char = after-format-for .before in
+    let entry = after-check-char .before .before .before .before in
     let l = lent (now entry.args.text) (now entry.args.records) (now entry.args.texts) entry.args.line entry.args.log in
     in-format l (λ (F : Format). insertCall catalogue F l entry.args.ch entry.args.n) after-format-for.format-for.ensures
     (insert-one after-format-for.format-for.result l entry.args.ch entry.args.n after-check.check.result.number
@@ -146,15 +138,12 @@ returns-2 c =
 
 put-copies-requires : tie.Need-put-copies-requires
 put-copies-requires c κs =
-    let after-encode-at = c .before .before .before .before .before .before in
-    let else1 = c .before .before .before .before .before .before .before .before in
-    let after-check = c .before .before .before .before .before .before .before .before .before .before in
-    let after-format-for = c .before .before .before .before .before .before .before .before .before .before .before .before .before
-    .before in
-    let after-check-char = c .before .before .before .before .before .before .before .before .before .before .before .before .before
-    .before .before in
-    let entry = c .before .before .before .before .before .before .before .before .before .before .before .before .before .before
-    .before .before .before .before .before in
+    let after-encode-at = c .before .before .before .before .before .before .before in
+    let else1 = after-encode-at .before .before in
+    let after-check = else1 .before .before in
+    let after-format-for = after-check .before .before .before .before in
+    let after-check-char = after-format-for .before in
+    let entry = after-check-char .before .before .before .before in
     let insert-char1 = insert-char after-format-for.format-for.result
     (lent (now entry.args.text) (now entry.args.records) (now entry.args.texts) entry.args.line entry.args.log) entry.args.ch entry.args.n
     after-check.check.result.number after-check-char.check-char.result after-check.check.ensures.0 after-check-char.check-char.ensures
@@ -163,8 +152,11 @@ put-copies-requires c κs =
     (omega arith) after-encode-at.encode-at.ensures in (
       after-check.check.ensures.1.0 else1.if1.left,
       (
-        ap (isText catalogue) typed-bytes1 ∙ typed-text entry.args.ch insert-char1,
-        (omega (arith, ap length typed-bytes1, encode-max entry.args.ch), omega arith),
+        newest-last catalogue after-format-for.format-for.result _ _ (after-check.check.ensures.1.1 else1.if1.left),
+        (
+          ap (isText catalogue) typed-bytes1 ∙ typed-text entry.args.ch insert-char1,
+          (omega (arith, ap length typed-bytes1, encode-max entry.args.ch), omega arith),
+        ),
       ),
     )
 
@@ -180,17 +172,13 @@ same-length-9 c = search needs
 returns-3 : tie.Need-returns-3
 returns-3 c =
     let after-put-copies = c .before .before .before .before .before .before in
-    let else2 = c .before .before .before .before .before .before .before .before .before .before in
-    let after-encode-at = c .before .before .before .before .before .before .before .before .before .before .before .before .before in
-    let else1 = c .before .before .before .before .before .before .before .before .before .before .before .before .before .before .before in
-    let after-check = c .before .before .before .before .before .before .before .before .before .before .before .before .before
-    .before .before .before .before in
-    let after-format-for = c .before .before .before .before .before .before .before .before .before .before .before .before .before
-    .before .before .before .before .before .before .before .before in
-    let after-check-char = c .before .before .before .before .before .before .before .before .before .before .before .before .before
-    .before .before .before .before .before .before .before .before .before in
-    let entry = c .before .before .before .before .before .before .before .before .before .before .before .before .before .before
-    .before .before .before .before .before .before .before .before .before .before .before .before in
+    let else2 = after-put-copies .before .before .before .before in
+    let after-encode-at = else2 .before .before .before .before in
+    let else1 = after-encode-at .before .before in
+    let after-check = else1 .before .before in
+    let after-format-for = after-check .before .before .before .before in
+    let after-check-char = after-format-for .before in
+    let entry = after-check-char .before .before .before .before in
     let l = lent (now entry.args.text) (now entry.args.records) (now entry.args.texts) entry.args.line entry.args.log in
     in-format l (λ (F : Format). insertCall catalogue F l entry.args.ch entry.args.n) after-format-for.format-for.ensures
     (insert-many after-format-for.format-for.result l entry.args.ch entry.args.n after-check.check.result.number

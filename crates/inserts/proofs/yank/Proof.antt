@@ -1,4 +1,5 @@
 use Rattle.unicode.specs.Repertoire.{catalogue}
+use Rattle.records.proofs.Walks.{newest-last}
 use Rattle.formats.specs.declared.Format.{Format}
 use Rattle.formats.proofs.Formats.{fit-for}
 use Rattle.edit.proofs.Formats.{in-format}
@@ -18,8 +19,8 @@ check-text-requires c κs = search needs
 format-for-requires : tie.Need-format-for-requires
 format-for-requires c κs = search needs
 
-refusal-requires : tie.Need-refusal-requires
-refusal-requires c κs =
+check-requires : tie.Need-check-requires
+check-requires c κs =
     let after-format-for = c .before .before .before in
     fit-for _ after-format-for.format-for.ensures
 
@@ -37,14 +38,14 @@ same-length-3 c = search needs
 
 returns : tie.Need-returns
 returns c =
-    let after-format-for = c .before .before .before .before .before .before in
+    let after-format-for = c .before .before .before .before .before .before .before in
     let after-check-text = after-format-for.before in
     let entry = after-check-text .before .before .before .before .before in
     let l = lent (now entry.args.text) (now entry.args.records) (now entry.args.texts) entry.args.line entry.args.log in
     in-format l (λ (F : Format). yankCall catalogue F l (now entry.args.buf) entry.args.n) after-format-for.format-for.ensures
-    (yank-refused after-format-for.format-for.result l (now entry.args.buf) entry.args.n c.before.before.refusal.result
-    (as-text after-format-for.format-for.result l (now entry.args.buf) false false c.before.before.refusal.result
-    after-check-text.check-text.result c.before.before.refusal.ensures.0 after-check-text.check-text.ensures) _ c.before.if1.taken
+    (yank-refused after-format-for.format-for.result l (now entry.args.buf) entry.args.n c.before.before.before.check.result.number
+    (as-text after-format-for.format-for.result l (now entry.args.buf) false false c.before.before.before.check.result.number
+    after-check-text.check-text.result c.before.before.before.check.ensures.0 after-check-text.check-text.ensures) _ c.before.if1.taken
     c.says.ensures)
 
 says-requires-2 : tie.Need-says-requires-2
@@ -61,39 +62,42 @@ same-length-6 c = search needs
 
 returns-2 : tie.Need-returns-2
 returns-2 c =
-    let after-refusal = c .before .before .before in
-    let after-format-for = after-refusal .before .before .before .before in
+    let after-check = c .before .before .before .before .before in
+    let after-format-for = after-check .before .before .before .before in
     let after-check-text = after-format-for.before in
     let entry = after-check-text .before .before .before .before .before in
     let l = lent (now entry.args.text) (now entry.args.records) (now entry.args.texts) entry.args.line entry.args.log in
     in-format l (λ (F : Format). yankCall catalogue F l (now entry.args.buf) entry.args.n) after-format-for.format-for.ensures
-    (yank-none after-format-for.format-for.result l (now entry.args.buf) entry.args.n after-refusal.refusal.result
-    (as-text after-format-for.format-for.result l (now entry.args.buf) false false after-refusal.refusal.result
-    after-check-text.check-text.result after-refusal.refusal.ensures.0 after-check-text.check-text.ensures) _ c.before.before.if1.left
-    (after-refusal.refusal.ensures.1 c.before.before.if1.left) c.before.if2.taken c.says2.ensures)
+    (yank-none after-format-for.format-for.result l (now entry.args.buf) entry.args.n after-check.check.result.number
+    (as-text after-format-for.format-for.result l (now entry.args.buf) false false after-check.check.result.number
+    after-check-text.check-text.result after-check.check.ensures.0 after-check-text.check-text.ensures) _ c.before.before.before.if1.left
+    (after-check.check.ensures.1.0 c.before.before.before.if1.left) c.before.if2.taken c.says2.ensures)
 
 put-copies-requires : tie.Need-put-copies-requires
 put-copies-requires c κs =
-    let else1 = c .before .before .before .before in
-    let after-refusal = else1.before in
-    let after-format-for = after-refusal .before .before .before .before in
+    let else1 = c .before .before .before .before .before in
+    let after-check = else1.before.before in
+    let after-format-for = after-check .before .before .before .before in
     let after-check-text = after-format-for.before in
     let entry = after-check-text .before .before .before .before .before in
     let text-passed1 = text-passed after-format-for.format-for.result
     (lent (now entry.args.text) (now entry.args.records) (now entry.args.texts) entry.args.line entry.args.log) (now entry.args.buf) false
-    false after-refusal.refusal.result after-check-text.check-text.result after-refusal.refusal.ensures.0
+    false after-check.check.result.number after-check-text.check-text.result after-check.check.ensures.0
     after-check-text.check-text.ensures else1.if1.left in (
-      after-refusal.refusal.ensures.1 else1.if1.left,
+      after-check.check.ensures.1.0 else1.if1.left,
       (
-        text-passed1.0,
+        newest-last catalogue after-format-for.format-for.result _ _ (after-check.check.ensures.1.1 else1.if1.left),
         (
-          omega (
-            arith,
-            text-passed1.1,
-            after-refusal.refusal.ensures.1 else1.if1.left .small,
-            after-refusal.refusal.ensures.1 else1.if1.left .log .fit .text,
+          text-passed1.0,
+          (
+            omega (
+              arith,
+              text-passed1.1,
+              after-check.check.ensures.1.0 else1.if1.left .small,
+              after-check.check.ensures.1.0 else1.if1.left .log .fit .text,
+            ),
+            omega arith,
           ),
-          omega arith,
         ),
       ),
     )
@@ -111,16 +115,16 @@ returns-3 : tie.Need-returns-3
 returns-3 c =
     let after-put-copies = c .before .before .before .before .before .before in
     let else2 = after-put-copies .before .before .before .before in
-    let else1 = else2.before in
-    let after-refusal = else1.before in
-    let after-format-for = after-refusal .before .before .before .before in
+    let else1 = else2.before.before in
+    let after-check = else1.before.before in
+    let after-format-for = after-check .before .before .before .before in
     let after-check-text = after-format-for.before in
     let entry = after-check-text .before .before .before .before .before in
     let l = lent (now entry.args.text) (now entry.args.records) (now entry.args.texts) entry.args.line entry.args.log in
     in-format l (λ (F : Format). yankCall catalogue F l (now entry.args.buf) entry.args.n) after-format-for.format-for.ensures
-    (yank-some after-format-for.format-for.result l (now entry.args.buf) entry.args.n after-refusal.refusal.result
-    (as-text after-format-for.format-for.result l (now entry.args.buf) false false after-refusal.refusal.result
-    after-check-text.check-text.result after-refusal.refusal.ensures.0 after-check-text.check-text.ensures) _ else1.if1.left else2.if2.left
+    (yank-some after-format-for.format-for.result l (now entry.args.buf) entry.args.n after-check.check.result.number
+    (as-text after-format-for.format-for.result l (now entry.args.buf) false false after-check.check.result.number
+    after-check-text.check-text.result after-check.check.ensures.0 after-check-text.check-text.ensures) _ else1.if1.left else2.if2.left
     _ _ _ after-put-copies.put-copies.ensures)
 
 pub yank-spec : {M : Type 1} → statement M
@@ -129,7 +133,7 @@ yank-spec =
     (tie.spec
     check-text-requires
     format-for-requires
-    refusal-requires
+    check-requires
     says-requires
     same-length
     same-length-2

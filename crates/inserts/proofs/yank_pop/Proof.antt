@@ -1,4 +1,5 @@
 use Rattle.unicode.specs.Repertoire.{catalogue}
+use Rattle.records.proofs.Walks.{newest-last}
 use Rattle.formats.specs.declared.Format.{Format}
 use Rattle.formats.proofs.Formats.{fit-for}
 use Rattle.edit.proofs.Formats.{in-format}
@@ -23,8 +24,8 @@ check-text-requires c κs = search needs
 format-for-requires : tie.Need-format-for-requires
 format-for-requires c κs = search needs
 
-refusal-requires : tie.Need-refusal-requires
-refusal-requires c κs =
+check-requires : tie.Need-check-requires
+check-requires c κs =
     let after-format-for = c .before .before .before in
     fit-for _ after-format-for.format-for.ensures
 
@@ -42,7 +43,7 @@ same-length-3 c = search needs
 
 returns : tie.Need-returns
 returns c =
-    let after-format-for = c .before .before .before .before .before .before in
+    let after-format-for = c .before .before .before .before .before .before .before in
     let after-check-text = after-format-for.before in
     let after-is-split = after-check-text.before in
     let after-back = after-is-split.before.before in
@@ -50,8 +51,8 @@ returns c =
     let l = lent (now entry.args.text) (now entry.args.records) (now entry.args.texts) entry.args.line entry.args.log in
     in-format l (λ (F : Format). yankPopCall catalogue F l entry.args.size (now entry.args.buf)) after-format-for.format-for.ensures
     (pop-refused after-format-for.format-for.result l entry.args.size (now entry.args.buf) after-back.back.result
-    c.before.before.refusal.result after-check-text.check-text.result after-is-split.is-split.result after-back.back.ensures
-    c.before.before.refusal.ensures.0 after-check-text.check-text.ensures after-is-split.is-split.ensures c.before.if1.taken _
+    c.before.before.before.check.result.number after-check-text.check-text.result after-is-split.is-split.result after-back.back.ensures
+    c.before.before.before.check.ensures.0 after-check-text.check-text.ensures after-is-split.is-split.ensures c.before.if1.taken _
     c.says.ensures)
 
 empty-is-requires : tie.Need-empty-is-requires
@@ -59,9 +60,9 @@ empty-is-requires c κs = search needs
 
 add-cut-and-put : tie.Need-add-cut-and-put
 add-cut-and-put c =
-    let else1 = c .before .before .before .before in
-    let after-refusal = else1.before in
-    let after-format-for = after-refusal .before .before .before .before in
+    let else1 = c .before .before .before .before .before in
+    let after-check = else1.before.before in
+    let after-format-for = after-check .before .before .before .before in
     let after-check-text = after-format-for.before in
     let after-is-split = after-check-text.before in
     let after-back = after-is-split.before.before in
@@ -71,32 +72,35 @@ add-cut-and-put c =
       after-back.back.ensures,
       pop-short after-format-for.format-for.result
           (lent (now entry.args.text) (now entry.args.records) (now entry.args.texts) entry.args.line entry.args.log) entry.args.size
-          (now entry.args.buf) after-back.back.result after-refusal.refusal.result after-check-text.check-text.result
-          after-is-split.is-split.result after-back.back.ensures after-refusal.refusal.ensures.0 after-check-text.check-text.ensures
+          (now entry.args.buf) after-back.back.result after-check.check.result.number after-check-text.check-text.result
+          after-is-split.is-split.result after-back.back.ensures after-check.check.ensures.0 after-check-text.check-text.ensures
           after-is-split.is-split.ensures else1.if1.left,
-      (after-refusal.refusal.ensures.1 else1.if1.left) .small,
-      (after-refusal.refusal.ensures.1 else1.if1.left) .log .fit .text,
-      (after-refusal.refusal.ensures.1 else1.if1.left) .used,
-      (after-refusal.refusal.ensures.1 else1.if1.left) .within,
+      (after-check.check.ensures.1.0 else1.if1.left) .small,
+      (after-check.check.ensures.1.0 else1.if1.left) .log .fit .text,
+      (after-check.check.ensures.1.0 else1.if1.left) .used,
+      (after-check.check.ensures.1.0 else1.if1.left) .within,
     )
 
 cut-and-put-requires : tie.Need-cut-and-put-requires
 cut-and-put-requires c κs =
-    let else1 = c .before .before .before .before in
-    let after-refusal = else1.before in
-    let after-format-for = after-refusal .before .before .before .before in
+    let else1 = c .before .before .before .before .before in
+    let after-check = else1.before.before in
+    let after-format-for = after-check .before .before .before .before in
     let after-check-text = after-format-for.before in
     let after-is-split = after-check-text.before in
     let after-back = after-is-split.before.before in
     let entry = after-back .before .before .before .before .before in (
       fit-for _ after-format-for.format-for.ensures,
       (
-        (after-refusal.refusal.ensures.1 else1.if1.left),
-        pop-suits after-format-for.format-for.result
-            (lent (now entry.args.text) (now entry.args.records) (now entry.args.texts) entry.args.line entry.args.log) entry.args.size
-            (now entry.args.buf) after-back.back.result after-refusal.refusal.result after-check-text.check-text.result
-            after-is-split.is-split.result after-back.back.ensures after-refusal.refusal.ensures.0 after-check-text.check-text.ensures
-            after-is-split.is-split.ensures else1.if1.left (after-refusal.refusal.ensures.1 else1.if1.left),
+        (after-check.check.ensures.1.0 else1.if1.left),
+        (
+          newest-last catalogue after-format-for.format-for.result _ _ (after-check.check.ensures.1.1 else1.if1.left),
+          pop-suits after-format-for.format-for.result
+              (lent (now entry.args.text) (now entry.args.records) (now entry.args.texts) entry.args.line entry.args.log) entry.args.size
+              (now entry.args.buf) after-back.back.result after-check.check.result.number after-check-text.check-text.result
+              after-is-split.is-split.result after-back.back.ensures after-check.check.ensures.0 after-check-text.check-text.ensures
+              after-is-split.is-split.ensures else1.if1.left (after-check.check.ensures.1.0 else1.if1.left),
+        ),
       ),
     )
 
@@ -113,17 +117,18 @@ returns-2 : tie.Need-returns-2
 returns-2 c =
     let after-cut-and-put = c .before .before .before .before .before .before in
     let after-empty-is = after-cut-and-put .before .before .before .before in
-    let else1 = after-empty-is.before in
-    let after-refusal = else1.before in
-    let after-format-for = after-refusal .before .before .before .before in
+    let else1 = after-empty-is.before.before in
+    let after-check = else1.before.before in
+    let after-format-for = after-check .before .before .before .before in
     let after-check-text = after-format-for.before in
     let after-is-split = after-check-text.before in
     let after-back = after-is-split.before.before in
     let entry = after-back .before .before .before .before .before in
     let l = lent (now entry.args.text) (now entry.args.records) (now entry.args.texts) entry.args.line entry.args.log in
     in-format l (λ (F : Format). yankPopCall catalogue F l entry.args.size (now entry.args.buf)) after-format-for.format-for.ensures
-    (pop-done after-format-for.format-for.result l entry.args.size (now entry.args.buf) after-back.back.result after-refusal.refusal.result
-    after-check-text.check-text.result after-is-split.is-split.result after-back.back.ensures after-refusal.refusal.ensures.0
+    (pop-done after-format-for.format-for.result l entry.args.size (now entry.args.buf) after-back.back.result
+    after-check.check.result.number
+    after-check-text.check-text.result after-is-split.is-split.result after-back.back.ensures after-check.check.ensures.0
     after-check-text.check-text.ensures after-is-split.is-split.ensures else1.if1.left after-empty-is.empty-is.result
     after-empty-is.empty-is.ensures _ _ _ _ after-cut-and-put.cut-and-put.ensures)
 
@@ -135,7 +140,7 @@ yank-pop-spec =
     is-split-requires
     check-text-requires
     format-for-requires
-    refusal-requires
+    check-requires
     says-requires
     same-length
     same-length-2

@@ -9,6 +9,7 @@ use Rattle.unicode.proofs.Text.{text-valid}
 use Rattle.lines.specs.declared.Range.{Range}
 use Rattle.checks.specs.Checks.{ownTests}
 use Rattle.copies.specs.Copy.{isForeign}
+use Rattle.records.proofs.Walks.{newest-last}
 use Rattle.formats.specs.declared.Format.{Format}
 use Rattle.formats.proofs.Formats.{fit-for}
 use Rattle.edit.specs.Plan.{edited, cutting, once, nothing}
@@ -28,8 +29,8 @@ is-foreign-requires c κs = search needs
 format-for-requires : tie.Need-format-for-requires
 format-for-requires c κs = search needs
 
-refusal-requires : tie.Need-refusal-requires
-refusal-requires c κs =
+check-requires : tie.Need-check-requires
+check-requires c κs =
     let after-format-for = c .before .before .before in
     fit-for _ after-format-for.format-for.ensures
 
@@ -47,38 +48,39 @@ same-length-3 c = search needs
 
 returns : tie.Need-returns
 returns c =
-    let after-format-for = c .before .before .before .before .before .before in
+    let after-format-for = c .before .before .before .before .before .before .before in
     let after-is-foreign = after-format-for.before in
     let entry = after-is-foreign .before .before .before .before in
     let l = lent (now entry.args.text) (now entry.args.records) (now entry.args.texts) entry.args.line entry.args.log in
     in-format l (λ (F : Format). killOf catalogue F l entry.args.m) after-format-for.format-for.ensures
-    (refused-by after-format-for.format-for.result l c.before.before.refusal.result
+    (refused-by after-format-for.format-for.result l c.before.before.before.check.result.number
     (checked catalogue after-format-for.format-for.result l (ownTests false (isForeign catalogue entry.args.m) false))
     (edited catalogue after-format-for.format-for.result (sizesOf l) (length (now entry.args.text))
     (cutPlan entry.args.line.cursor
     (killRange catalogue (take entry.args.line.len (now entry.args.text)) entry.args.line.cursor entry.args.m))
     (stateOf catalogue after-format-for.format-for.result l)) _
     (sym
-    (c.before.before.refusal.ensures.0
+    (c.before.before.before.check.ensures.0
     ∙ ap (λ (b : Bool). checked catalogue after-format-for.format-for.result l (ownTests false b false))
     after-is-foreign.is-foreign.ensures)) c.before.if1.taken c.says.ensures)
 
 slice-reshare-prefix-kill-range : tie.Need-slice-reshare-prefix-kill-range
-slice-reshare-prefix-kill-range c = (c .before .refusal .ensures .1 (c .if1 .left)) .used
+slice-reshare-prefix-kill-range c = (c .before .before .before .check .ensures .1 .0 (c .before .if1 .left)) .used
 
 slice-aggregate-kill-range : tie.Need-slice-aggregate-kill-range
 slice-aggregate-kill-range c =
-    let entry = c .before .before .before .before .before .before .before .before .before .before .before in
-    sym (length-take-le entry.args.line.len (now entry.args.text) ((c.before.before.refusal.ensures.1 c.before.if1.left) .used))
+    let entry = c .before .before .before .before .before .before .before .before .before .before .before .before .before in
+    sym (length-take-le entry.args.line.len (now entry.args.text) ((c.before.before.before.before.check.ensures.1.0
+    c.before.before.if1.left) .used))
 
 kill-range-requires : tie.Need-kill-range-requires
 kill-range-requires c κs =
-    let entry = c .before .before .before .before .before .before .before .before .before .before .before in
-    let refusal1 = c.before.before.refusal.ensures.1 c.before.if1.left in (
-      (text-valid catalogue (take entry.args.line.len (now entry.args.text)) refusal1.text),
-      refusal1.edge,
-      (subst (λ (n : ℕ). entry.args.line.cursor ≤ n) (sym (length-take-le entry.args.line.len (now entry.args.text) refusal1.used))
-          refusal1.within),
+    let entry = c .before .before .before .before .before .before .before .before .before .before .before .before .before in
+    let ready = c.before.before.before.before.check.ensures.1.0 c.before.before.if1.left in (
+      (text-valid catalogue (take entry.args.line.len (now entry.args.text)) ready.text),
+      ready.edge,
+      (subst (λ (n : ℕ). entry.args.line.cursor ≤ n) (sym (length-take-le entry.args.line.len (now entry.args.text) ready.used))
+          ready.within),
     )
 
 enum-known-r : tie.Need-enum-known-r
@@ -88,21 +90,24 @@ cut-out-requires : tie.Need-cut-out-requires
 cut-out-requires c κs =
     let after-r = c .before .before .before .before in
     let after-kill-range = after-r.before.before in
-    let else1 = after-kill-range.before.before in
-    let after-refusal = else1.before in
-    let after-format-for = after-refusal .before .before .before .before in
+    let else1 = after-kill-range.before.before.before in
+    let after-check = else1.before.before in
+    let after-format-for = after-check .before .before .before .before in
     let entry = after-format-for .before .before .before .before .before in (
       fit-for _ after-format-for.format-for.ensures,
       (
-        (after-refusal.refusal.ensures.1 else1.if1.left),
-        kill-in catalogue (take entry.args.line.len (now entry.args.text))
-            (text-valid catalogue (take entry.args.line.len (now entry.args.text))
-            ((after-refusal.refusal.ensures.1 else1.if1.left) .text)) after-r.r.given.0.0 after-r.r.given.0.1.0 entry.args.line.cursor
-            ((after-refusal.refusal.ensures.1 else1.if1.left) .edge)
-            (subst (λ (n : ℕ). entry.args.line.cursor ≤ n)
-            (sym (length-take-le entry.args.line.len (now entry.args.text) ((after-refusal.refusal.ensures.1 else1.if1.left) .used)))
-            ((after-refusal.refusal.ensures.1 else1.if1.left) .within)) entry.args.m
-            (sym after-kill-range.kill-range.ensures ∙ after-r.r.given.1),
+        (after-check.check.ensures.1.0 else1.if1.left),
+        (
+          kill-in catalogue (take entry.args.line.len (now entry.args.text))
+              (text-valid catalogue (take entry.args.line.len (now entry.args.text))
+              ((after-check.check.ensures.1.0 else1.if1.left) .text)) after-r.r.given.0.0 after-r.r.given.0.1.0 entry.args.line.cursor
+              ((after-check.check.ensures.1.0 else1.if1.left) .edge)
+              (subst (λ (n : ℕ). entry.args.line.cursor ≤ n)
+              (sym (length-take-le entry.args.line.len (now entry.args.text) ((after-check.check.ensures.1.0 else1.if1.left) .used)))
+              ((after-check.check.ensures.1.0 else1.if1.left) .within)) entry.args.m
+              (sym after-kill-range.kill-range.ensures ∙ after-r.r.given.1),
+          (λ e. newest-last catalogue after-format-for.format-for.result _ _ (after-check.check.ensures.1.1 else1.if1.left)),
+        ),
       ),
     )
 
@@ -126,9 +131,9 @@ returns-2 c =
     let after-cut-out = c .before .before .before .before .before .before in
     let after-r = after-cut-out .before .before .before .before .before in
     let after-kill-range = after-r.before.before in
-    let else1 = after-kill-range.before.before in
-    let after-refusal = else1.before in
-    let after-format-for = after-refusal .before .before .before .before in
+    let else1 = after-kill-range.before.before.before in
+    let after-check = else1.before.before in
+    let after-format-for = after-check .before .before .before .before in
     let after-is-foreign = after-format-for.before in
     let entry = after-is-foreign .before .before .before .before in
     let l = lent (now entry.args.text) (now entry.args.records) (now entry.args.texts) entry.args.line entry.args.log in
@@ -138,10 +143,10 @@ returns-2 c =
     (cutPlan entry.args.line.cursor
     (killRange catalogue (take entry.args.line.len (now entry.args.text)) entry.args.line.cursor entry.args.m)) stateOf1 in
     in-format l (λ (F : Format). killOf catalogue F l entry.args.m) after-format-for.format-for.ensures
-    (passed-by after-format-for.format-for.result l after-refusal.refusal.result
+    (passed-by after-format-for.format-for.result l after-check.check.result.number
     (checked catalogue after-format-for.format-for.result l (ownTests false (isForeign catalogue entry.args.m) false)) edited1 _ _ _ _
     (sym
-    (after-refusal.refusal.ensures.0
+    (after-check.check.ensures.0
     ∙ ap (λ (b : Bool). checked catalogue after-format-for.format-for.result l (ownTests false b false))
     after-is-foreign.is-foreign.ensures)) else1.if1.left
     (outcome-as after-format-for.format-for.result l
@@ -165,9 +170,9 @@ same-length-9 c = search needs
 returns-3 : tie.Need-returns-3
 returns-3 c =
     let after-kill-range = c .before .before .before in
-    let else1 = after-kill-range.before.before in
-    let after-refusal = else1.before in
-    let after-format-for = after-refusal .before .before .before .before in
+    let else1 = after-kill-range.before.before.before in
+    let after-check = else1.before.before in
+    let after-format-for = after-check .before .before .before .before in
     let after-is-foreign = after-format-for.before in
     let entry = after-is-foreign .before .before .before .before in
     let l = lent (now entry.args.text) (now entry.args.records) (now entry.args.texts) entry.args.line entry.args.log in
@@ -177,10 +182,10 @@ returns-3 c =
     (cutPlan entry.args.line.cursor
     (killRange catalogue (take entry.args.line.len (now entry.args.text)) entry.args.line.cursor entry.args.m)) stateOf1 in
     in-format l (λ (F : Format). killOf catalogue F l entry.args.m) after-format-for.format-for.ensures
-    (passed-by after-format-for.format-for.result l after-refusal.refusal.result
+    (passed-by after-format-for.format-for.result l after-check.check.result.number
     (checked catalogue after-format-for.format-for.result l (ownTests false (isForeign catalogue entry.args.m) false)) edited1 _ _ _ _
     (sym
-    (after-refusal.refusal.ensures.0
+    (after-check.check.ensures.0
     ∙ ap (λ (b : Bool). checked catalogue after-format-for.format-for.result l (ownTests false b false))
     after-is-foreign.is-foreign.ensures)) else1.if1.left
     (outcome-as after-format-for.format-for.result l
@@ -190,7 +195,7 @@ returns-3 c =
     (ap
     (λ (x : Range). edited catalogue after-format-for.format-for.result sizesOf1 (length (now entry.args.text))
     (cutPlan entry.args.line.cursor x) stateOf1) (sym after-kill-range.kill-range.ensures ∙ c.before.enum-told.given.1)))
-    (stays after-format-for.format-for.result l (after-refusal.refusal.ensures.1 else1.if1.left) _ c.says2.ensures)))
+    (stays after-format-for.format-for.result l (after-check.check.ensures.1.0 else1.if1.left) _ c.says2.ensures)))
 
 pub kill-movement-spec : {M : Type 1} → statement M
 kill-movement-spec =
@@ -198,7 +203,7 @@ kill-movement-spec =
     (tie.spec
     is-foreign-requires
     format-for-requires
-    refusal-requires
+    check-requires
     says-requires
     same-length
     same-length-2

@@ -1,121 +1,111 @@
 use borrow.Author.Needs.{needs}
 use native.Mathlib.Omega.{arith}
 use mathlib.Core.Path.{_≡_}
-use Prim.Native.Nat.{_+_, _-_, _≤_, _<_}
 use denote.Ref.{now}
-use Rattle.numbers.specs.Numbers.{top, numAt}
-use Rattle.numbers.proofs.Read.{top-max, num-two, num-down, top-down, num-none, num-whole, top-none}
+use Rattle.numbers.proofs.Read.{num-two, num-four}
 use Rattle.numbers.proofs.read_num.Statement.{statement}
 use Rattle.numbers.proofs.read_num.Tie as tie
 
-abbrev Inv-loop : tie.InvT-loop
-Inv-loop s at width value₀ left₀ value left = (left ≤ width) × (value ≡ numAt (width - left) s (at + left))
-    × (value < top (width - left))
+shared-slice-read-wide : tie.Need-shared-slice-read-wide
+shared-slice-read-wide c = omega (arith, c.before.before.pre.0, c.before.before.pre.1)
 
-abbrev μ-loop : tie.MeasureT-loop
-μ-loop s at width value₀ left₀ value left = left
-
-shared-slice-read-wide : tie.Need-shared-slice-read-wide Inv-loop μ-loop
-shared-slice-read-wide c = search needs
-
-wide-requires : tie.Need-wide-requires Inv-loop μ-loop
+wide-requires : tie.Need-wide-requires
 wide-requires c κs = search needs
 
-add-wide : tie.Need-add-wide Inv-loop μ-loop
+add-wide : tie.Need-add-wide
 add-wide c = search needs
 
-shared-slice-read-wide-2 : tie.Need-shared-slice-read-wide-2 Inv-loop μ-loop
-shared-slice-read-wide-2 c = search needs
+shared-slice-read-wide-2 : tie.Need-shared-slice-read-wide-2
+shared-slice-read-wide-2 c = let entry = c .before .before .before .before in omega (arith, entry.pre.0, entry.pre.1)
 
-wide-requires-2 : tie.Need-wide-requires-2 Inv-loop μ-loop
+wide-requires-2 : tie.Need-wide-requires-2
 wide-requires-2 c κs = search needs
 
-mul-result : tie.Need-mul-result Inv-loop μ-loop
-mul-result c = search needs
+mul-low : tie.Need-mul-low
+mul-low c = search needs
 
-add-result : tie.Need-add-result Inv-loop μ-loop
-add-result c = search needs
+add-low : tie.Need-add-low
+add-low c = search needs
 
-returns : tie.Need-returns Inv-loop μ-loop
+returns : tie.Need-returns
 returns c =
-    let then1 = c .before .before .before .before in
-    let s = c .before .before .before .before .before .before .args in (
-      num-two s.width s.at (now s.s) _ _ then1.if1.taken c.before.before.wide.ensures.0 c.wide2.ensures.0,
-      omega (arith, c.before.before.wide.ensures.1, c.wide2.ensures.1),
+    let after-wide2 = c .before in
+    let after-wide = after-wide2 .before .before in
+    let s = after-wide .before .before .before .args in (
+      num-two s.width s.at (now s.s) _ _ after-wide.wide.ensures.0 after-wide2.wide2.ensures.0 c.if1.taken,
+      omega (arith, after-wide.wide.ensures.1, after-wide2.wide2.ensures.1),
     )
 
-loop-holds : tie.Need-loop-holds Inv-loop μ-loop
-loop-holds c = let s = c .before .before .args in (omega arith, num-none (s .width) (s .at) (now (s .s)), top-none (s .width))
+add-wide-2 : tie.Need-add-wide-2
+add-wide-2 c = search needs
 
-sub-left : tie.Need-sub-left Inv-loop μ-loop
-sub-left c = search needs
-
-add-wide-2 : tie.Need-add-wide-2 Inv-loop μ-loop
-add-wide-2 c =
-    let entry = c .before .before .before .before in
-    omega (arith, c.before.loop.inv.0, entry.pre.1)
-
-shared-slice-read-wide-3 : tie.Need-shared-slice-read-wide-3 Inv-loop μ-loop
+shared-slice-read-wide-3 : tie.Need-shared-slice-read-wide-3
 shared-slice-read-wide-3 c =
-    let entry = c .before .before .before .before .before in
-    omega (arith, c.before.before.loop.inv.0, entry.pre.1)
+    let else1 = c .before in
+    let entry = else1 .before .before .before .before .before .before in
+    omega (arith, entry.pre.0, else1.if1.left, entry.pre.1)
 
-wide-requires-3 : tie.Need-wide-requires-3 Inv-loop μ-loop
+wide-requires-3 : tie.Need-wide-requires-3
 wide-requires-3 c κs = search needs
 
-mul-value : tie.Need-mul-value Inv-loop μ-loop
-mul-value c =
-    let at-loop = c .before .before .before in
-    let entry = at-loop .before .before .before in
-    omega (arith, at-loop.loop.inv.2, top-max (entry.args.width - at-loop.loop.left) (omega (arith, entry.pre.0)))
+add-wide-3 : tie.Need-add-wide-3
+add-wide-3 c = search needs
 
-add-value : tie.Need-add-value Inv-loop μ-loop
-add-value c =
-    let at-loop = c .before .before .before in
-    let entry = at-loop .before .before .before in
-    omega (arith, at-loop.loop.inv.2, c.wide3.ensures.1, top-max (entry.args.width - at-loop.loop.left) (omega (arith, entry.pre.0)))
+shared-slice-read-wide-4 : tie.Need-shared-slice-read-wide-4
+shared-slice-read-wide-4 c =
+    let else1 = c .before .before .before in
+    let entry = else1 .before .before .before .before .before .before in
+    omega (arith, entry.pre.0, else1.if1.left, entry.pre.1)
 
-loop-less : tie.Need-loop-less Inv-loop μ-loop
-loop-less c = omega arith
+wide-requires-4 : tie.Need-wide-requires-4
+wide-requires-4 c κs = search needs
 
-loop-again : tie.Need-loop-again Inv-loop μ-loop
-loop-again c =
-    let s = c .before .before .before .before .before .before .args in
-    let l = c .before .before .before .loop in (
-      omega (arith, l.inv.0),
-      num-down s.width l.left s.at (now s.s) _ l.value c.before.before.loop-test.taken l.inv.0 c.wide3.ensures.0 l.inv.1,
-      top-down s.width l.left _ l.value c.before.before.loop-test.taken l.inv.0 c.wide3.ensures.1 l.inv.2,
-    )
+mul-result : tie.Need-mul-result
+mul-result c = search needs
 
-returns-2 : tie.Need-returns-2 Inv-loop μ-loop
+add-result : tie.Need-add-result
+add-result c = search needs
+
+mul-result-2 : tie.Need-mul-result-2
+mul-result-2 c = search needs
+
+add-result-2 : tie.Need-add-result-2
+add-result-2 c = search needs
+
+returns-2 : tie.Need-returns-2
 returns-2 c =
-    let entry = c .before .before .before .before in
-    let s = entry.args in
-    let l = c.before.loop in
-    let z : l.left ≡ 0 = omega arith in
-    (num-whole s.width l.left s.at (now s.s) _ z l.inv.1, omega (arith, l.inv.2, top-max (s.width - l.left) (omega (arith, entry.pre.0))))
+    let after-wide3 = c .before .before in
+    let else1 = after-wide3 .before .before in
+    let after-wide2 = else1 .before in
+    let after-wide = after-wide2 .before .before in
+    let entry = after-wide .before .before .before in
+    let s = entry .args in
+    let four : s.width ≡ 4 = omega (arith, entry.pre.0, else1.if1.left) in (
+      num-four s.width s.at (now s.s) _ _ after-wide.wide.ensures.0 after-wide2.wide2.ensures.0 _ _ four after-wide3.wide3.ensures.0
+          c.wide4.ensures.0,
+      omega (arith, after-wide.wide.ensures.1, after-wide2.wide2.ensures.1, after-wide3.wide3.ensures.1, c.wide4.ensures.1),
+    )
 
 pub read-num-spec : {M : Type 1} → statement M
 read-num-spec =
     tie.close
     (tie.spec
-    Inv-loop
-    μ-loop
     shared-slice-read-wide
     wide-requires
     add-wide
     shared-slice-read-wide-2
     wide-requires-2
-    mul-result
-    add-result
+    mul-low
+    add-low
     returns
-    loop-holds
-    sub-left
     add-wide-2
     shared-slice-read-wide-3
     wide-requires-3
-    mul-value
-    add-value
-    loop-less
-    loop-again
+    add-wide-3
+    shared-slice-read-wide-4
+    wide-requires-4
+    mul-result
+    add-result
+    mul-result-2
+    add-result-2
     returns-2)

@@ -17,14 +17,14 @@ sub-left : tie.Need-sub-left
 sub-left c =
     let entry = c .before .before .before .before in
     (cut-suits entry.args.f (lent (now entry.args.text) (now entry.args.records) (now entry.args.texts) entry.args.line entry.args.log)
-    entry.pre.1.0 entry.args.from entry.args.to entry.args.at (now entry.args.new) entry.pre.1.1) .0
+    entry.pre.1.0 entry.args.from entry.args.to entry.args.at (now entry.args.new) entry.pre.1.1.1) .0
 
 sub-left-2 : tie.Need-sub-left-2
 sub-left-2 c =
     let entry = c .before .before .before .before .before in
     let l = lent (now entry.args.text) (now entry.args.records) (now entry.args.texts) entry.args.line entry.args.log in
     let cut-suits1 = cut-suits entry.args.f l entry.pre.1.0 entry.args.from entry.args.to entry.args.at (now entry.args.new)
-    entry.pre.1.1 in
+    entry.pre.1.1.1 in
     omega (
       arith,
       (let w : entry.args.to ≤ entry.args.line.len = omega (arith, cut-suits1.1, length-kept entry.args.f l entry.pre.1.0) in w),
@@ -49,14 +49,14 @@ returns c =
       from = 0;
       to = 0;
     }) _
-    (pair-long entry.args.f l entry.pre.1.0 entry.args.from entry.args.to entry.args.at (now entry.args.new) entry.pre.1.1
+    (pair-long entry.args.f l entry.pre.1.0 entry.args.from entry.args.to entry.args.at (now entry.args.new) entry.pre.1.1.1
     c.before.if1.taken) c.says.ensures
 
 pair-fits-requires : tie.Need-pair-fits-requires
 pair-fits-requires c κs =
     let else1 = c .before .before .before in
     let entry = else1 .before .before .before .before .before .before in
-    (entry.pre.0, (entry.pre.1.0, (entry.pre.1.1, omega (arith, else1.if1.left, entry.pre.1.0.small))))
+    (entry.pre.0, (entry.pre.1.0, (entry.pre.1.1.0, (entry.pre.1.1.1, omega (arith, else1.if1.left, entry.pre.1.0.small)))))
 
 says-requires-2 : tie.Need-says-requires-2
 says-requires-2 c κs = search needs
@@ -83,7 +83,8 @@ returns-2 c =
       from = 0;
       to = 0;
     }) _
-    (pair-short entry.args.f l entry.pre.1.0 entry.args.from entry.args.to entry.args.at (now entry.args.new) entry.pre.1.1 else1.if1.left)
+    (pair-short entry.args.f l entry.pre.1.0 entry.args.from entry.args.to entry.args.at (now entry.args.new) entry.pre.1.1.1
+    else1.if1.left)
     (sym c.before.before.pair-fits.ensures ∙ not-true _ c.before.if2.taken) c.says2.ensures
 
 cut-out-requires : tie.Need-cut-out-requires
@@ -92,9 +93,12 @@ cut-out-requires c κs =
       entry.pre.0,
       (
         entry.pre.1.0,
-        (cut-suits entry.args.f
-            (lent (now entry.args.text) (now entry.args.records) (now entry.args.texts) entry.args.line entry.args.log) entry.pre.1.0
-            entry.args.from entry.args.to entry.args.at (now entry.args.new) entry.pre.1.1),
+        (
+          cut-suits entry.args.f
+              (lent (now entry.args.text) (now entry.args.records) (now entry.args.texts) entry.args.line entry.args.log) entry.pre.1.0
+              entry.args.from entry.args.to entry.args.at (now entry.args.new) entry.pre.1.1.1,
+          (λ e. entry.pre.1.1.0),
+        ),
       ),
     )
 
@@ -106,9 +110,10 @@ put-in-requires c κs =
     let else1 = after-pair-fits .before .before .before .before in
     let entry = else1 .before .before .before .before .before .before in
     let l = lent (now entry.args.text) (now entry.args.records) (now entry.args.texts) entry.args.line entry.args.log in
-    let pair-mid1 = pair-mid entry.args.f l entry.pre.1.0 entry.args.from entry.args.to entry.args.at (now entry.args.new) entry.pre.1.1
+    let pair-mid1 = pair-mid entry.args.f l entry.pre.1.0 entry.args.from entry.args.to entry.args.at (now entry.args.new) entry.pre.1.1.1
     entry.args.cursor entry.args.number
-    (pair-short entry.args.f l entry.pre.1.0 entry.args.from entry.args.to entry.args.at (now entry.args.new) entry.pre.1.1 else1.if1.left)
+    (pair-short entry.args.f l entry.pre.1.0 entry.args.from entry.args.to entry.args.at (now entry.args.new) entry.pre.1.1.1
+    else1.if1.left)
     (sym after-pair-fits.pair-fits.ensures ∙ not-false _ else2.if2.left) _ _ _ _ after-cut-out.cut-out.ensures
     after-cut-out.cut-out.kept.1.0 after-cut-out.cut-out.kept.1.1.0 after-cut-out.cut-out.kept.1.1.1.0 in
     let next-suits1 = next-suits entry.args.f l
@@ -139,9 +144,11 @@ returns-3 c =
     let else1 = after-pair-fits .before .before .before .before in
     let entry = else1 .before .before .before .before .before .before in
     let l = lent (now entry.args.text) (now entry.args.records) (now entry.args.texts) entry.args.line entry.args.log in
-    pair-made entry.args.f l entry.pre.1.0 entry.args.from entry.args.to entry.args.at (now entry.args.new) entry.pre.1.1 entry.args.cursor
+    pair-made entry.args.f l entry.pre.1.0 entry.args.from entry.args.to entry.args.at (now entry.args.new) entry.pre.1.1.1
+    entry.args.cursor
     entry.args.number
-    (pair-short entry.args.f l entry.pre.1.0 entry.args.from entry.args.to entry.args.at (now entry.args.new) entry.pre.1.1 else1.if1.left)
+    (pair-short entry.args.f l entry.pre.1.0 entry.args.from entry.args.to entry.args.at (now entry.args.new) entry.pre.1.1.1
+    else1.if1.left)
     (sym after-pair-fits.pair-fits.ensures ∙ not-false _ else2.if2.left) _ _ _ _ after-cut-out.cut-out.ensures
     after-cut-out.cut-out.kept.1.0 after-cut-out.cut-out.kept.1.1.0 after-cut-out.cut-out.kept.1.1.1.0 _ _ _ _ after-put-in.put-in.ensures
     after-put-in.put-in.kept.1.0 after-put-in.put-in.kept.1.1.0 after-put-in.put-in.kept.1.1.1.0

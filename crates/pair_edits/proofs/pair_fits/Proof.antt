@@ -21,13 +21,13 @@ sub-is-single : tie.Need-sub-is-single
 sub-is-single c =
     let entry = c .before .before .before .before in
     (cut-suits entry.args.f (lent (now entry.args.text) (now entry.args.records) (now entry.args.texts) entry.args.line entry.args.log)
-    entry.pre.1.0 entry.args.from entry.args.to entry.args.at (now entry.args.new) entry.pre.1.1.0) .0
+    entry.pre.1.0 entry.args.from entry.args.to entry.args.at (now entry.args.new) entry.pre.1.1.1.0) .0
 
 part-is-single-start : tie.Need-part-is-single-start
 part-is-single-start c =
     let entry = c .before .before .before .before in
     (cut-suits entry.args.f (lent (now entry.args.text) (now entry.args.records) (now entry.args.texts) entry.args.line entry.args.log)
-    entry.pre.1.0 entry.args.from entry.args.to entry.args.at (now entry.args.new) entry.pre.1.1.0) .0
+    entry.pre.1.0 entry.args.from entry.args.to entry.args.at (now entry.args.new) entry.pre.1.1.1.0) .0
 
 part-is-single-end : tie.Need-part-is-single-end
 part-is-single-end c =
@@ -37,7 +37,7 @@ part-is-single-end c =
       arith,
       (let w : entry.args.to ≤ entry.args.line.len = omega (
         arith,
-        (cut-suits entry.args.f l entry.pre.1.0 entry.args.from entry.args.to entry.args.at (now entry.args.new) entry.pre.1.1.0) .1,
+        (cut-suits entry.args.f l entry.pre.1.0 entry.args.from entry.args.to entry.args.at (now entry.args.new) entry.pre.1.1.1.0) .1,
         length-kept entry.args.f l entry.pre.1.0,
       ) in
           w),
@@ -49,7 +49,7 @@ is-single-requires c κs =
     let entry = c .before .before .before .before .before in
     let l = lent (now entry.args.text) (now entry.args.records) (now entry.args.texts) entry.args.line entry.args.log in
     let cut-suits1 = cut-suits entry.args.f l entry.pre.1.0 entry.args.from entry.args.to entry.args.at (now entry.args.new)
-    entry.pre.1.1.0 in
+    entry.pre.1.1.1.0 in
     ap (isText catalogue)
     (sym
     (raw-part (now entry.args.text) entry.args.line.len entry.args.from entry.args.to
@@ -65,9 +65,9 @@ room-cut-requires c κs =
     let l = lent (now entry.args.text) (now entry.args.records) (now entry.args.texts) entry.args.line entry.args.log in (
       entry.pre.0,
       (
-        (cut-suits entry.args.f l entry.pre.1.0 entry.args.from entry.args.to entry.args.at (now entry.args.new) entry.pre.1.1.0) .0,
-        first-in-range entry.args.f l entry.pre.1.0 entry.args.from entry.args.to entry.args.at (now entry.args.new) entry.pre.1.1.0
-            (top-max entry.args.f.width entry.pre.0.width) _ c.room-now.ensures,
+        (cut-suits entry.args.f l entry.pre.1.0 entry.args.from entry.args.to entry.args.at (now entry.args.new) entry.pre.1.1.1.0) .0,
+        first-in-range entry.args.f l entry.pre.1.0 entry.args.from entry.args.to entry.args.at (now entry.args.new) entry.pre.1.1.1.0
+            (top-max entry.args.f.width entry.pre.0.width.most) _ c.room-now.ensures,
       ),
     )
 
@@ -76,18 +76,18 @@ room-put-requires c κs =
     let entry = c .before .before .before .before .before .before .before .before in
     let l = lent (now entry.args.text) (now entry.args.records) (now entry.args.texts) entry.args.line entry.args.log in (
       entry.pre.0,
-      second-in-range entry.args.f l entry.pre.1.0 entry.args.from entry.args.to entry.args.at (now entry.args.new) entry.pre.1.1.0
-          (top-max entry.args.f.width entry.pre.0.width) _ c.before.room-now.ensures _
+      second-in-range entry.args.f l entry.pre.1.0 entry.args.from entry.args.to entry.args.at (now entry.args.new) entry.pre.1.1.1.0
+          (top-max entry.args.f.width entry.pre.0.width.most) _ c.before.room-now.ensures _
           (c.before.before.is-single.ensures
           ∙ ap (λ (x : List ℕ). isSingle catalogue (clustersOf catalogue x))
           (sym
           (raw-part (now entry.args.text) entry.args.line.len entry.args.from entry.args.to
           (let w : entry.args.to ≤ entry.args.line.len = omega (
             arith,
-            (cut-suits entry.args.f l entry.pre.1.0 entry.args.from entry.args.to entry.args.at (now entry.args.new) entry.pre.1.1.0) .1,
+            (cut-suits entry.args.f l entry.pre.1.0 entry.args.from entry.args.to entry.args.at (now entry.args.new) entry.pre.1.1.1.0) .1,
             length-kept entry.args.f l entry.pre.1.0,
           ) in
-          w)))) _ c.room-cut.ensures entry.pre.1.1.1,
+          w)))) _ c.room-cut.ensures entry.pre.1.1.1.1,
     )
 
 returns : tie.Need-returns
@@ -95,15 +95,15 @@ returns c =
     let after-is-single = c .before .before .before in
     let entry = after-is-single .before .before .before .before .before .before in
     let l = lent (now entry.args.text) (now entry.args.records) (now entry.args.texts) entry.args.line entry.args.log in
-    pair-room entry.args.f l entry.pre.1.0 entry.args.from entry.args.to entry.args.at (now entry.args.new) entry.pre.1.1.0
-    (top-max entry.args.f.width entry.pre.0.width) _ c.before.before.room-now.ensures _
+    pair-room entry.args.f l entry.pre.1.0 entry.args.from entry.args.to entry.args.at (now entry.args.new) entry.pre.1.1.1.0
+    (top-max entry.args.f.width entry.pre.0.width.most) _ c.before.before.room-now.ensures _
     (after-is-single.is-single.ensures
     ∙ ap (λ (x : List ℕ). isSingle catalogue (clustersOf catalogue x))
     (sym
     (raw-part (now entry.args.text) entry.args.line.len entry.args.from entry.args.to
     (let w : entry.args.to ≤ entry.args.line.len = omega (
       arith,
-      (cut-suits entry.args.f l entry.pre.1.0 entry.args.from entry.args.to entry.args.at (now entry.args.new) entry.pre.1.1.0) .1,
+      (cut-suits entry.args.f l entry.pre.1.0 entry.args.from entry.args.to entry.args.at (now entry.args.new) entry.pre.1.1.1.0) .1,
       length-kept entry.args.f l entry.pre.1.0,
     ) in
     w)))) _ c.before.room-cut.ensures _ c.room-put.ensures

@@ -22,7 +22,7 @@ use Rattle.puts.proofs.put_copies.Tie as tie
 mul-size : tie.Need-mul-size
 mul-size c =
     let entry = c .before .before .before .before in
-    omega (arith, (product-fits (length (now entry.args.s)) entry.args.n entry.pre.1.1.0 entry.pre.1.1.1))
+    omega (arith, (product-fits (length (now entry.args.s)) entry.args.n entry.pre.1.1.1.0 entry.pre.1.1.1.1))
 
 sub-if1 : tie.Need-sub-if1
 sub-if1 c = search needs
@@ -89,7 +89,7 @@ room-put-requires c κs =
       entry.pre.0.log.fit,
       copies-in-range entry.args.f
           (lent (now entry.args.text) (now entry.args.records) (now entry.args.texts) entry.args.line entry.args.log) entry.pre.0
-          (now entry.args.s) entry.pre.1.0 entry.args.n else1.if1.left _ c.before.before.room-now.ensures,
+          (now entry.args.s) entry.pre.1.1.0 entry.args.n else1.if1.left _ c.before.before.room-now.ensures,
     )
 
 says-requires-2 : tie.Need-says-requires-2
@@ -108,7 +108,7 @@ returns-3 c =
     let else1 = after-room-now .before .before .before .before in
     let entry = else1 .before .before .before .before .before in
     copies-full entry.args.f (lent (now entry.args.text) (now entry.args.records) (now entry.args.texts) entry.args.line entry.args.log)
-    entry.pre.0 (now entry.args.s) entry.pre.1.0 entry.args.n else1.if1.left _ after-room-now.room-now.ensures _
+    entry.pre.0 (now entry.args.s) entry.pre.1.1.0 entry.args.n else1.if1.left _ after-room-now.room-now.ensures _
     after-room-put.room-put.ensures (not-true _ c.before.if3.taken) _ c.says2.ensures
 
 insert-copies-requires : tie.Need-insert-copies-requires
@@ -154,7 +154,7 @@ record-requires c κs =
             record { kind = refl; place = refl; old = refl; new = refl },
             new-text entry.args.f
                 (lent (now entry.args.text) (now entry.args.records) (now entry.args.texts) entry.args.line entry.args.log)
-                entry.pre.0 (now entry.args.s) entry.pre.1.0 entry.args.n else1.if1.left _ after-room-now.room-now.ensures _
+                entry.pre.0 (now entry.args.s) entry.pre.1.1.0 entry.args.n else1.if1.left _ after-room-now.room-now.ensures _
                 after-room-put.room-put.ensures (not-false _ else3.if3.left) else2.if2.left _
                 after-insert-copies.insert-copies.ensures,
           ),
@@ -162,8 +162,8 @@ record-requires c κs =
       ),
     )
 
-add-t20 : tie.Need-add-t20
-add-t20 c =
+add-t21 : tie.Need-add-t21
+add-t21 c =
     let else1 = c .before .before .before .before .before .before .before .before .before .before .before .before .before .before
     .before .before .before .before .before .before .before .before .before .before in
     let entry = else1 .before .before .before .before .before in
@@ -192,7 +192,7 @@ returns-4 c =
     let else1 = else2.before in
     let entry = else1 .before .before .before .before .before in
     copies-made entry.args.f (lent (now entry.args.text) (now entry.args.records) (now entry.args.texts) entry.args.line entry.args.log)
-    entry.pre.0 (now entry.args.s) entry.pre.1.0 entry.args.n else1.if1.left _ after-room-now.room-now.ensures _
+    entry.pre.0 (now entry.args.s) entry.pre.1.1.0 entry.args.n else1.if1.left _ after-room-now.room-now.ensures _
     after-room-put.room-put.ensures (not-false _ else3.if3.left) else2.if2.left _ after-insert-copies.insert-copies.ensures _ _ _
     after-record.record.ensures _ c.says3.ensures
 
@@ -225,7 +225,7 @@ put-copies-spec =
     part-record-start
     part-record-end
     record-requires
-    add-t20
+    add-t21
     says-requires-3
     same-length-6
     same-length-7

@@ -37,13 +37,13 @@ slice-aggregate-back-from c =
 back-from-requires : tie.Need-back-from-requires
 back-from-requires c κs =
     let entry = c .before .before .before .before .before .before in
-    ((text-valid catalogue (take entry.args.line.len (now entry.args.text)) entry.pre.0.text), entry.pre.1.2, entry.pre.1.1)
+    ((text-valid catalogue (take entry.args.line.len (now entry.args.text)) entry.pre.0.text), entry.pre.1.1.2, entry.pre.1.1.1)
 
 sub-n : tie.Need-sub-n
 sub-n c =
     let entry = c .before .before .before .before .before .before .before in
     (reaches entry.args.f (lent (now entry.args.text) (now entry.args.records) (now entry.args.texts) entry.args.line entry.args.log)
-    entry.pre.0 entry.args.p entry.pre.1 c.before.before.on-from.result c.before.before.on-from.ensures) .0
+    entry.pre.0 entry.args.p entry.pre.1.1 c.before.before.on-from.result c.before.before.on-from.ensures) .0
 
 add-behind : tie.Need-add-behind
 add-behind c =
@@ -53,7 +53,7 @@ add-behind c =
       arith,
       (let w : c.before.before.on-from.result ≤ entry.args.line.len = omega (
         arith,
-        (reaches entry.args.f l entry.pre.0 entry.args.p entry.pre.1 c.before.before.on-from.result
+        (reaches entry.args.f l entry.pre.0 entry.args.p entry.pre.1.1 c.before.before.on-from.result
             c.before.before.on-from.ensures) .1,
         (length-kept entry.args.f l entry.pre.0),
       ) in
@@ -61,7 +61,7 @@ add-behind c =
       entry.pre.0.used,
       entry.pre.0.small,
       entry.pre.0.log.fit.text,
-      goes-back entry.args.f l entry.pre.0 entry.args.p entry.pre.1 c.back-from.result c.back-from.ensures,
+      goes-back entry.args.f l entry.pre.0 entry.args.p entry.pre.1.1 c.back-from.result c.back-from.ensures,
     )
 
 slice-aggregate-insert-bytes : tie.Need-slice-aggregate-insert-bytes
@@ -72,14 +72,14 @@ sub-insert-bytes c =
     let after-on-from = c .before .before .before in
     let entry = after-on-from .before .before .before .before .before in
     (reaches entry.args.f (lent (now entry.args.text) (now entry.args.records) (now entry.args.texts) entry.args.line entry.args.log)
-    entry.pre.0 entry.args.p entry.pre.1 after-on-from.on-from.result after-on-from.on-from.ensures) .0
+    entry.pre.0 entry.args.p entry.pre.1.1 after-on-from.on-from.result after-on-from.on-from.ensures) .0
 
 part-insert-bytes-start : tie.Need-part-insert-bytes-start
 part-insert-bytes-start c =
     let after-on-from = c .before .before .before .before in
     let entry = after-on-from .before .before .before .before .before in
     (reaches entry.args.f (lent (now entry.args.text) (now entry.args.records) (now entry.args.texts) entry.args.line entry.args.log)
-    entry.pre.0 entry.args.p entry.pre.1 after-on-from.on-from.result after-on-from.on-from.ensures) .0
+    entry.pre.0 entry.args.p entry.pre.1.1 after-on-from.on-from.result after-on-from.on-from.ensures) .0
 
 part-insert-bytes-end : tie.Need-part-insert-bytes-end
 part-insert-bytes-end c =
@@ -90,7 +90,7 @@ part-insert-bytes-end c =
       arith,
       (let w : after-on-from.on-from.result ≤ entry.args.line.len = omega (
         arith,
-        (reaches entry.args.f l entry.pre.0 entry.args.p entry.pre.1 after-on-from.on-from.result after-on-from.on-from.ensures) .1,
+        (reaches entry.args.f l entry.pre.0 entry.args.p entry.pre.1.1 after-on-from.on-from.result after-on-from.on-from.ensures) .1,
         (length-kept entry.args.f l entry.pre.0),
       ) in
           w),
@@ -102,7 +102,8 @@ insert-bytes-requires c κs =
     let after-on-from = c .before .before .before .before .before in
     let entry = after-on-from .before .before .before .before .before in
     let l = lent (now entry.args.text) (now entry.args.records) (now entry.args.texts) entry.args.line entry.args.log in
-    let reaches1 = reaches entry.args.f l entry.pre.0 entry.args.p entry.pre.1 after-on-from.on-from.result after-on-from.on-from.ensures in
+    let reaches1 = reaches entry.args.f l entry.pre.0 entry.args.p entry.pre.1.1 after-on-from.on-from.result
+    after-on-from.on-from.ensures in
     let length-kept1 = length-kept entry.args.f l entry.pre.0 in (
       omega arith,
       omega (
@@ -131,7 +132,7 @@ array-share-prefix-cut c =
       after-insert-bytes.insert-bytes.kept.0,
       (let w : after-on-from.on-from.result ≤ entry.args.line.len = omega (
         arith,
-        (reaches entry.args.f l entry.pre.0 entry.args.p entry.pre.1 after-on-from.on-from.result after-on-from.on-from.ensures) .1,
+        (reaches entry.args.f l entry.pre.0 entry.args.p entry.pre.1.1 after-on-from.on-from.result after-on-from.on-from.ensures) .1,
         (length-kept entry.args.f l entry.pre.0),
       ) in
           w),
@@ -153,7 +154,7 @@ slice-aggregate-cut-and-put c =
       after-insert-bytes.insert-bytes.kept.0,
       (let w : after-on-from.on-from.result ≤ entry.args.line.len = omega (
         arith,
-        (reaches entry.args.f l entry.pre.0 entry.args.p entry.pre.1 after-on-from.on-from.result after-on-from.on-from.ensures) .1,
+        (reaches entry.args.f l entry.pre.0 entry.args.p entry.pre.1.1 after-on-from.on-from.result after-on-from.on-from.ensures) .1,
         (length-kept entry.args.f l entry.pre.0),
       ) in
           w),
@@ -169,21 +170,25 @@ cut-and-put-requires c κs =
     let after-on-from = after-back-from.before.before in
     let entry = after-on-from .before .before .before .before .before in
     let l = lent (now entry.args.text) (now entry.args.records) (now entry.args.texts) entry.args.line entry.args.log in
-    let reaches1 = reaches entry.args.f l entry.pre.0 entry.args.p entry.pre.1 after-on-from.on-from.result after-on-from.on-from.ensures in
+    let reaches1 = reaches entry.args.f l entry.pre.0 entry.args.p entry.pre.1.1 after-on-from.on-from.result
+    after-on-from.on-from.ensures in
     let raw-part1 = raw-part (now entry.args.text) entry.args.line.len entry.args.p after-on-from.on-from.result
     (let w : after-on-from.on-from.result ≤ entry.args.line.len = omega (arith, reaches1.1, (length-kept entry.args.f l entry.pre.0)) in
     w) in (
       entry.pre.0.log.fit,
       (
         entry.pre.0,
-        pair-suits entry.args.f l entry.pre.0 entry.args.p entry.pre.1 after-on-from.on-from.result after-back-from.back-from.result
-            after-on-from.on-from.ensures after-back-from.back-from.ensures _
-            (copied _ _ _
-            (sym
-            (ap length (sym raw-part1)
-            ∙ part-length catalogue (take entry.args.line.len (now entry.args.text)) entry.args.p after-on-from.on-from.result
-            reaches1)) after-insert-bytes.insert-bytes.ensures
-            ∙ sym raw-part1),
+        (
+          entry.pre.1.0,
+          pair-suits entry.args.f l entry.pre.0 entry.args.p entry.pre.1.1 after-on-from.on-from.result after-back-from.back-from.result
+              after-on-from.on-from.ensures after-back-from.back-from.ensures _
+              (copied _ _ _
+              (sym
+              (ap length (sym raw-part1)
+              ∙ part-length catalogue (take entry.args.line.len (now entry.args.text)) entry.args.p after-on-from.on-from.result
+              reaches1)) after-insert-bytes.insert-bytes.ensures
+              ∙ sym raw-part1),
+        ),
       ),
     )
 
@@ -204,11 +209,12 @@ returns c =
     let after-on-from = after-back-from.before.before in
     let entry = after-on-from .before .before .before .before .before in
     let l = lent (now entry.args.text) (now entry.args.records) (now entry.args.texts) entry.args.line entry.args.log in
-    let reaches1 = reaches entry.args.f l entry.pre.0 entry.args.p entry.pre.1 after-on-from.on-from.result after-on-from.on-from.ensures in
+    let reaches1 = reaches entry.args.f l entry.pre.0 entry.args.p entry.pre.1.1 after-on-from.on-from.result
+    after-on-from.on-from.ensures in
     let raw-part1 = raw-part (now entry.args.text) entry.args.line.len entry.args.p after-on-from.on-from.result
     (let w : after-on-from.on-from.result ≤ entry.args.line.len = omega (arith, reaches1.1, (length-kept entry.args.f l entry.pre.0)) in
     w) in
-    not-exchanged entry.args.f l entry.pre.0 entry.args.p entry.pre.1 after-on-from.on-from.result after-back-from.back-from.result
+    not-exchanged entry.args.f l entry.pre.0 entry.args.p entry.pre.1.1 after-on-from.on-from.result after-back-from.back-from.result
     after-on-from.on-from.ensures after-back-from.back-from.ensures _
     (copied _ _ _
     (sym
@@ -225,11 +231,12 @@ slice-reshare-prefix-on-from-2 c =
     let after-on-from = after-back-from.before.before in
     let entry = after-on-from .before .before .before .before .before in
     let l = lent (now entry.args.text) (now entry.args.records) (now entry.args.texts) entry.args.line entry.args.log in
-    let reaches1 = reaches entry.args.f l entry.pre.0 entry.args.p entry.pre.1 after-on-from.on-from.result after-on-from.on-from.ensures in
+    let reaches1 = reaches entry.args.f l entry.pre.0 entry.args.p entry.pre.1.1 after-on-from.on-from.result
+    after-on-from.on-from.ensures in
     let raw-part1 = raw-part (now entry.args.text) entry.args.line.len entry.args.p after-on-from.on-from.result
     (let w : after-on-from.on-from.result ≤ entry.args.line.len = omega (arith, reaches1.1, (length-kept entry.args.f l entry.pre.0)) in
     w) in
-    used-is entry.args.f l entry.pre.0 entry.args.p entry.pre.1 after-on-from.on-from.result after-back-from.back-from.result
+    used-is entry.args.f l entry.pre.0 entry.args.p entry.pre.1.1 after-on-from.on-from.result after-back-from.back-from.result
     after-on-from.on-from.ensures after-back-from.back-from.ensures _
     (copied _ _ _
     (sym
@@ -247,13 +254,14 @@ slice-aggregate-on-from-2 c =
     let after-on-from = after-back-from.before.before in
     let entry = after-on-from .before .before .before .before .before in
     let l = lent (now entry.args.text) (now entry.args.records) (now entry.args.texts) entry.args.line entry.args.log in
-    let reaches1 = reaches entry.args.f l entry.pre.0 entry.args.p entry.pre.1 after-on-from.on-from.result after-on-from.on-from.ensures in
+    let reaches1 = reaches entry.args.f l entry.pre.0 entry.args.p entry.pre.1.1 after-on-from.on-from.result
+    after-on-from.on-from.ensures in
     let raw-part1 = raw-part (now entry.args.text) entry.args.line.len entry.args.p after-on-from.on-from.result
     (let w : after-on-from.on-from.result ≤ entry.args.line.len = omega (arith, reaches1.1, (length-kept entry.args.f l entry.pre.0)) in
     w) in
     sym
     (length-take-le _ _
-    (used-is entry.args.f l entry.pre.0 entry.args.p entry.pre.1 after-on-from.on-from.result after-back-from.back-from.result
+    (used-is entry.args.f l entry.pre.0 entry.args.p entry.pre.1.1 after-on-from.on-from.result after-back-from.back-from.result
     after-on-from.on-from.ensures after-back-from.back-from.ensures _
     (copied _ _ _
     (sym
@@ -286,11 +294,12 @@ returns-2 c =
     let after-on-from = after-back-from.before.before in
     let entry = after-on-from .before .before .before .before .before in
     let l = lent (now entry.args.text) (now entry.args.records) (now entry.args.texts) entry.args.line entry.args.log in
-    let reaches1 = reaches entry.args.f l entry.pre.0 entry.args.p entry.pre.1 after-on-from.on-from.result after-on-from.on-from.ensures in
+    let reaches1 = reaches entry.args.f l entry.pre.0 entry.args.p entry.pre.1.1 after-on-from.on-from.result
+    after-on-from.on-from.ensures in
     let raw-part1 = raw-part (now entry.args.text) entry.args.line.len entry.args.p after-on-from.on-from.result
     (let w : after-on-from.on-from.result ≤ entry.args.line.len = omega (arith, reaches1.1, (length-kept entry.args.f l entry.pre.0)) in
     w) in
-    exchanged entry.args.f l entry.pre.0 entry.args.p entry.pre.1 after-on-from.on-from.result after-back-from.back-from.result
+    exchanged entry.args.f l entry.pre.0 entry.args.p entry.pre.1.1 after-on-from.on-from.result after-back-from.back-from.result
     after-on-from.on-from.ensures after-back-from.back-from.ensures _
     (copied _ _ _
     (sym

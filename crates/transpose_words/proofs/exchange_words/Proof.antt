@@ -30,7 +30,7 @@ sub-left c =
       arith,
       (let z : entry.args.w.end2 ≤ entry.args.line.len = omega (
         arith,
-        entry.pre.1.second.1,
+        entry.pre.1.1.second.1,
         (length-kept entry.args.f
             (lent (now entry.args.text) (now entry.args.records) (now entry.args.texts) entry.args.line entry.args.log) entry.pre.0),
       ) in
@@ -48,8 +48,8 @@ returns c =
     let entry = c .before .before .before .before .before .before in
     let l = lent (now entry.args.text) (now entry.args.records) (now entry.args.texts) entry.args.line entry.args.log in
     nine entry.args.f l (wordsPlan (take entry.args.line.len (now entry.args.text)) entry.args.w) _
-    (words-long catalogue (take entry.args.line.len (now entry.args.text)) entry.pre.0.text entry.args.w entry.pre.1
-    (length (now entry.args.text)) (text-within entry.args.f l entry.pre.0 entry.args.w entry.pre.1)
+    (words-long catalogue (take entry.args.line.len (now entry.args.text)) entry.pre.0.text entry.args.w entry.pre.1.1
+    (length (now entry.args.text)) (text-within entry.args.f l entry.pre.0 entry.args.w entry.pre.1.1)
     (omega (arith, c.before.if1.taken, (length-kept entry.args.f l entry.pre.0), entry.pre.0.used))) c.says.ensures
 
 words-fit-requires : tie.Need-words-fit-requires
@@ -59,10 +59,13 @@ words-fit-requires c κs =
     let l = lent (now entry.args.text) (now entry.args.records) (now entry.args.texts) entry.args.line entry.args.log in (
       entry.pre.0,
       (
-        entry.pre.1,
-        (words-short catalogue (take entry.args.line.len (now entry.args.text)) entry.pre.0.text entry.args.w entry.pre.1
-            (length (now entry.args.text)) (text-within entry.args.f l entry.pre.0 entry.args.w entry.pre.1)
-            (omega (arith, else1.if1.left, (length-kept entry.args.f l entry.pre.0), entry.pre.0.used))),
+        entry.pre.1.0,
+        (
+          entry.pre.1.1,
+          (words-short catalogue (take entry.args.line.len (now entry.args.text)) entry.pre.0.text entry.args.w entry.pre.1.1
+              (length (now entry.args.text)) (text-within entry.args.f l entry.pre.0 entry.args.w entry.pre.1.1)
+              (omega (arith, else1.if1.left, (length-kept entry.args.f l entry.pre.0), entry.pre.0.used))),
+        ),
       ),
     )
 
@@ -84,8 +87,8 @@ returns-2 c =
     let entry = else1 .before .before .before .before .before in
     let l = lent (now entry.args.text) (now entry.args.records) (now entry.args.texts) entry.args.line entry.args.log in
     ten entry.args.f l (wordsPlan (take entry.args.line.len (now entry.args.text)) entry.args.w) _
-    (words-short catalogue (take entry.args.line.len (now entry.args.text)) entry.pre.0.text entry.args.w entry.pre.1
-    (length (now entry.args.text)) (text-within entry.args.f l entry.pre.0 entry.args.w entry.pre.1)
+    (words-short catalogue (take entry.args.line.len (now entry.args.text)) entry.pre.0.text entry.args.w entry.pre.1.1
+    (length (now entry.args.text)) (text-within entry.args.f l entry.pre.0 entry.args.w entry.pre.1.1)
     (omega (arith, else1.if1.left, (length-kept entry.args.f l entry.pre.0), entry.pre.0.used)))
     (sym c.before.before.words-fit.ensures ∙ not-true _ c.before.if2.taken) c.says2.ensures
 
@@ -105,7 +108,7 @@ part-insert-bytes-end c =
       arith,
       (let z : entry.args.w.end1 ≤ entry.args.line.len = omega (
         arith,
-        entry.pre.1.first.1,
+        entry.pre.1.1.first.1,
         (length-kept entry.args.f
             (lent (now entry.args.text) (now entry.args.records) (now entry.args.texts) entry.args.line entry.args.log) entry.pre.0),
       ) in
@@ -133,7 +136,7 @@ part-insert-bytes-end-2 c =
       arith,
       (let z : entry.args.w.end2 ≤ entry.args.line.len = omega (
         arith,
-        entry.pre.1.second.1,
+        entry.pre.1.1.second.1,
         (length-kept entry.args.f
             (lent (now entry.args.text) (now entry.args.records) (now entry.args.texts) entry.args.line entry.args.log) entry.pre.0),
       ) in
@@ -153,11 +156,11 @@ insert-bytes-requires-2 c κs =
             (sym
             (raw-part (now entry.args.text) entry.args.line.len entry.args.w.beg2 entry.args.w.end2
             (let z : entry.args.w.end2 ≤ entry.args.line.len = omega
-            (arith, entry.pre.1.second.1, (length-kept entry.args.f l entry.pre.0)) in
+            (arith, entry.pre.1.1.second.1, (length-kept entry.args.f l entry.pre.0)) in
             z)))
             ∙ part-length catalogue (take entry.args.line.len (now entry.args.text)) entry.args.w.beg2 entry.args.w.end2
-            entry.pre.1.second),
-        small2 entry.args.f l entry.pre.0 entry.args.w entry.pre.1,
+            entry.pre.1.1.second),
+        small2 entry.args.f l entry.pre.0 entry.args.w entry.pre.1.1,
       ),
     )
 
@@ -175,7 +178,7 @@ slice-aggregate-put-words c =
       arith,
       after-insert-bytes.insert-bytes.kept.0,
       small1 entry.args.f (lent (now entry.args.text) (now entry.args.records) (now entry.args.texts) entry.args.line entry.args.log)
-          entry.pre.0 entry.args.w entry.pre.1,
+          entry.pre.0 entry.args.w entry.pre.1.1,
     )))
 
 array-share-prefix-second : tie.Need-array-share-prefix-second
@@ -187,7 +190,7 @@ array-share-prefix-second c =
       arith,
       after-insert-bytes2.insert-bytes2.kept.0,
       small2 entry.args.f (lent (now entry.args.text) (now entry.args.records) (now entry.args.texts) entry.args.line entry.args.log)
-          entry.pre.0 entry.args.w entry.pre.1,
+          entry.pre.0 entry.args.w entry.pre.1.1,
     )
 
 slice-aggregate-put-words-2 : tie.Need-slice-aggregate-put-words-2
@@ -201,7 +204,7 @@ slice-aggregate-put-words-2 c =
       arith,
       after-insert-bytes2.insert-bytes2.kept.0,
       small2 entry.args.f (lent (now entry.args.text) (now entry.args.records) (now entry.args.texts) entry.args.line entry.args.log)
-          entry.pre.0 entry.args.w entry.pre.1,
+          entry.pre.0 entry.args.w entry.pre.1.1,
     )))
 
 put-words-requires : tie.Need-put-words-requires
@@ -215,32 +218,35 @@ put-words-requires c κs =
     let l = lent (now entry.args.text) (now entry.args.records) (now entry.args.texts) entry.args.line entry.args.log in
     let length-kept1 = length-kept entry.args.f l entry.pre.0 in
     let raw-part1 = raw-part (now entry.args.text) entry.args.line.len entry.args.w.beg2 entry.args.w.end2
-    (let z : entry.args.w.end2 ≤ entry.args.line.len = omega (arith, entry.pre.1.second.1, length-kept1) in z) in
+    (let z : entry.args.w.end2 ≤ entry.args.line.len = omega (arith, entry.pre.1.1.second.1, length-kept1) in z) in
     let raw-part2 = raw-part (now entry.args.text) entry.args.line.len entry.args.w.beg1 entry.args.w.end1
-    (let z : entry.args.w.end1 ≤ entry.args.line.len = omega (arith, entry.pre.1.first.1, length-kept1) in z) in (
+    (let z : entry.args.w.end1 ≤ entry.args.line.len = omega (arith, entry.pre.1.1.first.1, length-kept1) in z) in (
       entry.pre.0,
       (
-        entry.pre.1,
+        entry.pre.1.0,
         (
-          (copied _ _ _
-              (sym
-              (ap length (sym raw-part2)
-              ∙ part-length catalogue (take entry.args.line.len (now entry.args.text)) entry.args.w.beg1 entry.args.w.end1
-              entry.pre.1.first)) after-insert-bytes.insert-bytes.ensures
-              ∙ sym raw-part2),
+          entry.pre.1.1,
           (
             (copied _ _ _
                 (sym
-                (ap length (sym raw-part1)
-                ∙ part-length catalogue (take entry.args.line.len (now entry.args.text)) entry.args.w.beg2 entry.args.w.end2
-                entry.pre.1.second)) after-insert-bytes2.insert-bytes2.ensures
-                ∙ sym raw-part1),
+                (ap length (sym raw-part2)
+                ∙ part-length catalogue (take entry.args.line.len (now entry.args.text)) entry.args.w.beg1 entry.args.w.end1
+                entry.pre.1.1.first)) after-insert-bytes.insert-bytes.ensures
+                ∙ sym raw-part2),
             (
-              (words-short catalogue (take entry.args.line.len (now entry.args.text)) entry.pre.0.text entry.args.w
-                  entry.pre.1 (length (now entry.args.text))
-                  (text-within entry.args.f l entry.pre.0 entry.args.w entry.pre.1)
-                  (omega (arith, else1.if1.left, length-kept1, entry.pre.0.used))),
-              (sym after-words-fit.words-fit.ensures ∙ not-false _ else2.if2.left),
+              (copied _ _ _
+                  (sym
+                  (ap length (sym raw-part1)
+                  ∙ part-length catalogue (take entry.args.line.len (now entry.args.text)) entry.args.w.beg2 entry.args.w.end2
+                  entry.pre.1.1.second)) after-insert-bytes2.insert-bytes2.ensures
+                  ∙ sym raw-part1),
+              (
+                (words-short catalogue (take entry.args.line.len (now entry.args.text)) entry.pre.0.text entry.args.w
+                    entry.pre.1.1 (length (now entry.args.text))
+                    (text-within entry.args.f l entry.pre.0 entry.args.w entry.pre.1.1)
+                    (omega (arith, else1.if1.left, length-kept1, entry.pre.0.used))),
+                (sym after-words-fit.words-fit.ensures ∙ not-false _ else2.if2.left),
+              ),
             ),
           ),
         ),

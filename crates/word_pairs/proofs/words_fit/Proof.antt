@@ -29,7 +29,7 @@ part-is-single-end c =
       arith,
       (let z : entry.args.w.end2 ≤ entry.args.line.len = omega (
         arith,
-        entry.pre.1.0.second.1,
+        entry.pre.1.1.0.second.1,
         (length-kept entry.args.f
             (lent (now entry.args.text) (now entry.args.records) (now entry.args.texts) entry.args.line entry.args.log) entry.pre.0),
       ) in
@@ -45,12 +45,12 @@ is-single-requires c κs =
     (raw-part (now entry.args.text) entry.args.line.len entry.args.w.beg2 entry.args.w.end2
     (let z : entry.args.w.end2 ≤ entry.args.line.len = omega (
       arith,
-      entry.pre.1.0.second.1,
+      entry.pre.1.1.0.second.1,
       (length-kept entry.args.f
           (lent (now entry.args.text) (now entry.args.records) (now entry.args.texts) entry.args.line entry.args.log) entry.pre.0),
     ) in
     z)))
-    ∙ part-text catalogue (take entry.args.line.len (now entry.args.text)) entry.args.w.beg2 entry.args.w.end2 entry.pre.1.0.second
+    ∙ part-text catalogue (take entry.args.line.len (now entry.args.text)) entry.args.w.beg2 entry.args.w.end2 entry.pre.1.1.0.second
     entry.pre.0.text
 
 sub-is-single-2 : tie.Need-sub-is-single-2
@@ -66,7 +66,7 @@ part-is-single-end-2 c =
       arith,
       (let z : entry.args.w.end1 ≤ entry.args.line.len = omega (
         arith,
-        entry.pre.1.0.first.1,
+        entry.pre.1.1.0.first.1,
         (length-kept entry.args.f
             (lent (now entry.args.text) (now entry.args.records) (now entry.args.texts) entry.args.line entry.args.log) entry.pre.0),
       ) in
@@ -82,12 +82,12 @@ is-single-requires-2 c κs =
     (raw-part (now entry.args.text) entry.args.line.len entry.args.w.beg1 entry.args.w.end1
     (let z : entry.args.w.end1 ≤ entry.args.line.len = omega (
       arith,
-      entry.pre.1.0.first.1,
+      entry.pre.1.1.0.first.1,
       (length-kept entry.args.f
           (lent (now entry.args.text) (now entry.args.records) (now entry.args.texts) entry.args.line entry.args.log) entry.pre.0),
     ) in
     z)))
-    ∙ part-text catalogue (take entry.args.line.len (now entry.args.text)) entry.args.w.beg1 entry.args.w.end1 entry.pre.1.0.first
+    ∙ part-text catalogue (take entry.args.line.len (now entry.args.text)) entry.args.w.beg1 entry.args.w.end1 entry.pre.1.1.0.first
     entry.pre.0.text
 
 room-now-requires : tie.Need-room-now-requires
@@ -98,17 +98,17 @@ room-cut-requires c κs =
     let entry = c .before .before .before .before .before .before .before .before in (
       entry.pre.0.log.fit,
       (
-        entry.pre.1.0.second.0,
+        entry.pre.1.1.0.second.0,
         in-range0 entry.args.f
             (lent (now entry.args.text) (now entry.args.records) (now entry.args.texts) entry.args.line entry.args.log) entry.pre.0
-            entry.args.w entry.pre.1.0 entry.pre.1.1 _ c.room-now.ensures,
+            entry.args.w entry.pre.1.1.0 entry.pre.1.1.1 _ c.room-now.ensures,
       ),
     )
 
 sub-room-put : tie.Need-sub-room-put
 sub-room-put c =
     let entry = c .before .before .before .before .before .before .before .before .before in
-    entry.pre.1.0.first.0
+    entry.pre.1.1.0.first.0
 
 room-put-requires : tie.Need-room-put-requires
 room-put-requires c κs =
@@ -116,13 +116,13 @@ room-put-requires c κs =
     let entry = after-is-single .before .before .before .before .before in
     let l = lent (now entry.args.text) (now entry.args.records) (now entry.args.texts) entry.args.line entry.args.log in (
       entry.pre.0.log.fit,
-      in-range1 entry.args.f l entry.pre.0 entry.args.w entry.pre.1.0 entry.pre.1.1 _ c.before.room-now.ensures _
+      in-range1 entry.args.f l entry.pre.0 entry.args.w entry.pre.1.1.0 entry.pre.1.1.1 _ c.before.room-now.ensures _
           (after-is-single.is-single.ensures
           ∙ ap (λ (x : List ℕ). isSingle catalogue (clustersOf catalogue x))
           (sym
           (raw-part (now entry.args.text) entry.args.line.len entry.args.w.beg2 entry.args.w.end2
           (let z : entry.args.w.end2 ≤ entry.args.line.len = omega
-          (arith, entry.pre.1.0.second.1, (length-kept entry.args.f l entry.pre.0)) in
+          (arith, entry.pre.1.1.0.second.1, (length-kept entry.args.f l entry.pre.0)) in
           z)))) _ c.room-cut.ensures,
     )
 
@@ -133,14 +133,14 @@ room-cut-requires-2 c κs =
     let l = lent (now entry.args.text) (now entry.args.records) (now entry.args.texts) entry.args.line entry.args.log in (
       entry.pre.0.log.fit,
       (
-        entry.pre.1.0.first.0,
-        in-range2 entry.args.f l entry.pre.0 entry.args.w entry.pre.1.0 entry.pre.1.1 _ c.before.before.room-now.ensures _
+        entry.pre.1.1.0.first.0,
+        in-range2 entry.args.f l entry.pre.0 entry.args.w entry.pre.1.1.0 entry.pre.1.1.1 _ c.before.before.room-now.ensures _
             (after-is-single.is-single.ensures
             ∙ ap (λ (x : List ℕ). isSingle catalogue (clustersOf catalogue x))
             (sym
             (raw-part (now entry.args.text) entry.args.line.len entry.args.w.beg2 entry.args.w.end2
             (let z : entry.args.w.end2 ≤ entry.args.line.len = omega
-            (arith, entry.pre.1.0.second.1, (length-kept entry.args.f l entry.pre.0)) in
+            (arith, entry.pre.1.1.0.second.1, (length-kept entry.args.f l entry.pre.0)) in
             z)))) _ c.before.room-cut.ensures _ c.room-put.ensures,
       ),
     )
@@ -148,7 +148,7 @@ room-cut-requires-2 c κs =
 sub-room-put-2 : tie.Need-sub-room-put-2
 sub-room-put-2 c =
     let entry = c .before .before .before .before .before .before .before .before .before .before .before in
-    entry.pre.1.0.second.0
+    entry.pre.1.1.0.second.0
 
 room-put-requires-2 : tie.Need-room-put-requires-2
 room-put-requires-2 c κs =
@@ -159,18 +159,18 @@ room-put-requires-2 c κs =
     let l = lent (now entry.args.text) (now entry.args.records) (now entry.args.texts) entry.args.line entry.args.log in
     let length-kept1 = length-kept entry.args.f l entry.pre.0 in (
       entry.pre.0.log.fit,
-      in-range3 entry.args.f l entry.pre.0 entry.args.w entry.pre.1.0 entry.pre.1.1 _ after-room-now.room-now.ensures _
+      in-range3 entry.args.f l entry.pre.0 entry.args.w entry.pre.1.1.0 entry.pre.1.1.1 _ after-room-now.room-now.ensures _
           (after-is-single.is-single.ensures
           ∙ ap (λ (x : List ℕ). isSingle catalogue (clustersOf catalogue x))
           (sym
           (raw-part (now entry.args.text) entry.args.line.len entry.args.w.beg2 entry.args.w.end2
-          (let z : entry.args.w.end2 ≤ entry.args.line.len = omega (arith, entry.pre.1.0.second.1, length-kept1) in z)))) _
+          (let z : entry.args.w.end2 ≤ entry.args.line.len = omega (arith, entry.pre.1.1.0.second.1, length-kept1) in z)))) _
           c.before.before.room-cut.ensures _ c.before.room-put.ensures _
           (after-is-single2.is-single2.ensures
           ∙ ap (λ (x : List ℕ). isSingle catalogue (clustersOf catalogue x))
           (sym
           (raw-part (now entry.args.text) entry.args.line.len entry.args.w.beg1 entry.args.w.end1
-          (let z : entry.args.w.end1 ≤ entry.args.line.len = omega (arith, entry.pre.1.0.first.1, length-kept1) in z)))) _
+          (let z : entry.args.w.end1 ≤ entry.args.line.len = omega (arith, entry.pre.1.1.0.first.1, length-kept1) in z)))) _
           c.room-cut2.ensures,
     )
 
@@ -183,18 +183,18 @@ returns c =
     let entry = after-is-single .before .before .before .before .before in
     let l = lent (now entry.args.text) (now entry.args.records) (now entry.args.texts) entry.args.line entry.args.log in
     let length-kept1 = length-kept entry.args.f l entry.pre.0 in
-    four-room entry.args.f l entry.pre.0 entry.args.w entry.pre.1.0 entry.pre.1.1 _ after-room-now.room-now.ensures _
+    four-room entry.args.f l entry.pre.0 entry.args.w entry.pre.1.1.0 entry.pre.1.1.1 _ after-room-now.room-now.ensures _
     (after-is-single.is-single.ensures
     ∙ ap (λ (x : List ℕ). isSingle catalogue (clustersOf catalogue x))
     (sym
     (raw-part (now entry.args.text) entry.args.line.len entry.args.w.beg2 entry.args.w.end2
-    (let z : entry.args.w.end2 ≤ entry.args.line.len = omega (arith, entry.pre.1.0.second.1, length-kept1) in z)))) _
+    (let z : entry.args.w.end2 ≤ entry.args.line.len = omega (arith, entry.pre.1.1.0.second.1, length-kept1) in z)))) _
     after-room-cut.room-cut.ensures _ c.before.before.room-put.ensures _
     (after-is-single2.is-single2.ensures
     ∙ ap (λ (x : List ℕ). isSingle catalogue (clustersOf catalogue x))
     (sym
     (raw-part (now entry.args.text) entry.args.line.len entry.args.w.beg1 entry.args.w.end1
-    (let z : entry.args.w.end1 ≤ entry.args.line.len = omega (arith, entry.pre.1.0.first.1, length-kept1) in z)))) _
+    (let z : entry.args.w.end1 ≤ entry.args.line.len = omega (arith, entry.pre.1.1.0.first.1, length-kept1) in z)))) _
     c.before.room-cut2.ensures _ c.room-put2.ensures
 
 pub words-fit-spec : {M : Type 1} → statement M

@@ -69,7 +69,7 @@ note-requires c κs =
           entry.args.kind entry.args.place (now entry.args.old) (now entry.args.new)
           (editOf entry.args.kind entry.args.place (now entry.args.old) (now entry.args.new)) entry.pre.1.1.1.0 entry.pre.1.1.1.1
           c.tail-for.result c.tail-for.ensures (omega (arith, else1.if1.left, c.before.before.if2.left, entry.pre.1.0.hold.space))
-          (omega (arith, entry.pre.1.0.fit.lengths)) (top-max _ entry.pre.0.width),
+          (omega (arith, entry.pre.1.0.fit.lengths)) (top-max _ entry.pre.0.width.most),
     )
 
 says-requires-3 : tie.Need-says-requires-3
@@ -95,7 +95,7 @@ returns-3 c =
 top-of-requires : tie.Need-top-of-requires
 top-of-requires c κs =
     let entry = c .before .before .before .before .before .before .before .before .before .before .before .before .before in
-    entry.pre.0.width
+    entry.pre.0.width.most
 
 says-requires-4 : tie.Need-says-requires-4
 says-requires-4 c κs = search needs
