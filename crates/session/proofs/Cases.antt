@@ -127,10 +127,10 @@ pub record Cases : Type 0 where
   pub p11 :
       (after (typing 0x61 ∷ typing 0x62 ∷ typing 0x20 ∷ typing 0x63 ∷ []) ≡ state (0x61 ∷ 0x62 ∷ 0x20 ∷ 0x63 ∷ []) 4 (edit (insert 2 (0x20 ∷ 0x63 ∷ [])) ∷ edit (insert 0 (0x61 ∷ 0x62 ∷ [])) ∷ []))
       × (after (typing 0x61 ∷ typing 0x62 ∷ typing 0x20 ∷ typing 0x63 ∷ undoing 1 ∷ []) .text ≡ 0x61 ∷ 0x62 ∷ [])
-  -- type q; begin; truncate to its mark; begin; type r; end; undo 1: empty text. With cancel for truncate: "q"
+  -- type q; begin; truncate to the mark that it answered; begin; type r; end; undo 1: empty text. With cancel for truncate: "q"
   pub p12 :
-      (after (typing 0x71 ∷ beginning ∷ truncating 1 ∷ beginning ∷ typing 0x72 ∷ ending ∷ undoing 1 ∷ []) .text ≡ [])
-      × (after (typing 0x71 ∷ beginning ∷ cancelling 1 ∷ beginning ∷ typing 0x72 ∷ ending ∷ undoing 1 ∷ []) .text ≡ 0x71 ∷ [])
+      (after (typing 0x71 ∷ beginning ∷ truncating ∷ beginning ∷ typing 0x72 ∷ ending ∷ undoing 1 ∷ []) .text ≡ [])
+      × (after (typing 0x71 ∷ beginning ∷ cancelling ∷ beginning ∷ typing 0x72 ∷ ending ∷ undoing 1 ∷ []) .text ≡ 0x71 ∷ [])
   -- ring of 2, kills a, b, c with resets: yank c, pops b, c
   pub p13 :
       (ringCalls.yankCall catalogue (playedRing.lending (playedRing.after 2 (playedRing.killing (0x61 ∷ []) ∷ playedRing.resetting ∷ playedRing.killing (0x62 ∷ []) ∷ playedRing.resetting ∷ playedRing.killing (0x63 ∷ []) ∷ []))) ≡ answered 0 0 0 (cb 0))

@@ -32,7 +32,7 @@ use Rattle.session.proofs.Invariant.{Bound, Inv}
 use Rattle.session.proofs.Handed.{found, passes, few}
 use Rattle.session.proofs.Units.{no-marks, undo-keeps, redo-keeps, undo-cap, redo-cap, units-are, in-one, nothing-left, undo-sum, undo-redo, first-text}
 use Rattle.session.proofs.Moves.{move-keeps}
-use Rattle.session.proofs.Steps.{Short, inv-more, step-keeps}
+use Rattle.session.proofs.Steps.{Short, inv-more, short-keeps}
 use Rattle.session.proofs.Starts.{start-keeps, start-sized, start-stands}
 use Rattle.session.proofs.HandOver.{Stands, text-is, none-emptied, emptied-none, same-text, same-log, handed-stands, handed-is, handed-on, step-leaves, walked-leaves, edit-number, opened}
 
@@ -53,7 +53,7 @@ module _ (R : Repertoire) (law : Lawful R) (F : Format) (one : (l : Lent) → fo
       let text : isText R (textOf b) ≡ true = subst (λ (y : State). isText R (y .text) ≡ true) (sym is) (w .here .text) in
       let cursor : In (textOf b) (b .line .cursor) (b .line .cursor) = subst (λ (y : State). In (y .text) (y .cursor) (y .cursor)) (sym is) (w .cursor) in
       let len : b .line .len ≡ length (textOf b) = ap (λ (y : Line). y .len) (hb .line) ∙ ap length (sym (text-is F s b hb)) in
-      let z = step-keeps R law F t₀ (buffersOf l) (buffersOf b) a s g on q v in
+      let z = short-keeps R law F t₀ (buffersOf l) (buffersOf b) a s g on q v in
       let z₁ = subst (λ (y : Lent). Inv R F (Short C) t₀ (leaves (outcomeOf R F y a) s) (values.openAfter a (outcomeOf R F y a) g)) (sym e) z in
       let z₂ = subst (Inv R F (Short C) t₀ (leaves (outcomeOf R F b a) s)) (sym (opened R F a x g m)) z₁ in (
         step-leaves R F s a x hb is (λ y. move-keeps R F b text cursor len y) m,

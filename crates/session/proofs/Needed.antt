@@ -45,7 +45,7 @@ pub record Needed : Type 0 where
       × (after (beginning ∷ typing a ∷ ending ∷ beginning ∷ undoing 2 ∷ []) .log .undo ≡ edit (insert 0 (a ∷ [])) ∷ begin ∷ [])
   -- a text buffer that shrinks: "a" cut from a buffer of one byte, and undone in one of none: 9
   pub smaller :
-      undoing 1 (lendingIn 0 (played (asking (calls.edit (calls.backspace 1)) ∷ []) (state (a ∷ []) 1 [])))
+      undoing 1 0 (lendingIn 0 (played (asking (calls.edit (calls.backspace 1)) ∷ []) 0 (state (a ∷ []) 1 [])))
       ≡ answered 9 0 0 (state [] 0 (edit (delete 0 (a ∷ [])) ∷ []))
   -- n above the units: type a, type a space, undo 1 leaves one unit and the text "a". Undo 2 and redo 2 give "a "
   pub above-units :

@@ -1,17 +1,20 @@
--- The texts that undo and redo pass through, one after each single record, inside a group too: all of them are of Q. Assumes nothing.
-use Prim.Native.Nat.{ℕ, zero, suc, _-_}
-use mathlib.Core.Bool.{Bool, true, false}
-use mathlib.Core.List.{List, [], _∷_}
-use Rattle.lists.proofs.Every.{Every}
+-- The texts that undo, redo and cancel pass through, one after each single record, inside a group too: all of them are of Q. Assumes nothing.
+use Prim.Native.Nat.{ℕ, zero, suc, _+_, _-_}
+use mathlib.Core.Bool.{Bool, true, false, cond}
+use mathlib.Core.List.{List, [], _∷_, _++_}
+use lib.Dec.{eqb}
+use lib.ListN.{length}
+use Rattle.lists.proofs.Every.{Every, every-append}
 use Rattle.unicode.specs.Repertoire.{Repertoire}
-use Rattle.journal.specs.Change.{Change, turn}
+use Rattle.journal.specs.Change.{Change, begin, end, edit, place, old, turn}
 use Rattle.formats.specs.declared.Format.{Format}
 use Rattle.edit.specs.Plan.{State}
 use Rattle.retrace.specs.Retrace.{Trail, Tried, done, stops, undoing}
-use Rattle.undo.specs.Undo.{Waiting, owed, passing, settled, trailOf}
-use Rattle.session.proofs.Invariant.{Bound, Inv}
+use Rattle.undo.specs.Undo.{Waiting, owed, passing, settled, trailOf, redoWalk, redoneState}
+use Rattle.session.proofs.Invariant.{Bound, Chain, Inv}
+use Rattle.session.proofs.Links.{undo-link}
 use Rattle.session.proofs.Walks.{At, at-turned, move}
-use Rattle.session.proofs.Units.{at}
+use Rattle.session.proofs.Units.{at, one-keeps}
 
 -- at a record: none where it is stopped
 abbrev pub textsTried : Tried → (Trail → List (List ℕ)) → List (List ℕ)
@@ -28,6 +31,22 @@ textsSettled true (suc l) go = go l
 unfoldable pub textsPassed : ℕ → ℕ → Waiting → List Change → Trail → List (List ℕ)
 textsPassed C l w [] s = []
 textsPassed C l w (x ∷ u) s = textsTried (undoing C x s) (λ s′. s′ .text ∷ textsSettled (settled (passing x w)) l (λ l′. textsPassed C l′ (passing x w) u s′))
+
+-- after each record that `redoOut` redoes: unit after unit, up to a stop
+unfoldable pub textsRedone : ℕ → ℕ → State → List (List ℕ)
+textsRedone C zero s = []
+textsRedone C (suc n) s =
+    textsPassed C 0 (owed 0) (s .log .redo) (trailOf s) ++ cond (eqb (redoWalk C s .stopped) 0) (textsRedone C n (redoneState (redoWalk C s) (s .log .level))) []
+
+-- after each record that `walkTo` undoes, down to the mark m
+unfoldable pub textsDown : ℕ → ℕ → List Change → Trail → List (List ℕ)
+textsDown C m [] s = []
+textsDown C m (x ∷ u) s = textsTried (undoing C x s) (λ s′. s′ .text ∷ cond (eqb (length u) m) [] (textsDown C m u s′))
+
+-- of both lists, whichever it is
+every-cond : (Q : List ℕ → Type 0) (b : Bool) (xs ys : List (List ℕ)) → Every Q xs → Every Q ys → Every Q (cond b xs ys)
+every-cond Q true xs ys h k = h
+every-cond Q false xs ys h k = k
 
 -- what holds of every way on holds of the texts behind a record
 every-settled : (Q : List ℕ → Type 0) (b : Bool) (l : ℕ) (go : ℕ → List (List ℕ)) → ((i : ℕ) → Every Q (go i)) → Every Q (textsSettled b l go)
@@ -51,5 +70,27 @@ module _ (R : Repertoire) (F : Format) (Q : List ℕ → Type 0) where
     undo-passing n = passing-all C t₀ (v .goal) h (s .log .undo) (s .log .redo) (n - 1) 0 (trailOf s) (at R F Q t₀ s v)
 
     -- of one unit redone
-    pub redo-passing : Every Q (textsPassed C 0 (owed 0) (s .log .redo) (trailOf s))
-    redo-passing = passing-all C (v .goal) t₀ h (s .log .redo) (s .log .undo) 0 0 (trailOf s) (at-turned R F Q (at R F Q t₀ s v))
+    pub one-passing : Every Q (textsPassed C 0 (owed 0) (s .log .redo) (trailOf s))
+    one-passing = passing-all C (v .goal) t₀ h (s .log .redo) (s .log .undo) 0 0 (trailOf s) (at-turned R F Q (at R F Q t₀ s v))
+
+  -- of redo n
+  pub redo-passing : (t₀ : List ℕ) (C n : ℕ) (s : State) → Bound Q C → Inv R F Q t₀ s [] → Every Q (textsRedone C n s)
+  unfolding textsRedone
+  redo-passing t₀ C zero s h v = tt
+  redo-passing t₀ C (suc n) s h v =
+      every-append Q (textsPassed C 0 (owed 0) (s .log .redo) (trailOf s)) _ (one-passing t₀ C s h v)
+      (every-cond Q (eqb (redoWalk C s .stopped) 0) _ [] (redo-passing t₀ C n (redoneState (redoWalk C s) (s .log .level)) h (one-keeps R F Q t₀ C s h v)) tt)
+
+  -- of cancel, down an undo list that leads through texts of Q
+  down-passing : (C m : ℕ) (e : List ℕ) → Bound Q C → (u : List Change) (s : Trail) → Chain R Q e u (s .text) → Q (s .text) → Every Q (textsDown C m u s)
+  unfolding textsDown undoing
+  down-passing C m e h [] s c q = tt
+  down-passing C m e h (begin ∷ u) s c q = (q, every-cond Q (eqb (length u) m) [] _ tt (down-passing C m e h u s c q))
+  down-passing C m e h (end ∷ u) s c q = (q, every-cond Q (eqb (length u) m) [] _ tt (down-passing C m e h u s c q))
+  down-passing C m e h (edit x ∷ u) s c q =
+      let l = c .1 in
+      rw (undo-link R C x (c .0) s h l)
+      (l .first, every-cond Q (eqb (length u) m) [] _ tt (down-passing C m e h u (record { text = c .0; cursor = place x + length (old x); undone = true }) (c .2) (l .first)))
+
+  pub cancel-passing : (t₀ : List ℕ) (C m : ℕ) (s : State) (g : List ℕ) → Bound Q C → Inv R F Q t₀ s g → Every Q (textsDown C m (s .log .undo) (trailOf s))
+  cancel-passing t₀ C m s g h v = down-passing C m t₀ h (s .log .undo) (trailOf s) (v .here .chain) (v .here .allowed)

@@ -4,7 +4,7 @@ use mathlib.Core.List.{List, [], _∷_, _++_}
 use lib.ListN.{length, replicate}
 use Rattle.unicode.specs.Repertoire.{catalogue}
 use Rattle.checks.specs.declared.Line.{Line}
-use Rattle.checks.specs.Outcome.{Outcome, leaves}
+use Rattle.checks.specs.Outcome.{Outcome, refused, answered}
 use Rattle.journal.specs.Change.{Change}
 use Rattle.formats.specs.Formats.{formatFor, logFormat}
 use Rattle.journal.specs.Layout.{encodeRecords, encodeTexts}
@@ -35,12 +35,12 @@ lendingIn C s =
 abbrev pub lending : State → Lent
 lending s = lendingIn 16 s
 
--- a call on what is lent
+-- a call on what is lent, and on the first place that the call before it answered: of begin, its mark
 abbrev pub Doing : Type 0
-Doing = Lent → Outcome State
+Doing = ℕ → Lent → Outcome State
 
 abbrev pub asking : Asked → Doing
-asking a l = outcomeOf catalogue logFormat l a
+asking a from l = outcomeOf catalogue logFormat l a
 
 -- a character typed, and the log's calls
 abbrev pub typing : ℕ → Doing
@@ -58,18 +58,23 @@ undoing n = asking (calls.undo n)
 abbrev pub redoing : ℕ → Doing
 redoing n = asking (calls.redo n)
 
-abbrev pub cancelling : ℕ → Doing
-cancelling mark = asking (calls.cancel mark)
+-- to the mark that begin answered; truncate is no call of demand 3's list
+abbrev pub cancelling : Doing
+cancelling mark l = outcomeOf catalogue logFormat l (calls.cancel mark)
 
--- truncate is no call of demand 3's list
-abbrev pub truncating : ℕ → Doing
-truncating len l = loggedBy catalogue logFormat l (truncateCall catalogue logFormat (logLent l) len)
+abbrev pub truncating : Doing
+truncating mark l = loggedBy catalogue logFormat l (truncateCall catalogue logFormat (logLent l) mark)
+
+-- the calls that come next are handed the place that is answered and the state that is left
+abbrev pub onward : (ℕ → State → State) → Outcome State → State → State
+onward next (refused k) s = next 0 s
+onward next (answered k a b s′) s = next a s′
 
 -- what they leave
-abbrev pub played : List Doing → State → State
-played [] s = s
-played (f ∷ fs) s = played fs (leaves (f (lending s)) s)
+abbrev pub played : List Doing → ℕ → State → State
+played [] from s = s
+played (f ∷ fs) from s = onward (played fs) (f from (lending s)) s
 
 -- from an empty text and an empty log
 abbrev pub after : List Doing → State
-after fs = played fs (state [] 0 [])
+after fs = played fs 0 (state [] 0 [])

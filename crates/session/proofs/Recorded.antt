@@ -15,7 +15,7 @@ use Rattle.utf8.specs.Chars.{In}
 use Rattle.unicode.specs.Repertoire.{Repertoire}
 use Rattle.unicode.specs.Text.{isText}
 use Rattle.unicode.proofs.Text.{text-append, text-cut, text-nil}
-use Rattle.checks.specs.Outcome.{leaves}
+use Rattle.checks.specs.Outcome.{Outcome, refused, answered, leaves}
 use Rattle.journal.specs.Change.{Edit, insert, delete, replace, Change, begin, end, edit, place, old, new}
 use Rattle.formats.specs.declared.Format.{Format}
 use Rattle.journal.specs.Recording.{Joined, apart, joined, joinIf, join, onJoined, note}
@@ -176,6 +176,11 @@ module _ (R : Repertoire) where
       (noted-here Q t₀ k g (joinsAt R x t) (editAt x t) t (made x t) u (piece-leads Q x t (h .text) s (h .allowed) q) (made-text R x t s (h .text)) h)
 
 -- ---- a plan
+-- not refused
+abbrev pub Answered : Outcome State → Type 0
+Answered (refused k) = ⊥
+Answered (answered k a b s) = Unit {0}
+
 -- each text that the pieces lead to is of Q where it is not longer than C
 abbrev pub New : (List ℕ → Type 0) → ℕ → List Piece → List ℕ → Type 0
 New Q C [] t = Unit {0}
@@ -215,11 +220,11 @@ module _ (R : Repertoire) where
           redo-small = r .3;
         }
 
-    -- a plan that suits the text, refused by 9, by 10 or by none
-    pub plan-keeps : (z : Sizes) (C : ℕ) (p : Plan) (s : State) (g : List ℕ) → New Q C (p .pieces) (s .text) → AllSuit R (p .pieces) (s .text) → In (textAfter (p .pieces) (s .text)) (p .cursor) (p .cursor)
+    -- a plan that suits the text, refused by 9, by 10 or by none; where it is refused, nothing is asked of its texts
+    pub plan-keeps : (z : Sizes) (C : ℕ) (p : Plan) (s : State) (g : List ℕ) → (Answered (edited R F z C p s) → New Q C (p .pieces) (s .text)) → AllSuit R (p .pieces) (s .text) → In (textAfter (p .pieces) (s .text)) (p .cursor) (p .cursor)
         → Inv R F Q t₀ s g → Inv R F Q t₀ (leaves (edited R F z C p s) s) g
     unfolding edited
     plan-keeps z C p s g n a i v =
         by-test (Inv R F Q t₀ (leaves (edited R F z C p s) s) g) (tooLong C (p .pieces) (s .text)) (λ e. rw e v)
         (λ e. by-test (Inv R F Q t₀ (leaves (edited R F z C p s) s) g) (fits F z (listAfter R (p .pieces) (s .text) (s .log .undo)))
-        (λ f. rw (e, f) (planned-keeps z C p s g n a i v e f)) (λ f. rw (e, f) v))
+        (λ f. rw (e, f) (planned-keeps z C p s g (n (rw (e, f) tt)) a i v e f)) (λ f. rw (e, f) v))

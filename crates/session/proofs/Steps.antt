@@ -5,7 +5,9 @@ use mathlib.Core.Path.{_≡_, sym, ap, subst}
 use mathlib.Core.Bool.{true, false}
 use mathlib.Core.List.{List, [], _∷_}
 use lib.ListN.{length}
+use Rattle.utf8.specs.Chars.{In}
 use Rattle.unicode.specs.Repertoire.{Repertoire, Lawful}
+use Rattle.unicode.specs.Text.{isText}
 use Rattle.checks.specs.Checks.{both, lineTests, ownTests}
 use Rattle.checks.specs.Outcome.{Outcome, called, leaves}
 use Rattle.journal.specs.Change.{Change, begin as Change·begin, end as Change·end, edit as Change·edit}
@@ -21,8 +23,8 @@ use Rattle.session.specs.Runs.{Allowed}
 use Rattle.session.proofs.Values.{Handed, lentFor, openAfter}
 use Rattle.session.proofs.Invariant.{Bound, Chain, Inv}
 use Rattle.session.proofs.Handed.{found}
-use Rattle.session.proofs.Recorded.{New, plan-keeps}
-use Rattle.session.proofs.Plans.{Planned, planned}
+use Rattle.session.proofs.Recorded.{Answered, New, plan-keeps}
+use Rattle.session.proofs.Plans.{planned}
 use Rattle.session.proofs.Moves.{moved-keeps}
 use Rattle.session.proofs.Groups.{not-one, Keeps, by-checks, begin-keeps, end-keeps, last-insert-keeps}
 use Rattle.session.proofs.Units.{undo-keeps, redo-keeps}
@@ -66,43 +68,59 @@ module _ (R : Repertoire) (Q Q′ : List ℕ → Type 0) (more : (t : List ℕ) 
       }
 
 -- ---- a call
+-- the texts that a call leads to are of Q: those of an edit that is not refused, piece by piece; no other call makes a text
+abbrev pub NewBy : (R : Repertoire) → Lawful R → Format → (List ℕ → Type 0) → Lent → Asked → Type 0
+NewBy R law F Q l (edit x) =
+    (v : isText R (textOf l) ≡ true) (i : In (textOf l) (l .line .cursor) (l .line .cursor)) (len : l .line .len ≡ length (textOf l)) → Answered (editOutcome R F l x)
+    → New Q (length (l .text)) (planned R law F l v i len x .plan .pieces) (textOf l)
+NewBy R law F Q l (move x) = Unit {0}
+NewBy R law F Q l (log x) = Unit {0}
+NewBy R law F Q l (undo n) = Unit {0}
+NewBy R law F Q l (redo n) = Unit {0}
+NewBy R law F Q l (cancel m) = Unit {0}
+
 module _ (R : Repertoire) (law : Lawful R) (F : Format) (Q : List ℕ → Type 0) (t₀ : List ℕ) where
   module _ (l : Lent) (s : State) (g : List ℕ) (is : stateOf R F l ≡ s) (len : l .line .len ≡ length (textOf l)) (v : Inv R F Q t₀ s g) where
     held : Inv R F Q t₀ (stateOf R F l) g
     held = subst (λ (x : State). Inv R F Q t₀ x g) (sym is) v
 
-    -- the plan of an edit
-    pub planOf : (x : EditCall) → Planned R F l (editOutcome R F l x)
-    planOf x = planned R law F l (held .here .text) (held .cursor) len x
-
     -- an edit, where the texts that it leads to are of Q
-    edit-keeps : (x : EditCall) → New Q (length (l .text)) (planOf x .plan .pieces) (textOf l) → Keeps R F Q t₀ (edit x) (outcomeOf R F l (edit x)) s g
+    edit-keeps : (x : EditCall) → NewBy R law F Q l (edit x) → Keeps R F Q t₀ (edit x) (outcomeOf R F l (edit x)) s g
     edit-keeps x n =
-        let p = planOf x in
+        let p = planned R law F l (held .here .text) (held .cursor) len x in
         subst (λ (o : Outcome State). Keeps R F Q t₀ (edit x) o s g) (sym (p .is))
         (by-checks R F Q t₀ l s g is v (edit x) (checked R F l (p .own)) _ (not-one (both (lineTests R F (l .text) (l .line)) (both (logTests R F (l .log) (l .records) (l .texts)) (p .own))))
-        (λ e. plan-keeps R F Q t₀ (sizesOf l) (length (l .text)) (p .plan) (stateOf R F l) g n (p .suits e .0) (p .suits e .1) held))
+        (λ e.
+        plan-keeps R F Q t₀ (sizesOf l) (length (l .text)) (p .plan) (stateOf R F l) g (λ q. n (held .here .text) (held .cursor) len (subst Answered (sym (p .is)) (rw e q))) (p .suits e .0) (p .suits e .1) held))
 
     -- a call of the log that is lent the text too
     log-keeps : (a : Asked) (f : State → Outcome State) → Keeps R F Q t₀ a (f (stateOf R F l)) (stateOf R F l) g → Keeps R F Q t₀ a (called (checked R F l (ownTests false false false)) (f (stateOf R F l))) s g
     log-keeps a f k = by-checks R F Q t₀ l s g is v a (checked R F l (ownTests false false false)) (f (stateOf R F l)) (not-one (both (lineTests R F (l .text) (l .line)) (both (logTests R F (l .log) (l .records) (l .texts)) (ownTests false false false)))) (λ e. k)
 
-    -- each call, where the texts that an edit leads to are of Q
-    pub keeps : Bound Q (length (l .text)) → ((x : EditCall) → New Q (length (l .text)) (planOf x .plan .pieces) (textOf l)) → (a : Asked) → Allowed a g → Keeps R F Q t₀ a (outcomeOf R F l a) s g
-    keeps b n (edit x) q = edit-keeps x (n x)
-    keeps b n (move x) q = moved-keeps R F l (held .here .text) (held .cursor) len Q t₀ s g v is x
-    keeps b n (log begin) q = begin-keeps R F Q t₀ l s g is v
-    keeps b n (log end) q = end-keeps R F Q t₀ l s g is v
-    keeps b n (log lastInsert) q = last-insert-keeps R F Q t₀ l s g is v
-    keeps b n (undo i) q =
+    -- each call, where the texts that it leads to are of Q
+    pub keeps : Bound Q (length (l .text)) → (a : Asked) → NewBy R law F Q l a → Allowed a g → Keeps R F Q t₀ a (outcomeOf R F l a) s g
+    keeps b (edit x) n q = edit-keeps x n
+    keeps b (move x) n q = moved-keeps R F l (held .here .text) (held .cursor) len Q t₀ s g v is x
+    keeps b (log begin) n q = begin-keeps R F Q t₀ l s g is v
+    keeps b (log end) n q = end-keeps R F Q t₀ l s g is v
+    keeps b (log lastInsert) n q = last-insert-keeps R F Q t₀ l s g is v
+    keeps b (undo i) n q =
         log-keeps (undo i) (undoOut (length (l .text)) i) (subst (Inv R F Q t₀ (leaves (undoOut (length (l .text)) i (stateOf R F l)) (stateOf R F l))) (sym q)
         (undo-keeps R F Q t₀ (length (l .text)) i (stateOf R F l) b (subst (Inv R F Q t₀ (stateOf R F l)) q held) .1))
-    keeps b n (redo i) q =
+    keeps b (redo i) n q =
         log-keeps (redo i) (redoOut (length (l .text)) i) (subst (Inv R F Q t₀ (leaves (redoOut (length (l .text)) i (stateOf R F l)) (stateOf R F l))) (sym q)
         (redo-keeps R F Q t₀ (length (l .text)) i (stateOf R F l) b (subst (Inv R F Q t₀ (stateOf R F l)) q held) .1))
-    keeps b n (cancel m) q = log-keeps (cancel m) (cancelOut (length (l .text)) m) (cancel-keeps R F Q t₀ (length (l .text)) m (stateOf R F l) g b held)
+    keeps b (cancel m) n q = log-keeps (cancel m) (cancelOut (length (l .text)) m) (cancel-keeps R F Q t₀ (length (l .text)) m (stateOf R F l) g b held)
 
 -- ---- a call of a run
+-- Q is what holds of the texts before it, Q′ of those and of the texts that it leads to
+pub step-keeps : (R : Repertoire) (law : Lawful R) (F : Format) (Q Q′ : List ℕ → Type 0) (t₀ : List ℕ) (b b′ : Buffers) (a : Asked) (s : State) (g : List ℕ) → Handed F b s b′ → Allowed a g
+    → ((t : List ℕ) → Q t → Q′ t) → Bound Q′ (length (b′ .text)) → NewBy R law F Q′ (lentFor F s b′) a → Inv R F Q t₀ s g
+    → Inv R F Q′ t₀ (leaves (outcomeOf R F (lentFor F s b′) a) s) (openAfter a (outcomeOf R F (lentFor F s b′) a) g)
+step-keeps R law F Q Q′ t₀ b b′ a s g h q more top n v =
+    let w = inv-more R Q Q′ more F t₀ s g v in
+    keeps R law F Q′ t₀ (lentFor F s b′) s g (found R F Q′ t₀ b s g w b′ h) (ap length (sym (h .stored .text))) w top a n q
+
 -- no longer than a buffer of so many bytes
 abbrev pub Short : ℕ → List ℕ → Type 0
 Short C t = length t ≤ C
@@ -111,12 +129,16 @@ new-short : (C : ℕ) (xs : List Piece) (t : List ℕ) → New (Short C) C xs t
 new-short C [] t = tt
 new-short C (x ∷ xs) t = ((λ h. h), new-short C xs (made x t))
 
-pub step-keeps : (R : Repertoire) → Lawful R → (F : Format) (t₀ : List ℕ) (b b′ : Buffers) (a : Asked) (s : State) (g : List ℕ) → Handed F b s b′ → Allowed a g → Inv R F (Short (length (b .text))) t₀ s g
+all-short : (R : Repertoire) (law : Lawful R) (F : Format) (l : Lent) (a : Asked) → NewBy R law F (Short (length (l .text))) l a
+all-short R law F l (edit x) = λ v i len q. new-short (length (l .text)) (planned R law F l v i len x .plan .pieces) (textOf l)
+all-short R law F l (move x) = tt
+all-short R law F l (log x) = tt
+all-short R law F l (undo n) = tt
+all-short R law F l (redo n) = tt
+all-short R law F l (cancel m) = tt
+
+-- every text fits the buffer that is lent
+pub short-keeps : (R : Repertoire) → Lawful R → (F : Format) (t₀ : List ℕ) (b b′ : Buffers) (a : Asked) (s : State) (g : List ℕ) → Handed F b s b′ → Allowed a g → Inv R F (Short (length (b .text))) t₀ s g
     → Inv R F (Short (length (b′ .text))) t₀ (leaves (outcomeOf R F (lentFor F s b′) a) s) (openAfter a (outcomeOf R F (lentFor F s b′) a) g)
-step-keeps R law F t₀ b b′ a s g h q v =
-    let C = length (b′ .text) in
-    let l = lentFor F s b′ in
-    let w = inv-more R (Short (length (b .text))) (Short C) (λ t k. omega (arith, h .noSmaller .text)) F t₀ s g v in
-    let is = found R F (Short C) t₀ b s g w b′ h in
-    let len = ap length (sym (h .stored .text)) in
-    keeps R law F (Short C) t₀ l s g is len w (λ t k. k) (λ x. new-short C (planOf R law F (Short C) t₀ l s g is len w x .plan .pieces) (textOf l)) a q
+short-keeps R law F t₀ b b′ a s g h q v =
+    step-keeps R law F (Short (length (b .text))) (Short (length (b′ .text))) t₀ b b′ a s g h q (λ t k. omega (arith, h .noSmaller .text)) (λ t k. k) (all-short R law F (lentFor F s b′) a) v

@@ -62,7 +62,7 @@ abbrev afterRedo : ℕ → ℕ → State → State
 afterRedo C n s = leaves (redoOut C n s) s
 
 -- one unit redone
-abbrev afterOne : ℕ → State → State
+abbrev pub afterOne : ℕ → State → State
 afterOne C s = redoneState (redoWalk C s) (s .log .level)
 
 -- redo is never refused
@@ -122,7 +122,7 @@ module _ (R : Repertoire) (F : Format) (Q : List ℕ → Type 0) (t₀ : List �
   one-good C s h v = good R F Q C (v .goal) t₀ h (s .log .redo) (s .log .undo) 0 0 (trailOf s) (at-turned R F Q (at s v)) (v .cursor)
 
   -- it keeps the invariant
-  one-keeps : (C : ℕ) (s : State) → Bound Q C → Inv R F Q t₀ s [] → Inv R F Q t₀ (afterOne C s) []
+  pub one-keeps : (C : ℕ) (s : State) → Bound Q C → Inv R F Q t₀ s [] → Inv R F Q t₀ (afterOne C s) []
   one-keeps C s h v =
       let q = one-good C s h v in
       inv (afterOne C s) (v .goal) (level-none s v) (at-turned R F Q (q .at)) (q .cursor)
