@@ -250,25 +250,39 @@ pub fn ring_call(name: &'static str, lent: LentRing, texts: Option<&Vec<Vec<u8>>
     note(name, answer.number, lent.is_at_a_limit(), || lent.line(short(name), texts, ring, answer));
 }
 
+/// The data files that are written by hand.
+const CASES: [&str; 2] = ["movement_cases.txt", "edit_cases.txt"];
+
+/// What the program prints of a file where all of it agrees: its name, and how many lines of each call it has.
+fn printed(file: &str, text: &str) -> String {
+    let mut counts: Vec<(&str, usize)> = Vec::new();
+    for line in text.lines().filter(|line| !line.starts_with('#')) {
+        let name = line.split(' ').next().expect("a call's name");
+        match counts.last_mut() {
+            Some((last, count)) if *last == name => *count += 1,
+            _ => counts.push((name, 1)),
+        }
+    }
+    counts.iter().fold(format!("{file}\n"), |all, (name, count)| all + &format!("{name}: {count} agree\n"))
+}
+
 fn commented(text: &str) -> String {
     text.lines().map(|line| format!("# {line}\n")).collect()
 }
 
-/// Writes the data files of the program that replays them, and what it prints where all of it agrees, `stdout`: all of
-/// them, or none where a call has no line.
+/// Writes the data files of the program that replays them, and what it prints where all of it agrees, the cases too that
+/// are written by hand, `stdout`: all of them, or none where a call has no line.
 pub fn write(program: &Path, n: u64, seed: u64) -> io::Result<()> {
     RECORDER.with(|r| {
         let recorder = r.borrow();
         let recorder = recorder.as_ref().expect("started");
         let mut files = Vec::new();
-        let mut printed = String::new();
+        let mut stdout = String::new();
         for data in &FILES {
             let mut file = commented(&format!("Written by `differential/record {n} {seed}`; {}.", env!("VERSIONS")));
             file += &commented(data.form);
             file += &commented(HEAD);
-            printed += &format!("{}\n", data.file);
             for (name, gives) in calls().filter(|(name, _)| (data.has)(name)) {
-                let mut count = 0;
                 for &number in gives {
                     let lines: Vec<String> =
                         [false, true].iter().flat_map(|&limit| recorder.drawn(name, number, limit)).collect();
@@ -276,15 +290,16 @@ pub fn write(program: &Path, n: u64, seed: u64) -> io::Result<()> {
                         return Err(io::Error::other(format!("no line of {name} with {number} is short enough")));
                     }
                     lines.iter().for_each(|line| file += &format!("{line}\n"));
-                    count += lines.len();
                 }
-                printed += &format!("{}: {count} agree\n", short(name));
             }
             assert!(file.len() <= MOST, "{} has {} bytes", data.file, file.len());
+            stdout += &printed(data.file, &file);
             files.push((program.join("data").join(data.file), file));
         }
-        files.push((program.join("stdout"), printed));
-        fs::create_dir_all(program.join("data"))?;
+        for file in CASES {
+            stdout += &printed(file, &fs::read_to_string(program.join("data").join(file))?);
+        }
+        files.push((program.join("stdout"), stdout));
         files.iter().try_for_each(|(path, text)| fs::write(path, text))
     })
 }

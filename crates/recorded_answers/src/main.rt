@@ -1,4 +1,5 @@
-// Replays the recorded answers: the lines that `differential/record` wrote to the files of data/, each file below its name.
+// Replays the files of data/, each below its name: the recorded answers that `differential/record` writes, and the cases that are
+// written by hand.
 use libc::STDOUT_FILENO;
 
 fn replay_file(path: &[u8]) {
@@ -14,4 +15,6 @@ fn main() {
     replay_file(b"log.txt");
     replay_file(b"undo.txt");
     replay_file(b"ring.txt");
+    replay_file(b"movement_cases.txt");
+    replay_file(b"edit_cases.txt");
 }
