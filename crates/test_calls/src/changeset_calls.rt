@@ -1,0 +1,118 @@
+// The calls of `Changeset`.
+use changeset::Log;
+use changeset::LogAnswer;
+use check::same;
+use checks::Line;
+use edit::EditAnswer;
+use test_fields::code_of;
+use test_fields::count_of;
+use test_fields::key_if;
+use test_fields::value_at;
+
+fn plain_key(name: &[u8]) -> usize {
+    if same(name, b"new") {
+        return 1;
+    }
+    if same(name, b"begin") {
+        return 2;
+    }
+    if same(name, b"end") {
+        return 3;
+    }
+    key_if(name, b"last_insert", 4)
+}
+
+fn text_key(name: &[u8]) -> usize {
+    if same(name, b"insert_str") {
+        return 5;
+    }
+    if same(name, b"delete") {
+        return 6;
+    }
+    if same(name, b"replace") {
+        return 7;
+    }
+    key_if(name, b"truncate", 8)
+}
+
+fn key_with_one(name: &[u8]) -> usize {
+    if same(name, b"undo") {
+        return 10;
+    }
+    if same(name, b"redo") {
+        return 11;
+    }
+    if same(name, b"cancel") {
+        return 12;
+    }
+    text_key(name)
+}
+
+// The call of this name with so many arguments besides texts, as `call` takes it; 0 where there is none.
+pub fn key_of(name: &[u8], count: usize) -> usize {
+    match count {
+        0 => plain_key(name),
+        1 => key_with_one(name),
+        2 => key_if(name, b"insert", 9),
+        _ => 0,
+    }
+}
+
+// The calls that are lent a log alone, and the empty log of new.
+fn log_call(
+    key: usize,
+    records: &mut [u8],
+    texts: &mut [u8],
+    log: Log,
+    buf: &[u8],
+    new: &[u8],
+    v: &[usize],
+) -> LogAnswer {
+    let a = value_at(v, 0);
+    let ch = code_of(value_at(v, 1));
+    match key {
+        1 => changeset::says(0, Log::new()),
+        2 => log_calls::begin(records, texts, log),
+        3 => log_calls::end(records, texts, log),
+        4 => log_calls::last_insert(records, texts, log),
+        5 => log_calls::insert_str(records, texts, log, a, buf),
+        6 => log_calls::delete(records, texts, log, a, buf),
+        7 => log_calls::replace(records, texts, log, a, buf, new),
+        8 => log_calls::truncate(records, texts, log, a),
+        _ => log_calls::insert(records, texts, log, a, ch),
+    }
+}
+
+// The answer of a call that `key_of` gives, with these texts and these other arguments.
+pub fn call(
+    key: usize,
+    text: &mut [u8],
+    records: &mut [u8],
+    texts: &mut [u8],
+    line: Line,
+    log: Log,
+    buf: &[u8],
+    new: &[u8],
+    v: &[usize],
+) -> EditAnswer {
+    let a = value_at(v, 0);
+    let n = count_of(a);
+    match key {
+        10 => undo::undo(text, records, texts, line, log, n),
+        11 => redo::redo(text, records, texts, line, log, n),
+        12 => cancel::cancel(text, records, texts, line, log, a),
+        _ => on_line(line, log_call(key, records, texts, log, buf, new, v)),
+    }
+}
+
+// The answer of a call that is lent a log alone: the line is as it was.
+fn on_line(line: Line, a: LogAnswer) -> EditAnswer {
+    let log = a.log;
+    EditAnswer {
+        number: a.number,
+        from: a.from,
+        to: a.to,
+        line,
+        log,
+    }
+}

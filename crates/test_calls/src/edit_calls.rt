@@ -1,0 +1,129 @@
+// The calls of `inserts`, `ranges`, `transpose_chars`, `edit_word`, `transpose_words` and `indents`.
+use changeset::Log;
+use check::same;
+use checks::Line;
+use edit::EditAnswer;
+use test_fields::amount_of;
+use test_fields::code_of;
+use test_fields::count_of;
+use test_fields::key_if;
+use test_fields::value_at;
+
+fn key_with_one(name: &[u8]) -> usize {
+    if same(name, b"yank") {
+        return 2;
+    }
+    if same(name, b"yank_pop") {
+        return 3;
+    }
+    if same(name, b"update") {
+        return 4;
+    }
+    if same(name, b"edit_word") {
+        return 8;
+    }
+    key_if(name, b"transpose_words", 9)
+}
+
+fn key_with_two(name: &[u8]) -> usize {
+    if same(name, b"insert") {
+        return 1;
+    }
+    if same(name, b"delete_range") {
+        return 5;
+    }
+    key_if(name, b"replace", 6)
+}
+
+// The call of this name with so many arguments besides a text, as `call` takes it; 0 where there is none.
+pub fn key_of(name: &[u8], count: usize) -> usize {
+    match count {
+        0 => key_if(name, b"transpose_chars", 7),
+        1 => key_with_one(name),
+        2 => key_with_two(name),
+        8 => key_if(name, b"indent", 10),
+        _ => 0,
+    }
+}
+
+// The calls of `inserts` and `ranges`, by their keys.
+fn insert_call(
+    key: usize,
+    text: &mut [u8],
+    records: &mut [u8],
+    texts: &mut [u8],
+    line: Line,
+    log: Log,
+    buf: &[u8],
+    v: &[usize],
+) -> EditAnswer {
+    let a = value_at(v, 0);
+    let b = value_at(v, 1);
+    let code = code_of(a);
+    let n = count_of(a);
+    let nb = count_of(b);
+    match key {
+        1 => inserts::insert(text, records, texts, line, log, code, nb),
+        2 => inserts::yank(text, records, texts, line, log, buf, n),
+        3 => inserts::yank_pop(text, records, texts, line, log, a, buf),
+        4 => inserts::update(text, records, texts, line, log, buf, a),
+        5 => ranges::delete_range(text, records, texts, line, log, a, b),
+        _ => ranges::replace(text, records, texts, line, log, a, b, buf),
+    }
+}
+
+fn indent_call(
+    text: &mut [u8],
+    records: &mut [u8],
+    texts: &mut [u8],
+    line: Line,
+    log: Log,
+    v: &[usize],
+) -> EditAnswer {
+    let mvt = code_of(value_at(v, 0));
+    let n = count_of(value_at(v, 1));
+    let at = code_of(value_at(v, 2));
+    let word = code_of(value_at(v, 3));
+    let search = code_of(value_at(v, 4));
+    let ch = code_of(value_at(v, 5));
+    let amount = amount_of(value_at(v, 6));
+    let dedent = value_at(v, 7) != 0;
+    indents::indent(
+        text,
+        records,
+        texts,
+        line,
+        log,
+        mvt,
+        n,
+        at,
+        word,
+        search,
+        ch,
+        amount,
+        dedent,
+    )
+}
+
+// The answer of a call that `key_of` gives, with this text to put in and these other arguments.
+pub fn call(
+    key: usize,
+    text: &mut [u8],
+    records: &mut [u8],
+    texts: &mut [u8],
+    line: Line,
+    log: Log,
+    buf: &[u8],
+    v: &[usize],
+) -> EditAnswer {
+    if key <= 6 {
+        return insert_call(key, text, records, texts, line, log, buf, v);
+    }
+    let a = value_at(v, 0);
+    match key {
+        7 => transpose_chars::transpose_chars(text, records, texts, line, log),
+        8 => edit_word::edit_word(text, records, texts, line, log, code_of(a)),
+        9 => transpose_words::transpose_words(text, records, texts, line, log, count_of(a)),
+        _ => indent_call(text, records, texts, line, log, v),
+    }
+}

@@ -1,0 +1,81 @@
+// The calls of `kills` and `deletions`.
+use changeset::Log;
+use check::same;
+use checks::Line;
+use edit::EditAnswer;
+use test_fields::code_of;
+use test_fields::count_of;
+use test_fields::key_if;
+use test_fields::value_at;
+
+fn plain_key(name: &[u8]) -> usize {
+    if same(name, b"kill_line") {
+        return 1;
+    }
+    if same(name, b"kill_buffer") {
+        return 2;
+    }
+    if same(name, b"discard_line") {
+        return 3;
+    }
+    key_if(name, b"discard_buffer", 4)
+}
+
+fn key_with_one(name: &[u8]) -> usize {
+    if same(name, b"backspace") {
+        return 5;
+    }
+    key_if(name, b"delete", 6)
+}
+
+fn key_with_three(name: &[u8]) -> usize {
+    if same(name, b"delete_word") {
+        return 8;
+    }
+    key_if(name, b"delete_to", 9)
+}
+
+// The call of this name with so many arguments, as `call` takes it; 0 where there is none.
+pub fn key_of(name: &[u8], count: usize) -> usize {
+    match count {
+        0 => plain_key(name),
+        1 => key_with_one(name),
+        2 => key_if(name, b"delete_prev_word", 7),
+        3 => key_with_three(name),
+        6 => key_if(name, b"kill", 10),
+        _ => 0,
+    }
+}
+
+// The answer of a call that `key_of` gives, with these arguments.
+pub fn call(
+    key: usize,
+    text: &mut [u8],
+    records: &mut [u8],
+    texts: &mut [u8],
+    line: Line,
+    log: Log,
+    v: &[usize],
+) -> EditAnswer {
+    let n = count_of(value_at(v, 0));
+    let a = code_of(value_at(v, 0));
+    let b = code_of(value_at(v, 1));
+    let nb = count_of(value_at(v, 1));
+    let nc = count_of(value_at(v, 2));
+    let at = code_of(value_at(v, 2));
+    let word = code_of(value_at(v, 3));
+    let search = code_of(value_at(v, 4));
+    let ch = code_of(value_at(v, 5));
+    match key {
+        1 => deletions::kill_line(text, records, texts, line, log),
+        2 => deletions::kill_buffer(text, records, texts, line, log),
+        3 => deletions::discard_line(text, records, texts, line, log),
+        4 => deletions::discard_buffer(text, records, texts, line, log),
+        5 => deletions::backspace(text, records, texts, line, log, n),
+        6 => deletions::delete(text, records, texts, line, log, n),
+        7 => deletions::delete_prev_word(text, records, texts, line, log, a, nb),
+        8 => deletions::delete_word(text, records, texts, line, log, a, b, nc),
+        9 => deletions::delete_to(text, records, texts, line, log, a, b, nc),
+        _ => kills::kill(text, records, texts, line, log, a, nb, at, word, search, ch),
+    }
+}

@@ -1,0 +1,54 @@
+// The calls of the kill ring by their names: each is called at one place. The arguments besides a text stand in the order of the
+// call's parameters.
+use check::same;
+use kill_ring::Left;
+use kill_ring::Ring;
+use test_fields::code_of;
+use test_fields::key_if;
+use test_fields::value_at;
+
+fn plain_key(name: &[u8]) -> usize {
+    if same(name, b"reset") {
+        return 1;
+    }
+    if same(name, b"yank") {
+        return 2;
+    }
+    key_if(name, b"yank_pop", 3)
+}
+
+fn key_with_one(name: &[u8]) -> usize {
+    if same(name, b"new") {
+        return 4;
+    }
+    key_if(name, b"kill", 5)
+}
+
+// The call of this name with so many arguments besides a text, as `call` takes it; 0 where there is none.
+pub fn key_of(name: &[u8], count: usize) -> usize {
+    match count {
+        0 => plain_key(name),
+        1 => key_with_one(name),
+        _ => 0,
+    }
+}
+
+// The answer of a call that `key_of` gives, and the ring's record afterwards, with this text and these other arguments.
+pub fn call(
+    key: usize,
+    slots: &mut [u8],
+    lens: &mut [u8],
+    ring: Ring,
+    text: &[u8],
+    v: &[usize],
+) -> Left {
+    let a = value_at(v, 0);
+    let mode = code_of(a);
+    match key {
+        1 => kill_ring::reset(slots, lens, ring),
+        2 => kill_ring::yank(slots, lens, ring),
+        3 => kill_ring::yank_pop(slots, lens, ring),
+        4 => kill_ring::new(ring, a),
+        _ => kill_ring::kill(slots, lens, ring, text, mode),
+    }
+}
