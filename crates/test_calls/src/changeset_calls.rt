@@ -1,61 +1,20 @@
 // The calls of `Changeset`.
 use changeset::Log;
 use changeset::LogAnswer;
-use check::same;
 use checks::Line;
 use edit::EditAnswer;
 use test_fields::code_of;
 use test_fields::count_of;
-use test_fields::key_if;
 use test_fields::value_at;
 
-fn plain_key(name: &[u8]) -> usize {
-    if same(name, b"new") {
-        return 1;
-    }
-    if same(name, b"begin") {
-        return 2;
-    }
-    if same(name, b"end") {
-        return 3;
-    }
-    key_if(name, b"last_insert", 4)
-}
-
-fn text_key(name: &[u8]) -> usize {
-    if same(name, b"insert_str") {
-        return 5;
-    }
-    if same(name, b"delete") {
-        return 6;
-    }
-    if same(name, b"replace") {
-        return 7;
-    }
-    key_if(name, b"truncate", 8)
-}
-
-fn key_with_one(name: &[u8]) -> usize {
-    if same(name, b"undo") {
-        return 10;
-    }
-    if same(name, b"redo") {
-        return 11;
-    }
-    if same(name, b"cancel") {
-        return 12;
-    }
-    text_key(name)
-}
-
-// The call of this name with so many arguments besides texts, as `call` takes it; 0 where there is none.
+// The key of a call, as `call` takes it; 0 where there is none.
 pub fn key_of(name: &[u8], count: usize) -> usize {
-    match count {
-        0 => plain_key(name),
-        1 => key_with_one(name),
-        2 => key_if(name, b"insert", 9),
-        _ => 0,
-    }
+    test_fields::key_of(
+        b"new 0,begin 0,end 0,last_insert 0,insert_str 1,delete 1,replace 1,truncate 1,insert 2,\
+          undo 1,redo 1,cancel 1",
+        name,
+        count,
+    )
 }
 
 // The calls that are lent a log alone, and the empty log of new.

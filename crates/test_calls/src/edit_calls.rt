@@ -1,49 +1,20 @@
 // The calls of `inserts`, `ranges`, `transpose_chars`, `edit_word`, `transpose_words` and `indents`.
 use changeset::Log;
-use check::same;
 use checks::Line;
 use edit::EditAnswer;
 use test_fields::amount_of;
 use test_fields::code_of;
 use test_fields::count_of;
-use test_fields::key_if;
 use test_fields::value_at;
 
-fn key_with_one(name: &[u8]) -> usize {
-    if same(name, b"yank") {
-        return 2;
-    }
-    if same(name, b"yank_pop") {
-        return 3;
-    }
-    if same(name, b"update") {
-        return 4;
-    }
-    if same(name, b"edit_word") {
-        return 8;
-    }
-    key_if(name, b"transpose_words", 9)
-}
-
-fn key_with_two(name: &[u8]) -> usize {
-    if same(name, b"insert") {
-        return 1;
-    }
-    if same(name, b"delete_range") {
-        return 5;
-    }
-    key_if(name, b"replace", 6)
-}
-
-// The call of this name with so many arguments besides a text, as `call` takes it; 0 where there is none.
+// The key of a call, as `call` takes it; 0 where there is none.
 pub fn key_of(name: &[u8], count: usize) -> usize {
-    match count {
-        0 => key_if(name, b"transpose_chars", 7),
-        1 => key_with_one(name),
-        2 => key_with_two(name),
-        8 => key_if(name, b"indent", 10),
-        _ => 0,
-    }
+    test_fields::key_of(
+        b"insert 2,yank 1,yank_pop 1,update 1,delete_range 2,replace 2,\
+          transpose_chars 0,edit_word 1,transpose_words 1,indent 8",
+        name,
+        count,
+    )
 }
 
 // The calls of `inserts` and `ranges`, by their keys.

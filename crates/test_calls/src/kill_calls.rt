@@ -1,50 +1,19 @@
 // The calls of `kills` and `deletions`.
 use changeset::Log;
-use check::same;
 use checks::Line;
 use edit::EditAnswer;
 use test_fields::code_of;
 use test_fields::count_of;
-use test_fields::key_if;
 use test_fields::value_at;
 
-fn plain_key(name: &[u8]) -> usize {
-    if same(name, b"kill_line") {
-        return 1;
-    }
-    if same(name, b"kill_buffer") {
-        return 2;
-    }
-    if same(name, b"discard_line") {
-        return 3;
-    }
-    key_if(name, b"discard_buffer", 4)
-}
-
-fn key_with_one(name: &[u8]) -> usize {
-    if same(name, b"backspace") {
-        return 5;
-    }
-    key_if(name, b"delete", 6)
-}
-
-fn key_with_three(name: &[u8]) -> usize {
-    if same(name, b"delete_word") {
-        return 8;
-    }
-    key_if(name, b"delete_to", 9)
-}
-
-// The call of this name with so many arguments, as `call` takes it; 0 where there is none.
+// The key of a call, as `call` takes it; 0 where there is none.
 pub fn key_of(name: &[u8], count: usize) -> usize {
-    match count {
-        0 => plain_key(name),
-        1 => key_with_one(name),
-        2 => key_if(name, b"delete_prev_word", 7),
-        3 => key_with_three(name),
-        6 => key_if(name, b"kill", 10),
-        _ => 0,
-    }
+    test_fields::key_of(
+        b"kill_line 0,kill_buffer 0,discard_line 0,discard_buffer 0,backspace 1,delete 1,\
+          delete_prev_word 2,delete_word 3,delete_to 3,kill 6",
+        name,
+        count,
+    )
 }
 
 // The answer of a call that `key_of` gives, with these arguments.

@@ -36,6 +36,25 @@ fn with_log(a: LineAnswer, log: Log) -> EditAnswer {
     }
 }
 
+// The answer of Changeset's call of a name.
+fn log_call(
+    name: &[u8],
+    text: &mut [u8],
+    records: &mut [u8],
+    texts: &mut [u8],
+    line: Line,
+    log: Log,
+    buf: &[u8],
+    new: &[u8],
+    v: &[usize],
+) -> EditAnswer {
+    let key = changeset_calls::key_of(name, v.len());
+    if key == 0 {
+        return no_call(line, log);
+    }
+    changeset_calls::call(key, text, records, texts, line, log, buf, new, v)
+}
+
 // The answer of LineBuffer's call of a name.
 fn line_call(
     name: &[u8],
@@ -56,26 +75,11 @@ fn line_call(
     if edit != 0 {
         return edit_calls::call(edit, text, records, texts, line, log, buf, v);
     }
-    with_log(line_calls::call(name, text, line, v), log)
-}
-
-// The answer of Changeset's call of a name.
-fn log_call(
-    name: &[u8],
-    text: &mut [u8],
-    records: &mut [u8],
-    texts: &mut [u8],
-    line: Line,
-    log: Log,
-    buf: &[u8],
-    new: &[u8],
-    v: &[usize],
-) -> EditAnswer {
-    let key = changeset_calls::key_of(name, v.len());
+    let key = line_calls::key_of(name, count);
     if key == 0 {
         return no_call(line, log);
     }
-    changeset_calls::call(key, text, records, texts, line, log, buf, new, v)
+    with_log(line_calls::call(key, text, line, v), log)
 }
 
 // The answer of the call of a name, such as line_insert or log_undo, with these texts and these other arguments.

@@ -354,9 +354,21 @@ pub fn is_of(name: &[u8], kind: &[u8]) -> bool {
     same(&name[0..end], kind)
 }
 
-// The key of a call where the name is its own, else 0.
-pub fn key_if(name: &[u8], call: &[u8], key: usize) -> usize {
-    if same(name, call) { key } else { 0 }
+// The place in a list, from 1 on, of the call with a name and so many arguments; 0 where it is not there. A list is the names with
+// their numbers of arguments, as `begin 0,insert 2`.
+pub fn key_of(list: &[u8], name: &[u8], count: usize) -> usize {
+    let mut key: usize = 0;
+    let mut at = 0;
+    while at < list.len() {
+        let end = place_of(list, at, b' ');
+        let f = number_behind(list, end, b' ');
+        key += 1;
+        if same(&list[at..end], name) & (f.value == count) {
+            return key;
+        }
+        at = past(f.next, list.len());
+    }
+    0
 }
 
 // Where the method's name begins, behind the name of the call's kind and '_'.

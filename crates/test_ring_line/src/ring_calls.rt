@@ -1,36 +1,13 @@
 // The calls of the kill ring by their names: each is called at one place. The arguments besides a text stand in the order of the
 // call's parameters.
-use check::same;
 use kill_ring::Left;
 use kill_ring::Ring;
 use test_fields::code_of;
-use test_fields::key_if;
 use test_fields::value_at;
 
-fn plain_key(name: &[u8]) -> usize {
-    if same(name, b"reset") {
-        return 1;
-    }
-    if same(name, b"yank") {
-        return 2;
-    }
-    key_if(name, b"yank_pop", 3)
-}
-
-fn key_with_one(name: &[u8]) -> usize {
-    if same(name, b"new") {
-        return 4;
-    }
-    key_if(name, b"kill", 5)
-}
-
-// The call of this name with so many arguments besides a text, as `call` takes it; 0 where there is none.
+// The key of a call, as `call` takes it; 0 where there is none.
 pub fn key_of(name: &[u8], count: usize) -> usize {
-    match count {
-        0 => plain_key(name),
-        1 => key_with_one(name),
-        _ => 0,
-    }
+    test_fields::key_of(b"reset 0,yank 0,yank_pop 0,new 1,kill 1", name, count)
 }
 
 // The answer of a call that `key_of` gives, and the ring's record afterwards, with this text and these other arguments.
