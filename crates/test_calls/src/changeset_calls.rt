@@ -42,7 +42,7 @@ fn log_call(
     }
 }
 
-// The answer of a call that `key_of` gives, with these texts and these other arguments.
+// The answer of the call of a key, with these texts and these other arguments.
 pub fn call(
     key: usize,
     text: &mut [u8],
@@ -57,6 +57,7 @@ pub fn call(
     let a = value_at(v, 0);
     let n = count_of(a);
     match key {
+        0 => super::no_call(line, log),
         10 => undo::undo(text, records, texts, line, log, n),
         11 => redo::redo(text, records, texts, line, log, n),
         12 => cancel::cancel(text, records, texts, line, log, a),

@@ -1,14 +1,14 @@
 // The calls that are lent a text or a log by their names in the interface for C, without its first word: each is called at one place.
 // The arguments besides texts stand in the order of the call's parameters.
 mod changeset_calls;
-mod edit_calls;
-mod kill_calls;
 mod line_calls;
 
 use changeset::Log;
 use checks::Line;
 use checks::LineAnswer;
 use edit::EditAnswer;
+use test_edit_calls::edit_calls;
+use test_edit_calls::kill_calls;
 use test_fields::NO_CALL;
 use test_fields::is_of;
 use test_fields::method_at;
@@ -36,52 +36,6 @@ fn with_log(a: LineAnswer, log: Log) -> EditAnswer {
     }
 }
 
-// The answer of Changeset's call of a name.
-fn log_call(
-    name: &[u8],
-    text: &mut [u8],
-    records: &mut [u8],
-    texts: &mut [u8],
-    line: Line,
-    log: Log,
-    buf: &[u8],
-    new: &[u8],
-    v: &[usize],
-) -> EditAnswer {
-    let key = changeset_calls::key_of(name, v.len());
-    if key == 0 {
-        return no_call(line, log);
-    }
-    changeset_calls::call(key, text, records, texts, line, log, buf, new, v)
-}
-
-// The answer of LineBuffer's call of a name.
-fn line_call(
-    name: &[u8],
-    text: &mut [u8],
-    records: &mut [u8],
-    texts: &mut [u8],
-    line: Line,
-    log: Log,
-    buf: &[u8],
-    v: &[usize],
-) -> EditAnswer {
-    let count = v.len();
-    let kill = kill_calls::key_of(name, count);
-    if kill != 0 {
-        return kill_calls::call(kill, text, records, texts, line, log, v);
-    }
-    let edit = edit_calls::key_of(name, count);
-    if edit != 0 {
-        return edit_calls::call(edit, text, records, texts, line, log, buf, v);
-    }
-    let key = line_calls::key_of(name, count);
-    if key == 0 {
-        return no_call(line, log);
-    }
-    with_log(line_calls::call(key, text, line, v), log)
-}
-
 // The answer of the call of a name, such as line_insert or log_undo, with these texts and these other arguments.
 pub fn call(
     name: &[u8],
@@ -96,11 +50,22 @@ pub fn call(
 ) -> EditAnswer {
     let from = method_at(name);
     let method = &name[from..];
-    if is_of(name, b"line") {
-        return line_call(method, text, records, texts, line, log, buf, v);
-    }
+    let count = v.len();
     if is_of(name, b"log") {
-        return log_call(method, text, records, texts, line, log, buf, new, v);
+        let key = changeset_calls::key_of(method, count);
+        return changeset_calls::call(key, text, records, texts, line, log, buf, new, v);
     }
-    no_call(line, log)
+    if !is_of(name, b"line") {
+        return no_call(line, log);
+    }
+    let kill = kill_calls::key_of(method, count);
+    if kill != 0 {
+        return kill_calls::call(kill, text, records, texts, line, log, v);
+    }
+    let edit = edit_calls::key_of(method, count);
+    if edit != 0 {
+        return edit_calls::call(edit, text, records, texts, line, log, buf, v);
+    }
+    let key = line_calls::key_of(method, count);
+    with_log(line_calls::call(key, text, line, v), log)
 }

@@ -1,6 +1,7 @@
 // The calls that are lent a text and do not write.
 use checks::Line;
 use checks::LineAnswer;
+use test_fields::NO_CALL;
 use test_fields::code_of;
 use test_fields::count_of;
 use test_fields::value_at;
@@ -14,6 +15,15 @@ pub fn key_of(name: &[u8], count: usize) -> usize {
         name,
         count,
     )
+}
+
+fn no_call(line: Line) -> LineAnswer {
+    LineAnswer {
+        number: NO_CALL,
+        from: 0,
+        to: 0,
+        line,
+    }
 }
 
 fn copy_call(text: &[u8], line: Line, v: &[usize]) -> LineAnswer {
@@ -40,12 +50,13 @@ fn found_call(key: usize, text: &[u8], line: Line, v: &[usize]) -> LineAnswer {
     }
 }
 
-// The answer of a call that `key_of` gives, with these arguments.
+// The answer of the call of a key, with these arguments.
 pub fn call(key: usize, text: &[u8], line: Line, v: &[usize]) -> LineAnswer {
     let a = value_at(v, 0);
     let b = value_at(v, 1);
     let n = count_of(a);
     match key {
+        0 => no_call(line),
         1 => movement::is_cursor_at_end(text, line),
         2 => movement::is_end_of_input(text, line),
         3 => movement::move_buffer_start(text, line),

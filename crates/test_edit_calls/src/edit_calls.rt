@@ -17,32 +17,6 @@ pub fn key_of(name: &[u8], count: usize) -> usize {
     )
 }
 
-// The calls of `inserts` and `ranges`, by their keys.
-fn insert_call(
-    key: usize,
-    text: &mut [u8],
-    records: &mut [u8],
-    texts: &mut [u8],
-    line: Line,
-    log: Log,
-    buf: &[u8],
-    v: &[usize],
-) -> EditAnswer {
-    let a = value_at(v, 0);
-    let b = value_at(v, 1);
-    let code = code_of(a);
-    let n = count_of(a);
-    let nb = count_of(b);
-    match key {
-        1 => inserts::insert(text, records, texts, line, log, code, nb),
-        2 => inserts::yank(text, records, texts, line, log, buf, n),
-        3 => inserts::yank_pop(text, records, texts, line, log, a, buf),
-        4 => inserts::update(text, records, texts, line, log, buf, a),
-        5 => ranges::delete_range(text, records, texts, line, log, a, b),
-        _ => ranges::replace(text, records, texts, line, log, a, b, buf),
-    }
-}
-
 fn indent_call(
     text: &mut [u8],
     records: &mut [u8],
@@ -87,14 +61,21 @@ pub fn call(
     buf: &[u8],
     v: &[usize],
 ) -> EditAnswer {
-    if key <= 6 {
-        return insert_call(key, text, records, texts, line, log, buf, v);
-    }
     let a = value_at(v, 0);
+    let b = value_at(v, 1);
+    let code = code_of(a);
+    let n = count_of(a);
+    let nb = count_of(b);
     match key {
+        1 => inserts::insert(text, records, texts, line, log, code, nb),
+        2 => inserts::yank(text, records, texts, line, log, buf, n),
+        3 => inserts::yank_pop(text, records, texts, line, log, a, buf),
+        4 => inserts::update(text, records, texts, line, log, buf, a),
+        5 => ranges::delete_range(text, records, texts, line, log, a, b),
+        6 => ranges::replace(text, records, texts, line, log, a, b, buf),
         7 => transpose_chars::transpose_chars(text, records, texts, line, log),
-        8 => edit_word::edit_word(text, records, texts, line, log, code_of(a)),
-        9 => transpose_words::transpose_words(text, records, texts, line, log, count_of(a)),
+        8 => edit_word::edit_word(text, records, texts, line, log, code),
+        9 => transpose_words::transpose_words(text, records, texts, line, log, n),
         _ => indent_call(text, records, texts, line, log, v),
     }
 }
