@@ -3,6 +3,7 @@ ghost use Prim.Native.Nat.{_+_, _<_, _≤_};
 ghost use lib.ListN.{length};
 use check::same;
 use libc::STDOUT_FILENO;
+use test_fields::one_if;
 use test_fields::place_of;
 
 fn print(s: &[u8]) {
@@ -45,12 +46,6 @@ pub struct Count {
     pub first: usize,
     pub last: usize,
     pub agreed: usize,
-}
-
-fn one_if(b: bool) -> usize
-    ensures { λ r. ⌜ r ≤ 1 ⌝ }
-{
-    if b { 1 } else { 0 }
 }
 
 // The count with a line of a call whose name stands between two places. The count of another call is printed.

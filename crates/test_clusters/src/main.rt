@@ -12,6 +12,7 @@ use cluster::next_cluster;
 use cluster::prev_cluster;
 use libc::STDOUT_FILENO;
 use test_fields::is_at;
+use test_fields::one_if;
 use test_fields::past;
 use test_fields::place_of;
 use unicode::check_text;
@@ -192,12 +193,6 @@ struct Tally {
     lines: usize,
     forward: usize,
     backward: usize,
-}
-
-fn one_if(b: bool) -> usize
-    ensures { λ r. ⌜ r ≤ 1 ⌝ }
-{
-    if b { 1 } else { 0 }
 }
 
 // What a test line adds to the tally.

@@ -281,7 +281,7 @@ pub fn amount_of(x: usize) -> u8 {
 }
 
 // Are these the bytes that a field says? It is read into `scratch`.
-pub fn holds(field: &[u8], bytes: &[u8], scratch: &mut [u8]) -> bool {
+fn holds(field: &[u8], bytes: &[u8], scratch: &mut [u8]) -> bool {
     let f = text_of(field, 0, scratch);
     let len = f.value;
     if f.next != field.len() {
@@ -291,7 +291,7 @@ pub fn holds(field: &[u8], bytes: &[u8], scratch: &mut [u8]) -> bool {
 }
 
 // Is a buffer left as a line says: the used part as the field `due`, or the whole as the field `lent` where `due` is '='?
-pub fn is_left(due: &[u8], lent: &[u8], buffer: &[u8], used: usize, scratch: &mut [u8]) -> bool {
+fn is_left(due: &[u8], lent: &[u8], buffer: &[u8], used: usize, scratch: &mut [u8]) -> bool {
     if same(due, b"=") {
         return holds(lent, buffer, scratch);
     }
@@ -337,6 +337,13 @@ pub fn sum(a: usize, b: usize) -> usize {
         return 18446744073709551615;
     }
     a + b
+}
+
+// What a test adds to a count.
+pub fn one_if(b: bool) -> usize
+    ensures { λ r. ⌜ r ≤ 1 ⌝ }
+{
+    if b { 1 } else { 0 }
 }
 
 pub fn least(a: usize, b: usize) -> usize
