@@ -15,12 +15,15 @@ enum-told c = search needs
 
 returns : tie.Need-returns
 returns c =
+    let entry = c .before .before .before .before in
     let e = c .before .before .before .from-code .ensures in
-    let w = c .before .w .given in
-    sym (ap (backwardWord (c .before .before .before .before .args .n)) (sym e ∙ w .1))
+    let w = c.before.w.given in
+    sym (ap (backwardWord entry.args.n) (sym e ∙ w.1))
 
 returns-2 : tie.Need-returns-2
-returns-2 c = sym (ap (backwardWord (c .before .before .before .args .n)) (sym (c .before .before .from-code .ensures) ∙ c .enum-told .given .1))
+returns-2 c =
+    let entry = c .before .before .before in
+    sym (ap (backwardWord entry.args.n) (sym c.before.before.from-code.ensures ∙ c.enum-told.given.1))
 
 pub backward-word-spec : {M : Type 1} → statement M
 backward-word-spec =

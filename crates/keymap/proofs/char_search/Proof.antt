@@ -14,10 +14,15 @@ enum-told : tie.Need-enum-told
 enum-told c = search needs
 
 returns : tie.Need-returns
-returns c = sym (ap (charSearch (c .before .before .before .before .args .n)) (sym (c .before .before .before .from-code .ensures) ∙ c .before .c .given .1))
+returns c =
+    let after-from-code = c .before .before .before in
+    let entry = after-from-code.before in
+    sym (ap (charSearch entry.args.n) (sym after-from-code.from-code.ensures ∙ c.before.c.given.1))
 
 returns-2 : tie.Need-returns-2
-returns-2 c = sym (ap (charSearch (c .before .before .before .args .n)) (sym (c .before .before .from-code .ensures) ∙ c .enum-told .given .1))
+returns-2 c =
+    let entry = c .before .before .before in
+    sym (ap (charSearch entry.args.n) (sym c.before.before.from-code.ensures ∙ c.enum-told.given.1))
 
 pub char-search-spec : {M : Type 1} → statement M
 char-search-spec = tie.close (tie.spec from-code-requires enum-known-c enum-told returns returns-2)

@@ -33,14 +33,16 @@ returns c =
     let w = c .before .before .before in
     let a = w .before .before in
     let x = a .before .before .before .args in
-    sym (both (x .n) (sym (a .before .before .from-code .ensures) ∙ a .a .given .1) (sym (w .from-code2 .ensures) ∙ c .before .w .given .1))
+    sym (both (x .n) (sym (a .before .before .from-code .ensures) ∙ a .a .given .1)
+    (sym (w .from-code2 .ensures) ∙ c .before .w .given .1))
 
 returns-2 : tie.Need-returns-2
 returns-2 c =
     let w = c .before .before in
     let a = w .before .before in
     let x = a .before .before .before .args in
-    sym (both (x .n) (sym (a .before .before .from-code .ensures) ∙ a .a .given .1) (sym (w .from-code2 .ensures) ∙ c .enum-told .given .1))
+    sym (both (x .n) (sym (a .before .before .from-code .ensures) ∙ a .a .given .1)
+    (sym (w .from-code2 .ensures) ∙ c .enum-told .given .1))
 
 returns-3 : tie.Need-returns-3
 returns-3 c =

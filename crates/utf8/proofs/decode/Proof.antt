@@ -1,4 +1,15 @@
-use Rattle.utf8.proofs.Forms.{first-one, first-none, first-two, first-three, first-four, first-high, lead-1, lead-2, lead-3, lead-rest}
+use Rattle.utf8.proofs.Forms.{
+  first-one,
+  first-none,
+  first-two,
+  first-three,
+  first-four,
+  first-high,
+  lead-1,
+  lead-2,
+  lead-3,
+  lead-rest,
+}
 use mathlib.Core.Path.{sym, _∙_}
 use native.Mathlib.Omega.{arith}
 use borrow.Author.Needs.{needs}
@@ -24,35 +35,41 @@ returns-2 c =
 returns-3 : tie.Need-returns-3
 returns-3 c =
     let a = c .before .before .before .before .args in
-    sym (first-none (a .a) (a .b) (a .c) (a .d) (c .if3 .left) (omega (arith, lead-1 (a .a) (omega arith) (sym (c .before .before .char-len .ensures) ∙ c .before .if2 .taken))))
+    sym
+    (first-none a.a a.b a.c a.d c.if3.left
+    (omega (arith, lead-1 a.a (omega arith) (sym c.before.before.char-len.ensures ∙ c.before.if2.taken))))
 
 two-bytes-requires : tie.Need-two-bytes-requires
 two-bytes-requires c κs = search needs
 
 returns-4 : tie.Need-returns-4
 returns-4 c =
+    let after-char-len = c .before .before .before in
     let a = c .before .before .before .before .before .args in
-    let r = lead-2 (a .a) (omega arith) (sym (c .before .before .before .char-len .ensures) ∙ c .before .if4 .taken) in
-    c .two-bytes .ensures ∙ sym (first-two (a .a) (a .b) (a .c) (a .d) (r .0) (r .1))
+    let r = lead-2 a.a (omega arith) (sym after-char-len.char-len.ensures ∙ c.before.if4.taken) in
+    c.two-bytes.ensures ∙ sym (first-two a.a a.b a.c a.d r.0 r.1)
 
 three-bytes-requires : tie.Need-three-bytes-requires
 three-bytes-requires c κs = search needs
 
 returns-5 : tie.Need-returns-5
 returns-5 c =
+    let after-char-len = c .before .before .before .before in
     let a = c .before .before .before .before .before .before .args in
-    let r = lead-3 (a .a) (omega arith) (sym (c .before .before .before .before .char-len .ensures) ∙ c .before .if5 .taken) in
-    c .three-bytes .ensures ∙ sym (first-three (a .a) (a .b) (a .c) (a .d) (r .0) (r .1))
+    let r = lead-3 a.a (omega arith) (sym after-char-len.char-len.ensures ∙ c.before.if5.taken) in
+    c.three-bytes.ensures ∙ sym (first-three a.a a.b a.c a.d r.0 r.1)
 
 four-bytes-requires : tie.Need-four-bytes-requires
 four-bytes-requires c κs = search needs
 
 returns-6 : tie.Need-returns-6
 returns-6 c =
+    let else2 = c .before .before .before in
     let a = c .before .before .before .before .before .before .args in
     let e = c .before .before .before .before .char-len .ensures in
-    let r = lead-rest (a .a) (omega arith) (λ p. c .before .before .before .if2 .left (e ∙ p)) (λ p. c .before .before .if4 .left (e ∙ p)) (λ p. c .before .if5 .left (e ∙ p)) in
-    c .four-bytes .ensures ∙ sym (first-four (a .a) (a .b) (a .c) (a .d) r)
+    let r = lead-rest a.a (omega arith) (λ p. else2.if2.left (e ∙ p)) (λ p. c.before.before.if4.left (e ∙ p))
+    (λ p. c.before.if5.left (e ∙ p)) in
+    c.four-bytes.ensures ∙ sym (first-four a.a a.b a.c a.d r)
 
 pub decode-spec : {M : Type 1} → statement M
 decode-spec =

@@ -28,14 +28,23 @@ is-tail-requires c κs = search needs
 
 returns : tie.Need-returns Inv-loop μ-loop
 returns c =
-    sym (c .before .before .before .before .loop .inv ∙ start-here _ _ (c .before .before .before .loop-test .taken) (sym (c .before .is-tail .ensures ∙ ap tail (c .before .before .byte-at .ensures)) ∙ not-true _ (c .if1 .taken)))
+    let in-loop = c .before .before .before in
+    let at-loop = in-loop.before in
+    sym
+    (at-loop.loop.inv
+    ∙ start-here _ _ in-loop.loop-test.taken
+    (sym (c.before.is-tail.ensures ∙ ap tail c.before.before.byte-at.ensures) ∙ not-true _ c.if1.taken))
 
 loop-less : tie.Need-loop-less Inv-loop μ-loop
 loop-less c = omega arith
 
 loop-again : tie.Need-loop-again Inv-loop μ-loop
 loop-again c =
-    c .before .before .before .before .loop .inv ∙ start-back _ _ (c .before .before .before .loop-test .taken) (sym (c .before .is-tail .ensures ∙ ap tail (c .before .before .byte-at .ensures)) ∙ not-false _ (c .if1 .left))
+    let in-loop = c .before .before .before in
+    let at-loop = in-loop.before in
+    at-loop.loop.inv
+    ∙ start-back _ _ in-loop.loop-test.taken
+    (sym (c.before.is-tail.ensures ∙ ap tail c.before.before.byte-at.ensures) ∙ not-false _ c.if1.left)
 
 returns-2 : tie.Need-returns-2 Inv-loop μ-loop
 returns-2 c = sym (c .before .loop .inv ∙ start-none _ _ (c .loop-test .left))

@@ -19,18 +19,26 @@ between-requires-3 c κs = search needs
 
 returns-2 : tie.Need-returns-2
 unfolding lead4
-returns-2 c = simp (ne-eqb _ _ (c .before .before .before .if1 .left), ← c .before .before .between2 .ensures, c .before .if2 .taken) (c .between3 .ensures)
+returns-2 c =
+    let else1 = c .before .before .before in
+    simp (ne-eqb _ _ else1.if1.left, ← c.before.before.between2.ensures, c.before.if2.taken) c.between3.ensures
 
 between-requires-4 : tie.Need-between-requires-4
 between-requires-4 c κs = search needs
 
 returns-3 : tie.Need-returns-3
 unfolding lead4
-returns-3 c = simp (ne-eqb _ _ (c .before .before .before .before .if1 .left), ← c .before .before .before .between2 .ensures, c .before .before .if2 .left, eq-eqb _ _ (c .before .if3 .taken)) (c .between4 .ensures)
+returns-3 c =
+    let after-between2 = c .before .before .before in
+    let else1 = after-between2.before in
+    simp (ne-eqb _ _ else1.if1.left, ← after-between2.between2.ensures, c.before.before.if2.left, eq-eqb _ _ c.before.if3.taken)
+    c.between4.ensures
 
 returns-4 : tie.Need-returns-4
 unfolding lead4
-returns-4 c = simp (ne-eqb _ _ (c .before .before .before .if1 .left), ← c .before .before .between2 .ensures, c .before .if2 .left, ne-eqb _ _ (c .if3 .left))
+returns-4 c =
+    let else1 = c .before .before .before in
+    simp (ne-eqb _ _ else1.if1.left, ← c.before.before.between2.ensures, c.before.if2.left, ne-eqb _ _ c.if3.left)
 
 pub starts-four-spec : {M : Type 1} → statement M
 starts-four-spec =

@@ -13,21 +13,31 @@ between-requires c κs = search needs
 
 join-requires : tie.Need-join-requires
 unfolding three
-join-requires c κs = omega (arith, mask-lt (c .before .before .before .before .args .a) 4)
+join-requires c κs =
+    let entry = c .before .before .before .before in
+    omega (arith, mask-lt entry.args.a 4)
 
 join-requires-2 : tie.Need-join-requires-2
 unfolding three
-join-requires-2 c κs = omega (arith, mask-lt (c .before .before .before .before .before .args .a) 4)
+join-requires-2 c κs =
+    let entry = c .before .before .before .before .before in
+    omega (arith, mask-lt entry.args.a 4)
 
 returns : tie.Need-returns
 unfolding three
 returns c =
-    simp (← c .before .before .before .before .before .starts-three .ensures, c .before .before .before .before .if1 .taken, ← c .before .before .before .between .ensures, c .before .before .if2 .taken)
-    (cc (and-mask (c .before .before .before .before .before .before .args .a) 4))
+    let after-between = c .before .before .before in
+    let then1 = after-between.before in
+    let after-starts-three = then1.before in
+    let entry = after-starts-three.before in
+    simp (← after-starts-three.starts-three.ensures, then1.if1.taken, ← after-between.between.ensures, c.before.before.if2.taken)
+    (cc (and-mask entry.args.a 4))
 
 returns-2 : tie.Need-returns-2
 unfolding three
-returns-2 c = simp (← c .before .before .before .starts-three .ensures, c .before .before .if1 .taken, ← c .before .between .ensures, c .if2 .left)
+returns-2 c =
+    let after-starts-three = c .before .before .before in
+    simp (← after-starts-three.starts-three.ensures, c.before.before.if1.taken, ← c.before.between.ensures, c.if2.left)
 
 returns-3 : tie.Need-returns-3
 unfolding three

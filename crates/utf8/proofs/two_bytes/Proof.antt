@@ -13,17 +13,24 @@ between-requires-2 c κs = search needs
 
 join-requires : tie.Need-join-requires
 unfolding two
-join-requires c κs = omega (arith, mask-lt (c .before .before .before .before .args .a) 5)
+join-requires c κs =
+    let entry = c .before .before .before .before in
+    omega (arith, mask-lt entry.args.a 5)
 
 returns : tie.Need-returns
 unfolding two
 returns c =
-    simp (← c .before .before .before .before .between .ensures, c .before .before .before .if1 .taken, ← c .before .before .between2 .ensures, c .before .if2 .taken)
-    (cc (and-mask (c .before .before .before .before .before .args .a) 5))
+    let then1 = c .before .before .before in
+    let after-between = then1.before in
+    let entry = after-between.before in
+    simp (← after-between.between.ensures, then1.if1.taken, ← c.before.before.between2.ensures, c.before.if2.taken)
+    (cc (and-mask entry.args.a 5))
 
 returns-2 : tie.Need-returns-2
 unfolding two
-returns-2 c = simp (← c .before .before .before .between .ensures, c .before .before .if1 .taken, ← c .before .between2 .ensures, c .if2 .left)
+returns-2 c =
+    let after-between = c .before .before .before in
+    simp (← after-between.between.ensures, c.before.before.if1.taken, ← c.before.between2.ensures, c.if2.left)
 
 returns-3 : tie.Need-returns-3
 unfolding two

@@ -78,9 +78,23 @@ past k x h n = omega arith
 returns-15 : tie.Need-returns-15
 unfolding movements
 returns-15 c =
-    let x = c .before .args .mvt in
-    let h : 14 ≤ x = (past 13 x (past 12 x (past 11 x (past 10 x (past 9 x (past 8 x (past 7 x (past 6 x (past 5 x (past 4 x (past 3 x (past 2 x (past 1 x (past 0 x zero-le (c .match .rest .0 .0 .0 .0 .0 .0 .0 .0 .0 .0 .0 .0 .0 .1)) (c .match .rest .0 .0 .0 .0 .0 .0 .0 .0 .0 .0 .0 .0 .1)) (c .match .rest .0 .0 .0 .0 .0 .0 .0 .0 .0 .0 .0 .1)) (c .match .rest .0 .0 .0 .0 .0 .0 .0 .0 .0 .0 .1)) (c .match .rest .0 .0 .0 .0 .0 .0 .0 .0 .0 .1)) (c .match .rest .0 .0 .0 .0 .0 .0 .0 .0 .1)) (c .match .rest .0 .0 .0 .0 .0 .0 .0 .1)) (c .match .rest .0 .0 .0 .0 .0 .0 .1)) (c .match .rest .0 .0 .0 .0 .0 .1)) (c .match .rest .0 .0 .0 .0 .1)) (c .match .rest .0 .0 .0 .1)) (c .match .rest .0 .0 .1)) (c .match .rest .0 .1)) (c .match .rest .1)) in
-    sym (List·getD-eq-default (movements (c .before .args .n) (c .before .args .at) (c .before .args .word) (c .before .args .search) (c .before .args .ch)) _ h)
+    let x = c.before.args.mvt in
+    let r = c.match.rest in
+    let p1 = past 0 x zero-le r.0.0.0.0.0.0.0.0.0.0.0.0.0.1 in
+    let p2 = past 1 x p1 r.0.0.0.0.0.0.0.0.0.0.0.0.1 in
+    let p3 = past 2 x p2 r.0.0.0.0.0.0.0.0.0.0.0.1 in
+    let p4 = past 3 x p3 r.0.0.0.0.0.0.0.0.0.0.1 in
+    let p5 = past 4 x p4 r.0.0.0.0.0.0.0.0.0.1 in
+    let p6 = past 5 x p5 r.0.0.0.0.0.0.0.0.1 in
+    let p7 = past 6 x p6 r.0.0.0.0.0.0.0.1 in
+    let p8 = past 7 x p7 r.0.0.0.0.0.0.1 in
+    let p9 = past 8 x p8 r.0.0.0.0.0.1 in
+    let p10 = past 9 x p9 r.0.0.0.0.1 in
+    let p11 = past 10 x p10 r.0.0.0.1 in
+    let p12 = past 11 x p11 r.0.0.1 in
+    let p13 = past 12 x p12 r.0.1 in
+    let p14 = past 13 x p13 r.1 in
+    sym (List·getD-eq-default (movements c.before.args.n c.before.args.at c.before.args.word c.before.args.search c.before.args.ch) _ p14)
 
 pub from-codes-spec : {M : Type 1} → statement M
 from-codes-spec =
