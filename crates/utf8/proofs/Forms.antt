@@ -1,16 +1,14 @@
 -- Which alternative of the ABNF a first byte leaves. Assumes nothing.
 use mathlib.Core.Path.{_≡_, refl, _∙_}
-use mathlib.Core.Bool.{Bool, true, false, cond, _&&_, _||_, and-false}
+use mathlib.Core.Bool.{true, false, and-false}
 use mathlib.Core.List.{List}
 use Prim.Native.Nat.{ℕ, _+_, _<_, _≤_}
 use native.Mathlib.Omega.{arith}
 use native.Mathlib.Nat.{add-zero}
-use lib.Dec.{T, eqb, leb, leb→le}
 use lib.ListN.{length, getD, drop, List·getD-eq-default}
 use lib.Seq.{getD-drop}
-use borrow.Author.Tests.{eq-eqb, ne-eqb, le-leb, lt-leb}
-use Rattle.lists.proofs.Tables.{allBelow, at-each, split}
-use Rattle.utf8.specs.Utf8.{First, char, bad, within, one, two, lead3, three, lead4, four, orElse, firstOf, first, leadLen}
+use borrow.Author.Tests.{ne-eqb, le-leb, lt-leb}
+use Rattle.utf8.specs.Utf8.{First, char, bad, within, one, two, lead3, three, lead4, four, orElse, firstOf, first}
 
 pub within-in : (lo hi x : ℕ) → lo ≤ x → x ≤ hi → within lo hi x ≡ true
 unfolding within
@@ -81,39 +79,6 @@ module _ (a b c d : ℕ) where
 
   pub first-high : 0xF7 < a → firstOf a b c d ≡ bad
   first-high l = first-four (omega arith) ∙ four-above a b c d (omega arith)
-
--- a first byte that announces n bytes lies in lo .. hi
-in-test : ℕ → ℕ → ℕ → ℕ → Bool
-unfolding leadLen
-in-test n lo hi a = cond (eqb (leadLen a) n) (leb lo a && leb a hi) true
-
-lead-in : (n lo hi : ℕ) → T (unfold in-test in allBelow (in-test n lo hi) 256) → (a : ℕ) → a < 256 → leadLen a ≡ n → (lo ≤ a) × (a ≤ hi)
-unfolding in-test
-lead-in n lo hi t a h e =
-    let r : T (cond (eqb (leadLen a) n) (leb lo a && leb a hi) true) = at-each (in-test n lo hi) 256 t a h in
-    let p : T (leb lo a) × T (leb a hi) = split (leb lo a) (leb a hi) (rw (eq-eqb (leadLen a) n e) at r) in
-    (leb→le lo a (p .0), leb→le a hi (p .1))
-
-pub lead-1 : (a : ℕ) → a < 256 → leadLen a ≡ 1 → a ≤ 0xBF
-unfolding in-test
-lead-1 a h e = lead-in 1 0 0xBF tt a h e .1
-
-pub lead-2 : (a : ℕ) → a < 256 → leadLen a ≡ 2 → (0xC0 ≤ a) × (a ≤ 0xDF)
-unfolding in-test
-lead-2 = lead-in 2 0xC0 0xDF tt
-
-pub lead-3 : (a : ℕ) → a < 256 → leadLen a ≡ 3 → (0xE0 ≤ a) × (a ≤ 0xEF)
-unfolding in-test
-lead-3 = lead-in 3 0xE0 0xEF tt
-
-rest-test : ℕ → Bool
-unfolding leadLen
-rest-test a = eqb (leadLen a) 1 || (eqb (leadLen a) 2 || (eqb (leadLen a) 3 || leb 0xF0 a))
-
-pub lead-rest : (a : ℕ) → a < 256 → (leadLen a ≡ 1 → ⊥) → (leadLen a ≡ 2 → ⊥) → (leadLen a ≡ 3 → ⊥) → 0xF0 ≤ a
-unfolding rest-test
-lead-rest a h n1 n2 n3 =
-    leb→le 0xF0 a (simp (ne-eqb (leadLen a) 1 n1, ne-eqb (leadLen a) 2 n2, ne-eqb (leadLen a) 3 n3) at (at-each rest-test 256 tt a h))
 
 pub first-drop : (s : List ℕ) (i : ℕ) → first (drop i s) ≡ firstOf (getD s i 256) (getD s (i + 1) 256) (getD s (i + 2) 256) (getD s (i + 3) 256)
 unfolding first

@@ -2,7 +2,7 @@ use Prim.Native.Nat.{_-_}
 use native.Mathlib.Omega.{arith}
 use lib.Count.{leading-le}
 use borrow.Author.Tests.{eq-eqb, ne-eqb}
-use Rattle.utf8.proofs.Bits.{ones-lead}
+use Rattle.utf8.proofs.Lead.{ones-lead}
 use Rattle.utf8.proofs.char_len.Statement.{statement}
 use Rattle.utf8.proofs.char_len.Tie as tie
 

@@ -1,15 +1,5 @@
-use Rattle.utf8.proofs.Forms.{
-  first-one,
-  first-none,
-  first-two,
-  first-three,
-  first-four,
-  first-high,
-  lead-1,
-  lead-2,
-  lead-3,
-  lead-rest,
-}
+use Rattle.utf8.proofs.Forms.{first-one, first-none, first-two, first-three, first-four, first-high}
+use Rattle.utf8.proofs.Lead.{lead-1, lead-2, lead-3, lead-rest}
 use mathlib.Core.Path.{sym, _∙_}
 use native.Mathlib.Omega.{arith}
 use borrow.Author.Needs.{needs}
