@@ -58,7 +58,8 @@ module _ (s : List ℕ) (n : ℕ) (d : List ℕ) where
         let e : length (take (length tail - at) (drop at tail)) ≡ length tail - at = length-take-le (length tail - at) (drop at tail) (simp length-drop (omega arith)) in
         omega (arith, over-room h, over-length)
 
-    pub over-more : (h : 0 < left) (y : List ℕ) → y ≡ s ++ drop (length s) (take (length tail - at) (drop at tail)) → Over (take at tail ++ (y ++ drop (length tail - at) (drop at tail))) (at + length s) (left - 1)
+    pub over-more : (h : 0 < left) (y : List ℕ) → y ≡ s ++ drop (length s) (take (length tail - at) (drop at tail)) →
+        Over (take at tail ++ (y ++ drop (length tail - at) (drop at tail))) (at + length s) (left - 1)
     over-more h y e =
         let A = copies (w .count) s in
         let D = drop at d in
@@ -84,12 +85,14 @@ module _ (s : List ℕ) (n : ℕ) (d : List ℕ) where
 
 -- ---- a move up, then copies over the front; and the whole list after it
 module _ (s : List ℕ) (n : ℕ) where
-  pub repeat-law : (d e f : List ℕ) (used : ℕ) → used + length s * n ≤ length d → f ≡ shifted d (length s * n) used 0 → e ≡ copies n s ++ drop (length s * n) f → e ≡ written d used (copies n s)
+  pub repeat-law : (d e f : List ℕ) (used : ℕ) → used + length s * n ≤ length d →
+      f ≡ shifted d (length s * n) used 0 → e ≡ copies n s ++ drop (length s * n) f → e ≡ written d used (copies n s)
   repeat-law d e f used h p q =
       let l = copies-length n s in
       write-law d (copies n s) e f used (omega arith) (p ∙ ap (λ (i : ℕ). shifted d i used 0) (sym l)) (q ∙ ap (λ (i : ℕ). copies n s ++ drop i f) (sym l))
 
-  pub copies-back : (l y : List ℕ) (used at : ℕ) → at ≤ used → used + length s * n ≤ length l → y ≡ written (take (length l - at) (drop at l)) (used - at) (copies n s)
+  pub copies-back : (l y : List ℕ) (used at : ℕ) → at ≤ used → used + length s * n ≤ length l
+      → y ≡ written (take (length l - at) (drop at l)) (used - at) (copies n s)
       → take (used + length s * n) (take at l ++ (y ++ drop (length l - at) (drop at l))) ≡ inserted (take used l) at (copies n s)
   copies-back l y used at h k p =
       let e = copies-length n s in

@@ -5,7 +5,8 @@ use Prim.Native.Nat.{ℕ, suc, _+_, _-_, _<_, _≤_}
 use native.Mathlib.Omega.{arith}
 use native.Mathlib.Numerals.{add-one}
 use lib.ListN.{length, getD, set, take, drop, length-take, length-drop, length-append, take-append-drop, replicate, length-replicate, replicate-append-replicate, List·getD-append}
-use lib.Seq.{slice, slice-cons, slice-empty, take-suc, append-snoc, set-at, getD-take, getD-drop, length-take-le, take-all, paste, paste-suc, take-at, drop-at, take-take, take-paste, length-paste-head, getD-append-add, sets}
+use lib.Seq.{slice, slice-cons, slice-empty, take-suc, append-snoc, set-at, getD-take, getD-drop, length-take-le, take-all, paste, paste-suc}
+use lib.Seq.{take-at, drop-at, take-take, take-paste, length-paste-head, getD-append-add, sets}
 use Rattle.lists.proofs.Parts.{drop-take}
 use Rattle.lists.proofs.Stores.{sets-append}
 use Rattle.buffer.specs.Edit.{shifted, inserted, cut, written}
@@ -108,7 +109,9 @@ back-law l x y used at h k p =
 
 -- a turn of the loop that fills
 pub fill-more : (l : List ℕ) (at j b : ℕ) → set (sets l at (replicate j b)) (at + j) b ≡ sets l at (replicate (j + 1) b)
-fill-more l at j b = sym (ap (λ (x : List ℕ). sets l at x) (sym (replicate-append-replicate j 1 b)) ∙ sym (sets-append l at (replicate j b) (b ∷ [])) ∙ rw (length-replicate j b))
+fill-more l at j b =
+    sym (ap (λ (x : List ℕ). sets l at x) (sym (replicate-append-replicate j 1 b)) ∙
+    sym (sets-append l at (replicate j b) (b ∷ [])) ∙ rw (length-replicate j b))
 
 -- nothing put in, and nothing cut out
 pub insert-none : (s x : List ℕ) (used at : ℕ) → length x ≡ 0 → take (used + length x) s ≡ inserted (take used s) at x

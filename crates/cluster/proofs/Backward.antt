@@ -79,7 +79,9 @@ module _ (R : Repertoire) (s : List ℕ) where
     pub back-break : joined R p c ≡ false → clustersOf R s ≡ clustersOf R (take j s) ++ ((c ∷ z .behind) ∷ [])
     back-break g =
         let us = chars (take i s) in
-        ap (clusters R) (chars-cut s j (z .start) ∙ ap (λ (l : List ℕ). l ++ chars (drop j s)) (chars-before s j i p n f e) ∙ ap (λ (l : List ℕ). (us ++ (p ∷ [])) ++ l) (z .there)) ∙
+        ap (clusters R) (chars-cut s j (z .start) ∙
+        ap (λ (l : List ℕ). l ++ chars (drop j s)) (chars-before s j i p n f e) ∙
+        ap (λ (l : List ℕ). (us ++ (p ∷ [])) ++ l) (z .there)) ∙
         clusters-break R us p c (z .behind) g ∙
         ap (λ (l : List ℕ). clusters R l ++ clusters R (c ∷ z .behind)) (sym (chars-before s j i p n f e)) ∙
         ap (λ (l : List (List ℕ)). clustersOf R (take j s) ++ l) (clusters-linked R c (z .behind) (z .linked))

@@ -1,5 +1,15 @@
 -- UAX #29, section 3.1.1: extended grapheme clusters over a repertoire whose classes are Control (with CR and LF), Extend (its marks) and Other.
--- The rules look at two neighbouring code points; those on Hangul, emoji, regional indicators, SpacingMark and Prepend have no characters here.
+-- `clusters` has GB1 and GB2; `joined` has GB3, GB4, GB5, GB9 and GB999, which look at two neighbouring code points. The other rules cannot
+-- apply to catalogue's texts (unicode/specs/Repertoire.antt: nothing over U+0178 but the marks U+0300 to U+0333), for each asks for a
+-- character of a class that has none there:
+--   GB6, GB7, GB8  Hangul syllables: L, V, T, LV, LVT, the first of which is U+1100
+--   GB9, its ZWJ   U+200D
+--   GB9a           SpacingMark, the first of which is U+0903
+--   GB9b           Prepend, the first of which is U+0600
+--   GB9c           Indic conjuncts, from Unicode 15.1 on: consonants and linkers of Indic scripts, the first of which is U+0915; the marks
+--                  are of its class Extend, which joins nothing without these
+--   GB11           emoji sequences: U+00A9 and U+00AE are Extended_Pictographic, and the ZWJ between two of these is no member
+--   GB12, GB13     regional indicators, the first of which is U+1F1E6
 use Prim.Native.Nat.{ℕ, _+_}
 use mathlib.Core.Bool.{Bool, true, false, cond, _&&_}
 use mathlib.Core.List.{List, [], _∷_}

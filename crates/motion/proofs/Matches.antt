@@ -77,7 +77,8 @@ pub backward-stands : (s : List ℕ) (pos c n p : ℕ) → boundary s pos ≡ tr
     (p + size c ≤ pos) × Stands s c p
 unfolding matchBackward
 backward-stands s pos c n p b h e =
-    let m = nth-found (Match c 0 (chars (take pos s))) n _ p (every-reverse (Match c 0 (chars (take pos s))) (matches c 0 (chars (take pos s))) (matches-every c 0 (chars (take pos s)))) e in
+    let cs = chars (take pos s) in
+    let m = nth-found (Match c 0 cs) n _ p (every-reverse (Match c 0 cs) (matches c 0 cs) (matches-every c 0 cs)) e in
     let z = stands (take pos s) c p b m in
     let l = length-take-le pos s h in
     let f = z .fits in
@@ -90,7 +91,8 @@ backward-stands s pos c n p b h e =
       },
     )
 
-pub backward-fits : (s : List ℕ) (pos c n : ℕ) (f : Found) → boundary s pos ≡ true → pos ≤ length s → length s < 2 ^ 64 → f ≡ matchBackward s pos c n → FitsBehind (size c) f
+pub backward-fits : (s : List ℕ) (pos c n : ℕ) (f : Found) → boundary s pos ≡ true → pos ≤ length s → length s < 2 ^ 64 →
+    f ≡ matchBackward s pos c n → FitsBehind (size c) f
 backward-fits s pos c n (At p) b h l e = let g = backward-stands s pos c n p b h (sym e) .0 in omega arith
 backward-fits s pos c n Nothing b h l e = tt
 

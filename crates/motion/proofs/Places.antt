@@ -78,7 +78,8 @@ at-moved P g (At q) p e k = let z : g q ≡ p = cc in subst P z (k q refl)
 at-moved P g Nothing p e k = let z : _≡_ {A = ℕ} 0 1 = cc in absurd (omega arith)
 
 -- where the character before a boundary starts; 0 where there is none
-start-place : (s : List ℕ) (i : ℕ) → valid s ≡ true → boundary s i ≡ true → i ≤ length s → (startBefore s i ≤ length s) × (boundary s (startBefore s i) ≡ true)
+start-place : (s : List ℕ) (i : ℕ) → valid s ≡ true → boundary s i ≡ true → i ≤ length s →
+    (startBefore s i ≤ length s) × (boundary s (startBefore s i) ≡ true)
 start-place s i v b h =
     let l = start-le s i in
     by-less _ 0 i (λ g. (omega arith, start-before s i v b g h .start))

@@ -3,7 +3,9 @@
 ghost use mathlib.Core.Path.{_≡_};
 ghost use Rattle.unicode.specs.Repertoire.{catalogue};
 ghost use Rattle.checks.specs.Answers.{lineAnswer};
-ghost use Rattle.movement.specs.Moves.{nextPosCall, moveForward, moveBackward, moveBufferStart, moveBufferEnd, moveHome, moveEnd, isCursorAtEnd, isEndOfInput, setPos, moveToLineUp, moveToLineDown, moveToPrevWord, moveToNextWord, moveTo, prevWordBy, nextWordBy, searchBy, wordIs, stopIs, searchIs, elsewhere as Moves·elsewhere, tells as Moves·tells};
+ghost use Rattle.movement.specs.Moves.{nextPosCall, moveForward, moveBackward, moveBufferStart, moveBufferEnd, moveHome, moveEnd, isCursorAtEnd, isEndOfInput, setPos};
+ghost use Rattle.movement.specs.Moves.{moveToLineUp, moveToLineDown, moveToPrevWord, moveToNextWord, moveTo};
+ghost use Rattle.movement.specs.Moves.{prevWordBy, nextWordBy, searchBy, wordIs, stopIs, searchIs, elsewhere as Moves·elsewhere, tells as Moves·tells};
 use checks::Line;
 use checks::LineAnswer;
 use checks::moved_to;

@@ -22,7 +22,8 @@ use Rattle.unicode.specs.Text.{isText}
 use Rattle.unicode.proofs.Text.{text-members}
 
 -- no mapping is longer in bytes than its character, and each has a form in UTF-8
-pub case-sizes : (R : Repertoire) → Lawful R → (k : Case) (c : ℕ) → scalar c ≡ true → (length (encodeAll (caseOf R k c)) ≤ size c) × (all scalar (caseOf R k c) ≡ true)
+pub case-sizes : (R : Repertoire) → Lawful R → (k : Case) (c : ℕ) → scalar c ≡ true →
+    (length (encodeAll (caseOf R k c)) ≤ size c) × (all scalar (caseOf R k c) ≡ true)
 case-sizes R law Upper = law .upperSizes
 case-sizes R law Lower = law .lowerSizes
 

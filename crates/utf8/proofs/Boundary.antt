@@ -25,7 +25,8 @@ record Bytes (t : List ℕ) (n : ℕ) : Type 0 where
 no-later : (t : List ℕ) (n : ℕ) → n ≡ 1 → (j : ℕ) → 0 < j → j < n → tail (getD t j 256) ≡ true
 no-later t n e j l h = absurd (omega arith)
 
-later-to : (t : List ℕ) (n : ℕ) → n ≤ 4 → (1 < n → tail (getD t 1 256) ≡ true) → (2 < n → tail (getD t 2 256) ≡ true) → (3 < n → tail (getD t 3 256) ≡ true) →
+later-to : (t : List ℕ) (n : ℕ) → n ≤ 4 →
+    (1 < n → tail (getD t 1 256) ≡ true) → (2 < n → tail (getD t 2 256) ≡ true) → (3 < n → tail (getD t 3 256) ≡ true) →
     (j : ℕ) → 0 < j → j < n → tail (getD t j 256) ≡ true
 later-to t n e a b c zero l h = absurd (omega arith)
 later-to t n e a b c (suc zero) l h = a h
@@ -56,7 +57,10 @@ first-bytes t cp n e =
     let x = and-both (lead3 a b) (tail c) (q .0) in
     let h = lead3-in a b (x .0) in
     let w = q .2 in
-    record { lead = within-above 0x80 0xBF a (omega arith); later = later-to t n (omega arith) (λ l. within-in 0x80 0xBF b (h .2) (h .3)) (λ l. x .1) (λ l. absurd (omega arith)) })
+    record {
+      lead = within-above 0x80 0xBF a (omega arith);
+      later = later-to t n (omega arith) (λ l. within-in 0x80 0xBF b (h .2) (h .3)) (λ l. x .1) (λ l. absurd (omega arith));
+    })
     (λ r3. let q = cond-char _ _ 4 cp n (r3 .1) in
     let x = and-both (lead4 a b) (tail c && tail d) (q .0) in
     let y = and-both (tail c) (tail d) (x .1) in
@@ -133,7 +137,9 @@ ends-at s i r v b l h t all =
     let f1 = f .some in
     let f2 = f .fits in
     let cut : valid (take (i - r) d) ≡ true =
-    boundary-test d (i - r) w ∙ sym (ap (λ (y : ℕ). not (tail y)) (sym (getD-drop r s (i - r) 256 ∙ ap (λ (k : ℕ). getD s k 256) (let g : r + (i - r) ≡ i = omega arith in g)))) ∙
+    boundary-test d (i - r) w ∙
+    sym (ap (λ (y : ℕ). not (tail y)) (sym (getD-drop r s (i - r) 256 ∙
+    ap (λ (k : ℕ). getD s k 256) (let g : r + (i - r) ≡ i = omega arith in g)))) ∙
     sym (boundary-test s i v) ∙ b
     in
     by-less _ n (i - r)

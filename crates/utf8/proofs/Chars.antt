@@ -48,7 +48,9 @@ lead3-in a b e =
     (cond-cases _ _ _ (e2 .1)))
     (cond-cases _ _ _ e)
 
-pub lead4-in : (a b : ℕ) → lead4 a b ≡ true → (0xF0 ≤ a) × (a ≤ 0xF4) × (0x80 ≤ b) × (b ≤ 0xBF) × (16 ≤ (a % 8) * 64 + b % 64) × ((a % 8) * 64 + b % 64 ≤ 0x10F)
+pub lead4-in :
+    (a b : ℕ) → lead4 a b ≡ true →
+    (0xF0 ≤ a) × (a ≤ 0xF4) × (0x80 ≤ b) × (b ≤ 0xBF) × (16 ≤ (a % 8) * 64 + b % 64) × ((a % 8) * 64 + b % 64 ≤ 0x10F)
 unfolding lead4
 lead4-in a b e =
     ⊎-elim

@@ -51,7 +51,8 @@ module _ (P : ℕ → Type 0) where
     scan-each x (y ∷ ms) p e =
         by-test _ (stops x y) (λ t. rw t (h x y p (e .0), e .1)) (λ t. rw t (scan-each y ms (e .0) (e .1)))
 
-    onward-each : (f : List Mark → ℕ → Landing) → ((ms : List Mark) (p : ℕ) → Every Start ms → P p → Both (f ms p)) → (s : Scan) → Scanned s → Both (onward stops lands f s)
+    onward-each : (f : List Mark → ℕ → Landing) → ((ms : List Mark) (p : ℕ) → Every Start ms → P p → Both (f ms p)) →
+        (s : Scan) → Scanned s → Both (onward stops lands f s)
     onward-each f g (hit p ms) e = g ms p (e .1) (e .0)
     onward-each f g (out l) e = (z, e)
 

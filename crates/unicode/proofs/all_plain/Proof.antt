@@ -31,7 +31,10 @@ loop-less : tie.Need-loop-less Inv-loop μ-loop
 loop-less c = search needs
 
 loop-again : tie.Need-loop-again Inv-loop μ-loop
-loop-again c = (search needs, cc (all-more plain (c .before .before .before .before .before .args .s .now) (c .before .before .before .loop .i) (c .before .before .loop-test .taken)))
+loop-again c =
+    let at-loop = c .before .before .before in
+    let entry = at-loop.before.before in
+    (search needs, cc (all-more plain entry.args.s.now at-loop.loop.i c.before.before.loop-test.taken))
 
 returns : tie.Need-returns Inv-loop μ-loop
 returns c = c .before .loop .inv .1 ∙ ap (all plain) (take-all _ _ (c .loop-test .left))

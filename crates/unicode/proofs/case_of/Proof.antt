@@ -18,10 +18,14 @@ lower-of-requires : tie.Need-lower-of-requires
 lower-of-requires c κs = search needs
 
 returns : tie.Need-returns
-returns c = c .upper-of .ensures ∙ ap (λ k. caseOf catalogue k (c .before .before .before .args .cp)) (sym (c .before .enum-told .given .1))
+returns c =
+    let entry = c .before .before .before in
+    c.upper-of.ensures ∙ ap (λ k. caseOf catalogue k entry.args.cp) (sym c.before.enum-told.given.1)
 
 returns-2 : tie.Need-returns-2
-returns-2 c = c .lower-of .ensures ∙ ap (λ k. caseOf catalogue k (c .before .before .before .args .cp)) (sym (c .before .enum-told2 .given .1))
+returns-2 c =
+    let entry = c .before .before .before in
+    c.lower-of.ensures ∙ ap (λ k. caseOf catalogue k entry.args.cp) (sym c.before.enum-told2.given.1)
 
 pub case-of-spec : {M : Type 1} → statement M
 case-of-spec =

@@ -38,8 +38,15 @@ loop-less : tie.Need-loop-less Inv-loop μ-loop
 loop-less c = search needs
 
 loop-again : tie.Need-loop-again Inv-loop μ-loop
-loop-again c = let e = c .before .before .before .block-end in
-    (e .ensures .1, c .before .before .before .before .before .loop .inv .1 ∙ block catalogue plain plain-one (c .before .before .before .before .before .before .before .args .s .now) (c .before .before .before .before .before .loop .i) (e .result) (omega (arith, e .ensures .0)) (sym (c .before .all-plain .ensures) ∙ c .if1 .taken))
+loop-again c =
+    let at-loop = c .before .before .before .before .before in
+    let entry = at-loop.before.before in
+    let e = c .before .before .before .block-end in (
+      e.ensures.1,
+      at-loop.loop.inv.1
+          ∙ block catalogue plain plain-one entry.args.s.now at-loop.loop.i e.result (omega (arith, e.ensures.0))
+          (sym c.before.all-plain.ensures ∙ c.if1.taken),
+    )
 
 read-chars-requires : tie.Need-read-chars-requires Inv-loop μ-loop
 read-chars-requires c κs = search needs
@@ -51,18 +58,39 @@ enum-told : tie.Need-enum-told Inv-loop μ-loop
 enum-told c = search needs
 
 returns : tie.Need-returns Inv-loop μ-loop
-returns c = sym (c .before .before .before .before .before .before .before .before .loop .inv .1 ∙ subst (ReadTo (c .before .before .before .before .before .before .before .before .before .before .args .s .now) (c .before .before .before .before .before .before .before .before .loop .i) (c .before .before .before .before .before .before .block-end .result)) (c .enum-told .given .1) (c .before .before .read-chars .ensures))
+returns c =
+    let after-block-end = c .before .before .before .before .before .before in
+    let at-loop = after-block-end.before.before in
+    let entry = at-loop.before.before in
+    sym
+    (at-loop.loop.inv.1
+    ∙ subst (ReadTo entry.args.s.now at-loop.loop.i after-block-end.block-end.result) c.enum-told.given.1
+    c.before.before.read-chars.ensures)
 
 loop-less-2 : tie.Need-loop-less-2 Inv-loop μ-loop
-loop-less-2 c = let h = subst (ReadTo (c .before .before .before .before .before .before .before .before .before .before .before .args .s .now) (c .before .before .before .before .before .before .before .before .before .loop .i) (c .before .before .before .before .before .before .before .block-end .result)) (c .before .r .given .1) (c .before .before .before .read-chars .ensures) in
-    omega (arith, h .0, h .1, c .before .before .before .before .before .before .before .block-end .ensures)
+loop-less-2 c =
+    let after-read-chars = c .before .before .before in
+    let after-block-end = after-read-chars .before .before .before .before in
+    let at-loop = after-block-end.before.before in
+    let entry = at-loop.before.before in
+    let h = subst (ReadTo entry.args.s.now at-loop.loop.i after-block-end.block-end.result) c.before.r.given.1
+    after-read-chars.read-chars.ensures in
+    omega (arith, h.0, h.1, after-block-end.block-end.ensures)
 
 loop-again-2 : tie.Need-loop-again-2 Inv-loop μ-loop
-loop-again-2 c = let h = subst (ReadTo (c .before .before .before .before .before .before .before .before .before .before .before .args .s .now) (c .before .before .before .before .before .before .before .before .before .loop .i) (c .before .before .before .before .before .before .before .block-end .result)) (c .before .r .given .1) (c .before .before .before .read-chars .ensures) in
-    (h .1, c .before .before .before .before .before .before .before .before .before .loop .inv .1 ∙ h .2)
+loop-again-2 c =
+    let after-read-chars = c .before .before .before in
+    let after-block-end = after-read-chars .before .before .before .before in
+    let at-loop = after-block-end.before.before in
+    let entry = at-loop.before.before in
+    let h = subst (ReadTo entry.args.s.now at-loop.loop.i after-block-end.block-end.result) c.before.r.given.1
+    after-read-chars.read-chars.ensures in
+    (h.1, at-loop.loop.inv.1 ∙ h.2)
 
 returns-2 : tie.Need-returns-2 Inv-loop μ-loop
-returns-2 c = sym (c .before .loop .inv .1 ∙ scan-end catalogue (c .before .before .before .args .s .now) (c .before .loop .i) (c .loop-test .left))
+returns-2 c =
+    let entry = c .before .before .before in
+    sym (c.before.loop.inv.1 ∙ scan-end catalogue entry.args.s.now c.before.loop.i c.loop-test.left)
 
 pub check-text-spec : {M : Type 1} → statement M
 check-text-spec =

@@ -19,15 +19,21 @@ between-requires-3 c κs = search needs
 
 add-t7 : tie.Need-add-t7
 unfolding isCapital
-add-t7 c = omega (arith, capital-most (c .before .before .before .before .before .args .cp) (cc))
+add-t7 c =
+    let entry = c .before .before .before .before .before in
+    omega (arith, capital-most entry.args.cp (cc))
 
 returns-2 : tie.Need-returns-2
 unfolding isCapital
-returns-2 c = lower-capital _ (c .before .before .before .before .if1 .left) (cc)
+returns-2 c =
+    let else1 = c .before .before .before .before in
+    lower-capital _ else1.if1.left (cc)
 
 returns-3 : tie.Need-returns-3
 unfolding isCapital
-returns-3 c = lower-other _ (c .before .before .before .before .if1 .left) (cc)
+returns-3 c =
+    let else1 = c .before .before .before .before in
+    lower-other _ else1.if1.left (cc)
 
 pub lower-of-spec : {M : Type 1} → statement M
 lower-of-spec =

@@ -20,9 +20,12 @@ is-plain-requires : tie.Need-is-plain-requires
 is-plain-requires c κs = search needs
 
 returns-2 : tie.Need-returns-2
-returns-2 c = let a = c .before .before .before .before .before .args in
-    sym (one-at catalogue plain plain-one (a .s .now) (a .at)
-    (ap plain (getD-any (a .s .now) (a .at) 256 0 (c .before .before .before .if1 .left)) ∙ sym (c .before .is-plain .ensures) ∙ c .if2 .taken))
+returns-2 c =
+    let else1 = c .before .before .before in
+    let a = c .before .before .before .before .before .args in
+    sym
+    (one-at catalogue plain plain-one a.s.now a.at
+    (ap plain (getD-any a.s.now a.at 256 0 else1.if1.left) ∙ sym c.before.is-plain.ensures ∙ c.if2.taken))
 
 decode-at-requires : tie.Need-decode-at-requires
 decode-at-requires c κs = search needs
@@ -37,10 +40,18 @@ enum-told : tie.Need-enum-told
 enum-told c = search needs
 
 returns-3 : tie.Need-returns-3
-returns-3 c = member-in catalogue _ _ _ (sym (c .before .before .before .before .before .decode-at .ensures) ∙ ap asFirst (c .before .before .before .d .given .1)) (sym (c .before .in-repertoire .ensures) ∙ c .if3 .taken)
+returns-3 c =
+    let after-d = c .before .before .before in
+    let after-decode-at = after-d.before.before in
+    member-in catalogue _ _ _ (sym after-decode-at.decode-at.ensures ∙ ap asFirst after-d.d.given.1)
+    (sym c.before.in-repertoire.ensures ∙ c.if3.taken)
 
 returns-4 : tie.Need-returns-4
-returns-4 c = member-out catalogue _ _ _ (sym (c .before .before .before .before .before .decode-at .ensures) ∙ ap asFirst (c .before .before .before .d .given .1)) (sym (c .before .in-repertoire .ensures) ∙ c .if3 .left)
+returns-4 c =
+    let after-d = c .before .before .before in
+    let after-decode-at = after-d.before.before in
+    member-out catalogue _ _ _ (sym after-decode-at.decode-at.ensures ∙ ap asFirst after-d.d.given.1)
+    (sym c.before.in-repertoire.ensures ∙ c.if3.left)
 
 returns-5 : tie.Need-returns-5
 returns-5 c = member-bad catalogue _ (sym (c .before .before .decode-at .ensures) ∙ ap asFirst (c .enum-told .given .1))

@@ -22,17 +22,40 @@ member-len-requires : tie.Need-member-len-requires Inv-loop μ-loop
 member-len-requires c κs = search needs
 
 returns : tie.Need-returns Inv-loop μ-loop
-returns c = c .before .before .before .loop .inv .1 ∙ scan-stuck catalogue (c .before .before .before .before .before .args .s .now) (c .before .before .before .loop .at) (c .before .member-len .result) (omega (arith, c .before .before .loop-test .taken, c .before .before .before .before .before .pre .1)) (c .before .member-len .ensures) (c .if1 .taken)
+returns c =
+    let at-loop = c .before .before .before in
+    let entry = at-loop.before.before in
+    at-loop.loop.inv.1
+    ∙ scan-stuck catalogue entry.args.s.now at-loop.loop.at c.before.member-len.result
+    (omega (arith, c.before.before.loop-test.taken, entry.pre.1)) c.before.member-len.ensures c.if1.taken
 
 add-at : tie.Need-add-at Inv-loop μ-loop
-add-at c = omega (arith, scan-on catalogue (c .before .before .before .before .before .args .s .now) (c .before .before .before .loop .at) (c .before .member-len .result) (c .before .before .before .loop .inv .0) (c .before .member-len .ensures) (omega (arith, c .if1 .left)) .0)
+add-at c =
+    let at-loop = c .before .before .before in
+    let entry = at-loop.before.before in
+    omega (
+      arith,
+      (scan-on catalogue entry.args.s.now at-loop.loop.at c.before.member-len.result at-loop.loop.inv.0 c.before.member-len.ensures
+          (omega (arith, c.if1.left))) .0,
+    )
 
 loop-less : tie.Need-loop-less Inv-loop μ-loop
-loop-less c = omega (arith, scan-on catalogue (c .before .before .before .before .before .args .s .now) (c .before .before .before .loop .at) (c .before .member-len .result) (c .before .before .before .loop .inv .0) (c .before .member-len .ensures) (omega (arith, c .if1 .left)) .0)
+loop-less c =
+    let at-loop = c .before .before .before in
+    let entry = at-loop.before.before in
+    omega (
+      arith,
+      (scan-on catalogue entry.args.s.now at-loop.loop.at c.before.member-len.result at-loop.loop.inv.0 c.before.member-len.ensures
+          (omega (arith, c.if1.left))) .0,
+    )
 
 loop-again : tie.Need-loop-again Inv-loop μ-loop
-loop-again c = let h = scan-on catalogue (c .before .before .before .before .before .args .s .now) (c .before .before .before .loop .at) (c .before .member-len .result) (c .before .before .before .loop .inv .0) (c .before .member-len .ensures) (omega (arith, c .if1 .left)) in
-    (h .0, c .before .before .before .loop .inv .1 ∙ h .1)
+loop-again c =
+    let at-loop = c .before .before .before in
+    let entry = at-loop.before.before in
+    let h = scan-on catalogue entry.args.s.now at-loop.loop.at c.before.member-len.result at-loop.loop.inv.0 c.before.member-len.ensures
+    (omega (arith, c.if1.left)) in
+    (h.0, at-loop.loop.inv.1 ∙ h.1)
 
 returns-2 : tie.Need-returns-2 Inv-loop μ-loop
 returns-2 c = (c .loop-test .left, c .before .loop .inv .0, c .before .loop .inv .1)

@@ -25,11 +25,17 @@ sub-t7 c = small-least _ (cc)
 
 returns-3 : tie.Need-returns-3
 unfolding isSmall
-returns-3 c = upper-small _ (c .before .before .before .before .before .if1 .left) (c .before .before .before .before .if2 .left) (cc)
+returns-3 c =
+    let else2 = c .before .before .before .before in
+    let else1 = else2.before in
+    upper-small _ else1.if1.left else2.if2.left (cc)
 
 returns-4 : tie.Need-returns-4
 unfolding isSmall
-returns-4 c = upper-other _ (c .before .before .before .before .before .if1 .left) (c .before .before .before .before .if2 .left) (cc)
+returns-4 c =
+    let else2 = c .before .before .before .before in
+    let else1 = else2.before in
+    upper-other _ else1.if1.left else2.if2.left (cc)
 
 pub upper-of-spec : {M : Type 1} → statement M
 upper-of-spec =

@@ -17,26 +17,47 @@ encode-at-requires-2 : tie.Need-encode-at-requires-2
 encode-at-requires-2 c κs = search needs
 
 add-encode-at : tie.Need-add-encode-at
-add-encode-at c = omega (arith, wrote-half (c .before .before .before .before .before .before .before .before .before .args .out .now) (c .before .before .before .before .before .before .before .before .before .args .at) (c .before .before .before .before .before .before .before .before .before .args .m) _ _ _ _ (c .before .before .before .before .before .before .before .before .before .pre) (c .before .before .before .before .before .before .m2 .given .1) (c .before .before .before .encode-at2 .ensures) .room)
+add-encode-at c =
+    let after-encode-at2 = c .before .before .before in
+    let after-m2 = after-encode-at2 .before .before .before in
+    let entry = after-m2 .before .before .before in
+    omega (
+      arith,
+      (wrote-half entry.args.out.now entry.args.at entry.args.m _ _ _ _ entry.pre after-m2.m2.given.1
+          after-encode-at2.encode-at2.ensures) .room,
+    )
 
 encode-at-requires-3 : tie.Need-encode-at-requires-3
 encode-at-requires-3 c κs = search needs
 
 add-result : tie.Need-add-result
-add-result c = let w = wrote-two (c .before .before .before .before .before .before .before .before .before .before .before .before .args .out .now) (c .before .before .before .before .before .before .before .before .before .before .before .before .args .at) (c .before .before .before .before .before .before .before .before .before .before .before .before .args .m) _ _ _ _ _ _ (c .before .before .before .before .before .before .before .before .before .m2 .given .1) (wrote-half _ _ _ _ _ _ _ (c .before .before .before .before .before .before .before .before .before .before .before .before .pre) (c .before .before .before .before .before .before .before .before .before .m2 .given .1) (c .before .before .before .before .before .before .encode-at2 .ensures)) (c .before .before .encode-at3 .ensures) in
-    omega (arith, w .counted, c .before .before .before .before .before .before .before .before .before .before .before .before .pre .room)
+add-result c =
+    let after-encode-at2 = c .before .before .before .before .before .before in
+    let after-m2 = after-encode-at2 .before .before .before in
+    let entry = after-m2 .before .before .before in
+    let w = wrote-two entry.args.out.now entry.args.at entry.args.m _ _ _ _ _ _ after-m2.m2.given.1
+    (wrote-half _ _ _ _ _ _ _ entry.pre after-m2.m2.given.1 after-encode-at2.encode-at2.ensures) c.before.before.encode-at3.ensures in
+    omega (arith, w.counted, entry.pre.room)
 
 same-length : tie.Need-same-length
 same-length c = search needs
 
 returns : tie.Need-returns
-returns c = wrote-one _ _ _ _ _ _ (c .before .before .before .before .before .before .before .before .pre) (c .before .before .before .before .before .m .given .1) (c .before .before .encode-at .ensures)
+returns c =
+    let after-m = c .before .before .before .before .before in
+    let entry = after-m .before .before .before in
+    wrote-one _ _ _ _ _ _ entry.pre after-m.m.given.1 c.before.before.encode-at.ensures
 
 same-length-2 : tie.Need-same-length-2
 same-length-2 c = search needs
 
 returns-2 : tie.Need-returns-2
-returns-2 c = wrote-two _ _ _ _ _ _ _ _ _ (c .before .before .before .before .before .before .before .before .before .m2 .given .1) (wrote-half _ _ _ _ _ _ _ (c .before .before .before .before .before .before .before .before .before .before .before .before .pre) (c .before .before .before .before .before .before .before .before .before .m2 .given .1) (c .before .before .before .before .before .before .encode-at2 .ensures)) (c .before .before .encode-at3 .ensures)
+returns-2 c =
+    let after-encode-at2 = c .before .before .before .before .before .before in
+    let after-m2 = after-encode-at2 .before .before .before in
+    let entry = after-m2 .before .before .before in
+    wrote-two _ _ _ _ _ _ _ _ _ after-m2.m2.given.1
+    (wrote-half _ _ _ _ _ _ _ entry.pre after-m2.m2.given.1 after-encode-at2.encode-at2.ensures) c.before.before.encode-at3.ensures
 
 pub write-mapped-spec : {M : Type 1} → statement M
 write-mapped-spec =
