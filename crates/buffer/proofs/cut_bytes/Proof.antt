@@ -23,7 +23,7 @@ sub-n : tie.Need-sub-n Inv-loop μ-loop
 sub-n c = omega arith
 
 loop-holds : tie.Need-loop-holds Inv-loop μ-loop
-loop-holds c = (search needs, (paste-zero (c .before .args .s .now) (c .before .args .from) (drop (c .before .args .to) (c .before .args .s .now)), refl))
+loop-holds c = (search needs, (paste-zero c.before.args.s.now c.before.args.from (drop c.before.args.to c.before.args.s.now), refl))
 
 add-s : tie.Need-add-s Inv-loop μ-loop
 add-s c = omega arith
@@ -62,9 +62,10 @@ same-length c = omega arith
 returns-2 : tie.Need-returns-2 Inv-loop μ-loop
 returns-2 c =
     let a = c .before .before .before .args in
-    let e : c .before .loop .j ≡ a .used - a .to = omega arith in
-    ap (λ (l : List ℕ). take (a .used - (a .to - a .from)) l) (c .before .loop .inv .1 .0 ∙ ap (λ (k : ℕ). paste (a .s .now) (a .from) (drop (a .to) (a .s .now)) k) e)
-    ∙ cut-law (a .s .now) (a .used) (a .from) (a .to) (omega arith) (omega arith) (omega arith)
+    let e : c.before.loop.j ≡ a.used - a.to = omega arith in
+    ap (λ (l : List ℕ). take (a.used - (a.to - a.from)) l)
+    (c.before.loop.inv.1.0 ∙ ap (λ (k : ℕ). paste a.s.now a.from (drop a.to a.s.now) k) e)
+    ∙ cut-law a.s.now a.used a.from a.to (omega arith) (omega arith) (omega arith)
 
 pub cut-bytes-spec : {M : Type 1} → statement M
 cut-bytes-spec =

@@ -28,9 +28,9 @@ same-length c = search needs
 
 returns-2 : tie.Need-returns-2
 returns-2 c =
-    let w = c .before .before in
+    let w = c.before.before in
     let a = w .before .before .before .before .before .args in
-    back-law (a .s .now) (a .src .now) (w .shift-and-write .last .0) (a .used) (a .at) (omega arith) (omega arith) (w .shift-and-write .ensures)
+    back-law a.s.now a.src.now w.shift-and-write.last.0 a.used a.at (omega arith) (omega arith) w.shift-and-write.ensures
 
 pub insert-bytes-spec : {M : Type 1} → statement M
 insert-bytes-spec =

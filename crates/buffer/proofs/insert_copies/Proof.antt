@@ -23,7 +23,10 @@ same-length : tie.Need-same-length
 same-length c = search needs
 
 returns : tie.Need-returns
-returns c = copies-back (now (c .before .before .before .before .before .before .args .src)) (c .before .before .before .before .before .before .args .n) (now (c .before .before .before .before .before .before .args .s)) _ (c .before .before .before .before .before .before .args .used) (c .before .before .before .before .before .before .args .at) (c .before .before .before .before .before .before .pre .0) (c .before .before .before .before .before .before .pre .1) (c .before .before .shift-and-repeat .ensures)
+returns c =
+    let entry = c .before .before .before .before .before .before in
+    copies-back (now entry.args.src) entry.args.n (now entry.args.s) _ entry.args.used entry.args.at entry.pre.0 entry.pre.1
+    c.before.before.shift-and-repeat.ensures
 
 pub insert-copies-spec : {M : Type 1} → statement M
 insert-copies-spec =

@@ -17,7 +17,11 @@ same-length : tie.Need-same-length
 same-length c = search needs
 
 returns : tie.Need-returns
-returns c = repeat-law (now (c .before .before .before .before .before .before .before .before .before .before .args .src)) (c .before .before .before .before .before .before .before .before .before .before .args .n) (now (c .before .before .before .before .before .before .before .before .before .before .args .tail)) _ _ (c .before .before .before .before .before .before .before .before .before .before .args .used) (c .before .before .before .before .before .before .before .before .before .before .pre) (c .before .before .before .before .before .before .shift-up .ensures) (c .before .before .write-copies .ensures)
+returns c =
+    let after-shift-up = c .before .before .before .before .before .before in
+    let entry = after-shift-up .before .before .before .before in
+    repeat-law (now entry.args.src) entry.args.n (now entry.args.tail) _ _ entry.args.used entry.pre after-shift-up.shift-up.ensures
+    c.before.before.write-copies.ensures
 
 pub shift-and-repeat-spec : {M : Type 1} → statement M
 shift-and-repeat-spec =

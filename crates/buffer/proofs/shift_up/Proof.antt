@@ -37,12 +37,12 @@ loop-less c = omega arith
 
 loop-again : tie.Need-loop-again Inv-loop μ-loop
 loop-again c =
-    let h = c .before .before in
-    let i = h .loop .i - 1 in (
+    let h = c.before.before in
+    let i = h.loop.i - 1 in (
       omega arith,
       (
-        ap (λ (l : List ℕ). set l (i + h .before .args .n) (getD l i 0)) (h .loop .inv .1 .0)
-            ∙ shift-step (h .before .args .tail .now) (h .before .args .n) (h .before .args .used) i (h .loop .i) (omega arith) (h .loop .inv .0) (h .before .pre),
+        ap (λ (l : List ℕ). set l (i + h.before.args.n) (getD l i 0)) h.loop.inv.1.0
+            ∙ shift-step h.before.args.tail.now h.before.args.n h.before.args.used i h.loop.i (omega arith) h.loop.inv.0 h.before.pre,
         simp length-set (omega arith),
       ),
     )
@@ -52,8 +52,8 @@ same-length c = omega arith
 
 returns : tie.Need-returns Inv-loop μ-loop
 returns c =
-    let e : c .before .loop .i ≡ 0 = omega arith in
-    c .before .loop .inv .1 .0 ∙ ap (λ (q : ℕ). shifted (c .before .before .args .tail .now) (c .before .before .args .n) (c .before .before .args .used) q) e
+    let e : c.before.loop.i ≡ 0 = omega arith in
+    c.before.loop.inv.1.0 ∙ ap (λ (q : ℕ). shifted c.before.before.args.tail.now c.before.before.args.n c.before.before.args.used q) e
 
 pub shift-up-spec : {M : Type 1} → statement M
 shift-up-spec =

@@ -19,14 +19,28 @@ is-control-requires-2 c κs = search needs
 
 returns-3 : tie.Need-returns-3
 unfolding joined
-returns-3 c = simp (c .before .before .before .before .if1 .left, ← c .before .before .before .is-control .ensures, c .before .before .if2 .left, ← c .before .is-control2 .ensures, c .if3 .taken)
+returns-3 c =
+    let after-is-control = c .before .before .before in
+    let else1 = after-is-control.before in
+    simp (else1.if1.left, ← after-is-control.is-control.ensures, c.before.before.if2.left, ← c.before.is-control2.ensures, c.if3.taken)
 
 is-mark-requires : tie.Need-is-mark-requires
 is-mark-requires c κs = search needs
 
 returns-4 : tie.Need-returns-4
 unfolding joined
-returns-4 c = simp (c .before .before .before .before .before .if1 .left, ← c .before .before .before .before .is-control .ensures, c .before .before .before .if2 .left, ← c .before .before .is-control2 .ensures, c .before .if3 .left) (c .is-mark .ensures)
+returns-4 c =
+    let else2 = c .before .before .before in
+    let after-is-control = else2.before in
+    let else1 = after-is-control.before in
+    simp (
+      else1.if1.left,
+      ← after-is-control.is-control.ensures,
+      else2.if2.left,
+      ← c.before.before.is-control2.ensures,
+      c.before.if3.left,
+    )
+    c.is-mark.ensures
 
 pub joins-spec : {M : Type 1} → statement M
 joins-spec =

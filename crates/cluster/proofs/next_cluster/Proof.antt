@@ -32,14 +32,23 @@ empty-requires : tie.Need-empty-requires Inv-loop μ-loop
 empty-requires c κs = search needs
 
 returns : tie.Need-returns Inv-loop μ-loop
-returns c = (c .empty .ensures ∙ scan-none catalogue (c .before .before .before .before .before .args .s .now) (sym (c .before .before .before .decode-at .ensures) ∙ ap asFirst (c .before .enum-told .given .1)), omega (arith, ap (λ x. x .len) (c .empty .ensures)))
+returns c =
+    let after-decode-at = c .before .before .before in
+    let entry = after-decode-at.before.before in (
+      c.empty.ensures
+          ∙ scan-none catalogue entry.args.s.now (sym after-decode-at.decode-at.ensures ∙ ap asFirst c.before.enum-told.given.1),
+      omega (arith, ap (λ x. x.len) c.empty.ensures),
+    )
 
 of-requires : tie.Need-of-requires Inv-loop μ-loop
 of-requires c κs = search needs
 
 loop-holds : tie.Need-loop-holds Inv-loop μ-loop
-loop-holds c = let e = sym (c .before .before .before .before .decode-at .ensures) ∙ ap asFirst (c .before .before .d .given .1) in
-    (first-within _ _ _ e .fits, scan-start catalogue (c .before .before .before .before .before .before .args .s .now) _ _ _ e (c .of .ensures))
+loop-holds c =
+    let after-decode-at = c .before .before .before .before in
+    let entry = after-decode-at.before.before in
+    let e = sym after-decode-at.decode-at.ensures ∙ ap asFirst c.before.before.d.given.1 in
+    ((first-within _ _ _ e) .fits, scan-start catalogue entry.args.s.now _ _ _ e c.of.ensures)
 
 decode-at-requires-2 : tie.Need-decode-at-requires-2 Inv-loop μ-loop
 decode-at-requires-2 c κs = search needs
@@ -51,32 +60,85 @@ enum-told-2 : tie.Need-enum-told-2 Inv-loop μ-loop
 enum-told-2 c = search needs
 
 returns-2 : tie.Need-returns-2 Inv-loop μ-loop
-returns-2 c = let z = c .before .before .before .before .loop .inv .1 in
-    (scan-end catalogue (c .before .before .before .before .before .before .before .before .before .before .before .args .s .now) _ _ _ z (sym (c .before .before .decode-at2 .ensures) ∙ ap asFirst (c .enum-told2 .given .1)), omega (arith, z .sized, c .before .before .before .before .loop .inv .0))
+returns-2 c =
+    let at-loop = c .before .before .before .before in
+    let entry = at-loop .before .before .before .before .before .before .before in
+    let z = at-loop.loop.inv.1 in (
+      scan-end catalogue entry.args.s.now _ _ _ z (sym c.before.before.decode-at2.ensures ∙ ap asFirst c.enum-told2.given.1),
+      omega (arith, z.sized, at-loop.loop.inv.0),
+    )
 
 joins-requires : tie.Need-joins-requires Inv-loop μ-loop
 joins-requires c κs = search needs
 
 returns-3 : tie.Need-returns-3 Inv-loop μ-loop
-returns-3 c = let z = c .before .before .before .before .before .before .before .loop .inv .1 in
-    (scan-break catalogue (c .before .before .before .before .before .before .before .before .before .before .before .before .before .before .args .s .now) _ _ _ z _ _ (sym (c .before .before .before .before .before .decode-at2 .ensures) ∙ ap asFirst (c .before .before .before .e .given .1)) (sym (c .before .joins .ensures) ∙ not-true _ (c .if1 .taken)), omega (arith, z .sized, c .before .before .before .before .before .before .before .loop .inv .0))
+returns-3 c =
+    let after-e = c .before .before .before in
+    let after-decode-at2 = after-e.before.before in
+    let at-loop = after-decode-at2.before.before in
+    let entry = at-loop .before .before .before .before .before .before .before in
+    let z = at-loop.loop.inv.1 in (
+      scan-break catalogue entry.args.s.now _ _ _ z _ _ (sym after-decode-at2.decode-at2.ensures ∙ ap asFirst after-e.e.given.1)
+          (sym c.before.joins.ensures ∙ not-true _ c.if1.taken),
+      omega (arith, z.sized, at-loop.loop.inv.0),
+    )
 
 add-i : tie.Need-add-i Inv-loop μ-loop
-add-i c = omega (arith, within-at (c .before .before .before .before .before .before .before .before .before .before .before .before .before .before .args .s .now) (c .before .before .before .before .before .before .before .loop .i) _ _ (c .before .before .before .before .before .before .before .loop .inv .0) (sym (c .before .before .before .before .before .decode-at2 .ensures) ∙ ap asFirst (c .before .before .before .e .given .1)))
+add-i c =
+    let after-e = c .before .before .before in
+    let after-decode-at2 = after-e.before.before in
+    let at-loop = after-decode-at2.before.before in
+    let entry = at-loop .before .before .before .before .before .before .before in
+    omega (
+      arith,
+      within-at entry.args.s.now at-loop.loop.i _ _ at-loop.loop.inv.0
+          (sym after-decode-at2.decode-at2.ensures ∙ ap asFirst after-e.e.given.1),
+    )
 
 with-requires : tie.Need-with-requires Inv-loop μ-loop
-with-requires c κs = omega (arith, c .before .before .before .before .before .before .before .loop .inv .1 .sized, within-at (c .before .before .before .before .before .before .before .before .before .before .before .before .before .before .args .s .now) (c .before .before .before .before .before .before .before .loop .i) _ _ (c .before .before .before .before .before .before .before .loop .inv .0) (sym (c .before .before .before .before .before .decode-at2 .ensures) ∙ ap asFirst (c .before .before .before .e .given .1)))
+with-requires c κs =
+    let after-e = c .before .before .before in
+    let after-decode-at2 = after-e.before.before in
+    let at-loop = after-decode-at2.before.before in
+    let entry = at-loop .before .before .before .before .before .before .before in
+    omega (
+      arith,
+      at-loop.loop.inv.1.sized,
+      within-at entry.args.s.now at-loop.loop.i _ _ at-loop.loop.inv.0
+          (sym after-decode-at2.decode-at2.ensures ∙ ap asFirst after-e.e.given.1),
+    )
 
 loop-less : tie.Need-loop-less Inv-loop μ-loop
-loop-less c = omega (arith, within-at (c .before .before .before .before .before .before .before .before .before .before .before .before .before .before .before .args .s .now) (c .before .before .before .before .before .before .before .before .loop .i) _ _ (c .before .before .before .before .before .before .before .before .loop .inv .0) (sym (c .before .before .before .before .before .before .decode-at2 .ensures) ∙ ap asFirst (c .before .before .before .before .e .given .1)))
+loop-less c =
+    let after-e = c .before .before .before .before in
+    let after-decode-at2 = after-e.before.before in
+    let at-loop = after-decode-at2.before.before in
+    let entry = at-loop .before .before .before .before .before .before .before in
+    omega (
+      arith,
+      within-at entry.args.s.now at-loop.loop.i _ _ at-loop.loop.inv.0
+          (sym after-decode-at2.decode-at2.ensures ∙ ap asFirst after-e.e.given.1),
+    )
 
 loop-again : tie.Need-loop-again Inv-loop μ-loop
-loop-again c = let e = sym (c .before .before .before .before .before .before .decode-at2 .ensures) ∙ ap asFirst (c .before .before .before .before .e .given .1) in
-    (within-at (c .before .before .before .before .before .before .before .before .before .before .before .before .before .before .before .args .s .now) (c .before .before .before .before .before .before .before .before .loop .i) _ _ (c .before .before .before .before .before .before .before .before .loop .inv .0) e .1, scan-more catalogue (c .before .before .before .before .before .before .before .before .before .before .before .before .before .before .before .args .s .now) _ _ _ (c .before .before .before .before .before .before .before .before .loop .inv .1) _ _ _ e (sym (c .before .before .joins .ensures) ∙ not-false _ (c .before .if1 .left)) (c .with .ensures))
+loop-again c =
+    let after-e = c .before .before .before .before in
+    let after-decode-at2 = after-e.before.before in
+    let at-loop = after-decode-at2.before.before in
+    let entry = at-loop .before .before .before .before .before .before .before in
+    let e = sym after-decode-at2.decode-at2.ensures ∙ ap asFirst after-e.e.given.1 in (
+      (within-at entry.args.s.now at-loop.loop.i _ _ at-loop.loop.inv.0 e) .1,
+      scan-more catalogue entry.args.s.now _ _ _ at-loop.loop.inv.1 _ _ _ e
+          (sym c.before.before.joins.ensures ∙ not-false _ c.before.if1.left) c.with.ensures,
+    )
 
 returns-4 : tie.Need-returns-4 Inv-loop μ-loop
-returns-4 c = let z = c .before .loop .inv .1 in
-    (scan-end catalogue (c .before .before .before .before .before .before .before .before .args .s .now) _ _ _ z (first-end (c .before .before .before .before .before .before .before .before .args .s .now) (c .before .loop .i) (c .loop-test .left)), omega (arith, z .sized, c .before .loop .inv .0))
+returns-4 c =
+    let entry = c .before .before .before .before .before .before .before .before in
+    let z = c.before.loop.inv.1 in (
+      scan-end catalogue entry.args.s.now _ _ _ z (first-end entry.args.s.now c.before.loop.i c.loop-test.left),
+      omega (arith, z.sized, c.before.loop.inv.0),
+    )
 
 pub next-cluster-spec : {M : Type 1} → statement M
 next-cluster-spec =

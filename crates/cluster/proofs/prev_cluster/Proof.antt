@@ -20,7 +20,9 @@ empty-requires : tie.Need-empty-requires Inv-loop μ-loop
 empty-requires c κs = search needs
 
 returns : tie.Need-returns Inv-loop μ-loop
-returns c = (back-empty catalogue (c .before .before .before .args .s .now) _ (c .before .if1 .taken) (c .empty .ensures), omega (arith, ap (λ x. x .len) (c .empty .ensures)))
+returns c =
+    let entry = c .before .before .before in
+    (back-empty catalogue entry.args.s.now _ c.before.if1.taken c.empty.ensures, omega (arith, ap (λ x. x.len) c.empty.ensures))
 
 prev-char-requires : tie.Need-prev-char-requires Inv-loop μ-loop
 prev-char-requires c κs = search needs
@@ -38,13 +40,27 @@ empty-requires-2 : tie.Need-empty-requires-2 Inv-loop μ-loop
 empty-requires-2 c κs = search needs
 
 returns-2 : tie.Need-returns-2 Inv-loop μ-loop
-returns-2 c = ends-never _ _ _ _ (ends-before (c .before .before .before .before .before .before .before .args .s .now) _ _ (c .before .before .before .before .before .before .before .pre) (boundary-end _ (c .before .before .before .before .before .before .before .pre)) (omega (arith, c .before .before .before .before .before .if1 .left)) (omega arith) (c .before .before .before .before .prev-char .ensures)) (sym (c .before .before .before .decode-at .ensures) ∙ ap asFirst (c .before .enum-told .given .1))
+returns-2 c =
+    let after-decode-at = c .before .before .before in
+    let after-prev-char = after-decode-at.before in
+    let else1 = after-prev-char.before in
+    let entry = else1.before.before in
+    ends-never _ _ _ _
+    (ends-before entry.args.s.now _ _ entry.pre (boundary-end _ entry.pre) (omega (arith, else1.if1.left)) (omega arith)
+    after-prev-char.prev-char.ensures) (sym after-decode-at.decode-at.ensures ∙ ap asFirst c.before.enum-told.given.1)
 
 of-requires : tie.Need-of-requires Inv-loop μ-loop
 of-requires c κs = search needs
 
 loop-holds : tie.Need-loop-holds Inv-loop μ-loop
-loop-holds c = back-start catalogue (c .before .before .before .before .before .before .before .before .args .s .now) _ _ _ _ (ends-before (c .before .before .before .before .before .before .before .before .args .s .now) _ _ (c .before .before .before .before .before .before .before .before .pre) (boundary-end _ (c .before .before .before .before .before .before .before .before .pre)) (omega (arith, c .before .before .before .before .before .before .if1 .left)) (omega arith) (c .before .before .before .before .before .prev-char .ensures)) (sym (c .before .before .before .before .decode-at .ensures) ∙ ap asFirst (c .before .before .d .given .1)) (c .of .ensures)
+loop-holds c =
+    let after-decode-at = c .before .before .before .before in
+    let after-prev-char = after-decode-at.before in
+    let else1 = after-prev-char.before in
+    let entry = else1.before.before in
+    back-start catalogue entry.args.s.now _ _ _ _
+    (ends-before entry.args.s.now _ _ entry.pre (boundary-end _ entry.pre) (omega (arith, else1.if1.left)) (omega arith)
+    after-prev-char.prev-char.ensures) (sym after-decode-at.decode-at.ensures ∙ ap asFirst c.before.before.d.given.1) c.of.ensures
 
 prev-char-requires-2 : tie.Need-prev-char-requires-2 Inv-loop μ-loop
 prev-char-requires-2 c κs = search needs
@@ -59,25 +75,78 @@ enum-told-2 : tie.Need-enum-told-2 Inv-loop μ-loop
 enum-told-2 c = search needs
 
 returns-3 : tie.Need-returns-3 Inv-loop μ-loop
-returns-3 c = ends-never _ _ _ _ (ends-before (c .before .before .before .before .before .before .before .before .before .before .before .before .before .before .args .s .now) (c .before .before .before .before .before .loop .j) _ (c .before .before .before .before .before .before .before .before .before .before .before .before .before .before .pre) (c .before .before .before .before .before .loop .inv .start) (c .before .before .before .before .loop-test .taken) (omega (arith, c .before .before .before .before .before .loop .inv .sized)) (c .before .before .before .prev-char2 .ensures)) (sym (c .before .before .decode-at2 .ensures) ∙ ap asFirst (c .enum-told2 .given .1))
+returns-3 c =
+    let after-prev-char2 = c .before .before .before in
+    let in-loop = after-prev-char2.before in
+    let at-loop = in-loop.before in
+    let entry = at-loop .before .before .before .before .before .before .before .before .before in
+    ends-never _ _ _ _
+    (ends-before entry.args.s.now at-loop.loop.j _ entry.pre at-loop.loop.inv.start in-loop.loop-test.taken
+    (omega (arith, at-loop.loop.inv.sized)) after-prev-char2.prev-char2.ensures)
+    (sym c.before.before.decode-at2.ensures ∙ ap asFirst c.enum-told2.given.1)
 
 joins-requires : tie.Need-joins-requires Inv-loop μ-loop
 joins-requires c κs = search needs
 
 returns-4 : tie.Need-returns-4 Inv-loop μ-loop
-returns-4 c = (back-stop catalogue (c .before .before .before .before .before .before .before .before .before .before .before .before .before .before .before .before .before .args .s .now) _ _ _ (c .before .before .before .before .before .before .before .before .loop .inv) _ _ _ (ends-before (c .before .before .before .before .before .before .before .before .before .before .before .before .before .before .before .before .before .args .s .now) (c .before .before .before .before .before .before .before .before .loop .j) _ (c .before .before .before .before .before .before .before .before .before .before .before .before .before .before .before .before .before .pre) (c .before .before .before .before .before .before .before .before .loop .inv .start) (c .before .before .before .before .before .before .before .loop-test .taken) (omega (arith, c .before .before .before .before .before .before .before .before .loop .inv .sized)) (c .before .before .before .before .before .before .prev-char2 .ensures)) (sym (c .before .before .before .before .before .decode-at2 .ensures) ∙ ap asFirst (c .before .before .before .e .given .1)) (sym (c .before .joins .ensures) ∙ not-true _ (c .if2 .taken)), omega (arith, c .before .before .before .before .before .before .before .before .loop .inv .sized))
+returns-4 c =
+    let after-e = c .before .before .before in
+    let after-decode-at2 = after-e.before.before in
+    let after-prev-char2 = after-decode-at2.before in
+    let in-loop = after-prev-char2.before in
+    let at-loop = in-loop.before in
+    let entry = at-loop .before .before .before .before .before .before .before .before .before in (
+      back-stop catalogue entry.args.s.now _ _ _ at-loop.loop.inv _ _ _
+          (ends-before entry.args.s.now at-loop.loop.j _ entry.pre at-loop.loop.inv.start in-loop.loop-test.taken
+          (omega (arith, at-loop.loop.inv.sized)) after-prev-char2.prev-char2.ensures)
+          (sym after-decode-at2.decode-at2.ensures ∙ ap asFirst after-e.e.given.1)
+          (sym c.before.joins.ensures ∙ not-true _ c.if2.taken),
+      omega (arith, at-loop.loop.inv.sized),
+    )
 
 with-requires : tie.Need-with-requires Inv-loop μ-loop
-with-requires c κs = let e = (ends-before (c .before .before .before .before .before .before .before .before .before .before .before .before .before .before .before .before .before .args .s .now) (c .before .before .before .before .before .before .before .before .loop .j) _ (c .before .before .before .before .before .before .before .before .before .before .before .before .before .before .before .before .before .pre) (c .before .before .before .before .before .before .before .before .loop .inv .start) (c .before .before .before .before .before .before .before .loop-test .taken) (omega (arith, c .before .before .before .before .before .before .before .before .loop .inv .sized)) (c .before .before .before .before .before .before .prev-char2 .ensures)) in let m = ends-char _ _ _ _ _ e (sym (c .before .before .before .before .before .decode-at2 .ensures) ∙ ap asFirst (c .before .before .before .e .given .1)) in let b = e .below in omega (arith, c .before .before .before .before .before .before .before .before .loop .inv .sized)
+with-requires c κs =
+    let after-e = c .before .before .before in
+    let after-decode-at2 = after-e.before.before in
+    let after-prev-char2 = after-decode-at2.before in
+    let in-loop = after-prev-char2.before in
+    let at-loop = in-loop.before in
+    let entry = at-loop .before .before .before .before .before .before .before .before .before in
+    let e =
+    (ends-before entry.args.s.now at-loop.loop.j _ entry.pre at-loop.loop.inv.start in-loop.loop-test.taken
+    (omega (arith, at-loop.loop.inv.sized)) after-prev-char2.prev-char2.ensures) in
+    let m = ends-char _ _ _ _ _ e (sym after-decode-at2.decode-at2.ensures ∙ ap asFirst after-e.e.given.1) in
+    let b = e.below in
+    omega (arith, at-loop.loop.inv.sized)
 
 loop-less : tie.Need-loop-less Inv-loop μ-loop
-loop-less c = (ends-before (c .before .before .before .before .before .before .before .before .before .before .before .before .before .before .before .before .before .before .args .s .now) (c .before .before .before .before .before .before .before .before .before .loop .j) _ (c .before .before .before .before .before .before .before .before .before .before .before .before .before .before .before .before .before .before .pre) (c .before .before .before .before .before .before .before .before .before .loop .inv .start) (c .before .before .before .before .before .before .before .before .loop-test .taken) (omega (arith, c .before .before .before .before .before .before .before .before .before .loop .inv .sized)) (c .before .before .before .before .before .before .before .prev-char2 .ensures)) .below
+loop-less c =
+    let after-prev-char2 = c .before .before .before .before .before .before .before in
+    let in-loop = after-prev-char2.before in
+    let at-loop = in-loop.before in
+    let entry = at-loop .before .before .before .before .before .before .before .before .before in
+    (ends-before entry.args.s.now at-loop.loop.j _ entry.pre at-loop.loop.inv.start in-loop.loop-test.taken
+    (omega (arith, at-loop.loop.inv.sized)) after-prev-char2.prev-char2.ensures) .below
 
 loop-again : tie.Need-loop-again Inv-loop μ-loop
-loop-again c = back-more catalogue (c .before .before .before .before .before .before .before .before .before .before .before .before .before .before .before .before .before .before .args .s .now) _ _ _ (c .before .before .before .before .before .before .before .before .before .loop .inv) _ _ _ (ends-before (c .before .before .before .before .before .before .before .before .before .before .before .before .before .before .before .before .before .before .args .s .now) (c .before .before .before .before .before .before .before .before .before .loop .j) _ (c .before .before .before .before .before .before .before .before .before .before .before .before .before .before .before .before .before .before .pre) (c .before .before .before .before .before .before .before .before .before .loop .inv .start) (c .before .before .before .before .before .before .before .before .loop-test .taken) (omega (arith, c .before .before .before .before .before .before .before .before .before .loop .inv .sized)) (c .before .before .before .before .before .before .before .prev-char2 .ensures)) (sym (c .before .before .before .before .before .before .decode-at2 .ensures) ∙ ap asFirst (c .before .before .before .before .e .given .1)) _ (sym (c .before .before .joins .ensures) ∙ not-false _ (c .before .if2 .left)) (c .with .ensures)
+loop-again c =
+    let after-e = c .before .before .before .before in
+    let after-decode-at2 = after-e.before.before in
+    let after-prev-char2 = after-decode-at2.before in
+    let in-loop = after-prev-char2.before in
+    let at-loop = in-loop.before in
+    let entry = at-loop .before .before .before .before .before .before .before .before .before in
+    back-more catalogue entry.args.s.now _ _ _ at-loop.loop.inv _ _ _
+    (ends-before entry.args.s.now at-loop.loop.j _ entry.pre at-loop.loop.inv.start in-loop.loop-test.taken
+    (omega (arith, at-loop.loop.inv.sized)) after-prev-char2.prev-char2.ensures)
+    (sym after-decode-at2.decode-at2.ensures ∙ ap asFirst after-e.e.given.1) _
+    (sym c.before.before.joins.ensures ∙ not-false _ c.before.if2.left) c.with.ensures
 
 returns-5 : tie.Need-returns-5 Inv-loop μ-loop
-returns-5 c = let z : c .before .loop .j ≡ 0 = omega (arith, c .loop-test .left) in (back-done catalogue (c .before .before .before .before .before .before .before .before .before .before .args .s .now) _ _ (rw z at (c .before .loop .inv)), omega (arith, c .before .loop .inv .sized))
+returns-5 c =
+    let entry = c .before .before .before .before .before .before .before .before .before .before in
+    let z : c.before.loop.j ≡ 0 = omega (arith, c.loop-test.left) in
+    (back-done catalogue entry.args.s.now _ _ (rw z at c.before.loop.inv), omega (arith, c.before.loop.inv.sized))
 
 pub prev-cluster-spec : {M : Type 1} → statement M
 prev-cluster-spec =
