@@ -25,8 +25,11 @@ add-result c = search needs
 
 returns : tie.Need-returns
 unfolding afterCluster
-returns c = let t = next-told catalogue (c .before .before .before .before .args .s .now) (c .before .before .before .before .args .pos) _ (c .before .before .before .before .pre) (c .before .next-cluster .ensures .0, c .before .next-cluster .ensures .1) in
-    (ap (λ (k : Cluster). c .before .before .before .before .args .pos + k .len) (t .0), t .1)
+returns c =
+    let entry = c .before .before .before .before in
+    let t = next-told catalogue entry.args.s.now entry.args.pos _ entry.pre
+    (c.before.next-cluster.ensures.0, c.before.next-cluster.ensures.1) in
+    (ap (λ (k : Cluster). entry.args.pos + k.len) t.0, t.1)
 
 pub after-cluster-spec : {M : Type 1} → statement M
 after-cluster-spec =

@@ -15,13 +15,18 @@ char-size-requires : tie.Need-char-size-requires
 char-size-requires c κs = search needs
 
 add-t6 : tie.Need-add-t6
-add-t6 c = omega (arith, subst (FitsBehind (size (c .before .before .before .before .args .c))) (c .before .before .f .given .1) (c .before .before .before .before .pre), c .char-size .ensures)
+add-t6 c =
+    let entry = c .before .before .before .before in
+    omega (arith, subst (FitsBehind (size entry.args.c)) c.before.before.f.given.1 entry.pre, c.char-size.ensures)
 
 enum-told : tie.Need-enum-told
 enum-told c = search needs
 
 returns : tie.Need-returns
-returns c = ap (λ (x : ℕ). At (c .before .before .f .given .0 .0 + x)) (c .char-size .ensures) ∙ sym (ap (moved (λ p. p + size (c .before .before .before .before .args .c))) (c .before .before .f .given .1))
+returns c =
+    let entry = c .before .before .before .before in
+    ap (λ (x : ℕ). At (c.before.before.f.given.0.0 + x)) c.char-size.ensures
+    ∙ sym (ap (moved (λ p. p + size entry.args.c)) c.before.before.f.given.1)
 
 returns-2 : tie.Need-returns-2
 returns-2 c = search needs

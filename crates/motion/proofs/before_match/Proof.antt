@@ -16,7 +16,9 @@ enum-told : tie.Need-enum-told
 enum-told c = search needs
 
 returns : tie.Need-returns
-returns c = ap At (c .prev-char .ensures) ∙ sym (ap (moved (startBefore (c .before .before .before .before .before .args .s .now))) (c .before .before .f .given .1))
+returns c =
+    let entry = c .before .before .before .before .before in
+    ap At c.prev-char.ensures ∙ sym (ap (moved (startBefore entry.args.s.now)) c.before.before.f.given.1)
 
 returns-2 : tie.Need-returns-2
 returns-2 c = search needs

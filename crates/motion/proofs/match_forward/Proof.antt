@@ -15,8 +15,9 @@ match-from-requires c κs = search needs
 
 returns : tie.Need-returns
 unfolding matchForward
-returns c = let a = c .before .before .before .args in
-    c .match-from .ensures ∙ ap (λ (x : ℕ). nthMatch (a .n) (matches (a .c) x (chars (drop x (a .s .now))))) (c .before .after-cluster .ensures .0)
+returns c =
+    let a = c .before .before .before .args in
+    c.match-from.ensures ∙ ap (λ (x : ℕ). nthMatch a.n (matches a.c x (chars (drop x a.s.now)))) c.before.after-cluster.ensures.0
 
 pub match-forward-spec : {M : Type 1} → statement M
 match-forward-spec = tie.close (tie.spec after-cluster-requires match-from-requires returns)

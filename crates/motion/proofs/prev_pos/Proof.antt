@@ -15,7 +15,10 @@ use Rattle.motion.proofs.prev_pos.Statement.{statement}
 use Rattle.motion.proofs.prev_pos.Tie as tie
 
 abbrev Inv-loop : tie.InvT-loop
-Inv-loop s pos n at₀ left₀ at left = (at ≤ length s) × (boundary s at ≡ true) × (sum (take (length (sizes catalogue (take pos s)) - n) (sizes catalogue (take pos s))) ≡ sum (take (length (sizes catalogue (take at s)) - left) (sizes catalogue (take at s))))
+Inv-loop s pos n at₀ left₀ at left =
+    (at ≤ length s) × (boundary s at ≡ true) ×
+    (sum (take (length (sizes catalogue (take pos s)) - n) (sizes catalogue (take pos s))) ≡ sum
+    (take (length (sizes catalogue (take at s)) - left) (sizes catalogue (take at s))))
 
 abbrev μ-loop : tie.MeasureT-loop
 μ-loop s pos n at₀ left₀ at left = left
@@ -24,10 +27,14 @@ returns : tie.Need-returns Inv-loop μ-loop
 returns c = prev-start catalogue (c .before .before .args .s .now) _ _ (c .if1 .taken)
 
 returns-2 : tie.Need-returns-2 Inv-loop μ-loop
-returns-2 c = prev-zero catalogue (c .before .before .before .args .s .now) _ _ (c .if2 .taken)
+returns-2 c =
+    let entry = c .before .before .before in
+    prev-zero catalogue entry.args.s.now _ _ c.if2.taken
 
 loop-holds : tie.Need-loop-holds Inv-loop μ-loop
-loop-holds c = (c .before .before .before .pre .2, c .before .before .before .pre .1, refl)
+loop-holds c =
+    let entry = c .before .before .before in
+    (entry.pre.2, entry.pre.1, refl)
 
 slice-aggregate-prev-cluster : tie.Need-slice-aggregate-prev-cluster Inv-loop μ-loop
 slice-aggregate-prev-cluster c = sym (length-take-le _ _ (c .before .before .loop .inv .0))
@@ -36,11 +43,26 @@ prev-cluster-requires : tie.Need-prev-cluster-requires Inv-loop μ-loop
 prev-cluster-requires c κs = c .before .before .loop .inv .1
 
 returns-3 : tie.Need-returns-3 Inv-loop μ-loop
-returns-3 c = let z = prev-none catalogue (c .before .before .before .before .before .before .before .before .args .s .now) (c .before .before .before .before .loop .at) _ (c .before .before .before .before .loop .inv .1) (c .before .before .before .before .loop .inv .0) (c .before .prev-cluster .ensures .0) (c .if3 .taken) in
-    prev-found catalogue (c .before .before .before .before .before .before .before .before .args .s .now) _ _ _ (c .before .before .before .before .before .before .if1 .left) (c .before .before .before .before .before .if2 .left) (z ∙ sym (c .before .before .before .before .loop .inv .2 ∙ (rw z (backward-start catalogue (c .before .before .before .before .before .before .before .before .args .s .now) (c .before .before .before .before .loop .left)))))
+returns-3 c =
+    let at-loop = c .before .before .before .before in
+    let else2 = at-loop.before in
+    let else1 = else2.before in
+    let entry = else1.before.before in
+    let z = prev-none catalogue entry.args.s.now at-loop.loop.at _ at-loop.loop.inv.1 at-loop.loop.inv.0 c.before.prev-cluster.ensures.0
+    c.if3.taken in
+    prev-found catalogue entry.args.s.now _ _ _ else1.if1.left else2.if2.left
+    (z ∙ sym (at-loop.loop.inv.2 ∙ (rw z (backward-start catalogue entry.args.s.now at-loop.loop.left))))
 
 sub-at : tie.Need-sub-at Inv-loop μ-loop
-sub-at c = omega (arith, (prev-some catalogue (c .before .before .before .before .before .before .before .before .args .s .now) (c .before .before .before .before .loop .at) _ (c .before .before .before .before .loop .inv .1) (c .before .before .before .before .loop .inv .0) (omega (arith, length-take (c .before .before .before .before .loop .at) (c .before .before .before .before .before .before .before .before .args .s .now), c .before .prev-cluster .ensures .1, c .if3 .left)) (c .before .prev-cluster .ensures .0)) .fits)
+sub-at c =
+    let at-loop = c .before .before .before .before in
+    let entry = at-loop .before .before .before .before in
+    omega (
+      arith,
+      (prev-some catalogue entry.args.s.now at-loop.loop.at _ at-loop.loop.inv.1 at-loop.loop.inv.0
+          (omega (arith, length-take at-loop.loop.at entry.args.s.now, c.before.prev-cluster.ensures.1, c.if3.left))
+          c.before.prev-cluster.ensures.0) .fits,
+    )
 
 sub-left : tie.Need-sub-left Inv-loop μ-loop
 sub-left c = search needs
@@ -49,11 +71,27 @@ loop-less : tie.Need-loop-less Inv-loop μ-loop
 loop-less c = search needs
 
 loop-again : tie.Need-loop-again Inv-loop μ-loop
-loop-again c = let b = (prev-some catalogue (c .before .before .before .before .before .before .before .before .args .s .now) (c .before .before .before .before .loop .at) _ (c .before .before .before .before .loop .inv .1) (c .before .before .before .before .loop .inv .0) (omega (arith, length-take (c .before .before .before .before .loop .at) (c .before .before .before .before .before .before .before .before .args .s .now), c .before .prev-cluster .ensures .1, c .if3 .left)) (c .before .prev-cluster .ensures .0)) in (omega (arith, c .before .before .before .before .loop .inv .0), b .edge, c .before .before .before .before .loop .inv .2 ∙ backward-more catalogue (c .before .before .before .before .before .before .before .before .args .s .now) (c .before .before .before .before .loop .at) _ (c .before .before .before .before .loop .left) _ b (c .before .before .before .loop-test .taken))
+loop-again c =
+    let in-loop = c .before .before .before in
+    let at-loop = in-loop.before in
+    let entry = at-loop .before .before .before .before in
+    let b =
+    (prev-some catalogue entry.args.s.now at-loop.loop.at _ at-loop.loop.inv.1 at-loop.loop.inv.0
+    (omega (arith, length-take at-loop.loop.at entry.args.s.now, c.before.prev-cluster.ensures.1, c.if3.left))
+    c.before.prev-cluster.ensures.0) in (
+      omega (arith, at-loop.loop.inv.0),
+      b.edge,
+      at-loop.loop.inv.2 ∙ backward-more catalogue entry.args.s.now at-loop.loop.at _ at-loop.loop.left _ b in-loop.loop-test.taken,
+    )
 
 returns-4 : tie.Need-returns-4 Inv-loop μ-loop
-returns-4 c = let z : c .before .loop .left ≡ 0 = omega arith in
-    prev-found catalogue (c .before .before .before .before .before .args .s .now) _ _ _ (c .before .before .before .if1 .left) (c .before .before .if2 .left) (sym (c .before .loop .inv .2 ∙ (rw z (backward-done catalogue (c .before .before .before .before .before .args .s .now) (c .before .loop .at) (c .before .loop .inv .1) (c .before .loop .inv .0)))))
+returns-4 c =
+    let else1 = c .before .before .before in
+    let entry = else1.before.before in
+    let z : c.before.loop.left ≡ 0 = omega arith in
+    prev-found catalogue entry.args.s.now _ _ _ else1.if1.left c.before.before.if2.left
+    (sym (c.before.loop.inv.2
+    ∙ (rw z (backward-done catalogue entry.args.s.now c.before.loop.at c.before.loop.inv.1 c.before.loop.inv.0))))
 
 pub prev-pos-spec : {M : Type 1} → statement M
 prev-pos-spec =

@@ -30,28 +30,50 @@ enum-known-cs-3 : tie.Need-enum-known-cs-3
 enum-known-cs-3 c = search needs
 
 match-backward-requires : tie.Need-match-backward-requires
-match-backward-requires c κs = c .before .before .before .before .pre
+match-backward-requires c κs =
+    let entry = c .before .before .before .before in
+    entry.pre
 
 enum-known-cs-4 : tie.Need-enum-known-cs-4
 enum-known-cs-4 c = search needs
 
 match-backward-requires-2 : tie.Need-match-backward-requires-2
-match-backward-requires-2 c κs = c .before .before .before .before .pre
+match-backward-requires-2 c κs =
+    let entry = c .before .before .before .before in
+    entry.pre
 
 after-match-requires : tie.Need-after-match-requires
-after-match-requires c κs = backward-fits (c .before .before .before .before .before .args .s .now) (c .before .before .before .before .before .args .pos) _ _ _ (c .before .before .before .before .before .pre .1) (c .before .before .before .before .before .pre .2) (omega arith) (c .match-backward2 .ensures)
+after-match-requires c κs =
+    let entry = c .before .before .before .before .before in
+    backward-fits entry.args.s.now entry.args.pos _ _ _ entry.pre.1 entry.pre.2 (omega arith) c.match-backward2.ensures
 
 returns : tie.Need-returns
-returns c = c .match-forward .ensures ∙ sym (ap (λ (x : CharSearch). searchCharPos catalogue (c .before .before .before .before .before .args .s .now) (c .before .before .before .before .before .args .pos) x (c .before .before .before .before .before .args .n)) (c .before .before .cs .given .1))
+returns c =
+    let entry = c .before .before .before .before .before in
+    c.match-forward.ensures
+    ∙ sym (ap (λ (x : CharSearch). searchCharPos catalogue entry.args.s.now entry.args.pos x entry.args.n) c.before.before.cs.given.1)
 
 returns-2 : tie.Need-returns-2
-returns-2 c = c .before-match .ensures ∙ ap (moved (startBefore (c .before .before .before .before .before .before .args .s .now))) (c .before .match-forward2 .ensures) ∙ sym (ap (λ (x : CharSearch). searchCharPos catalogue (c .before .before .before .before .before .before .args .s .now) (c .before .before .before .before .before .before .args .pos) x (c .before .before .before .before .before .before .args .n)) (c .before .before .before .cs2 .given .1))
+returns-2 c =
+    let after-cs2 = c .before .before .before in
+    let entry = after-cs2 .before .before .before in
+    c.before-match.ensures
+    ∙ ap (moved (startBefore entry.args.s.now)) c.before.match-forward2.ensures
+    ∙ sym (ap (λ (x : CharSearch). searchCharPos catalogue entry.args.s.now entry.args.pos x entry.args.n) after-cs2.cs2.given.1)
 
 returns-3 : tie.Need-returns-3
-returns-3 c = c .match-backward .ensures ∙ sym (ap (λ (x : CharSearch). searchCharPos catalogue (c .before .before .before .before .before .args .s .now) (c .before .before .before .before .before .args .pos) x (c .before .before .before .before .before .args .n)) (c .before .before .cs3 .given .1))
+returns-3 c =
+    let entry = c .before .before .before .before .before in
+    c.match-backward.ensures
+    ∙ sym (ap (λ (x : CharSearch). searchCharPos catalogue entry.args.s.now entry.args.pos x entry.args.n) c.before.before.cs3.given.1)
 
 returns-4 : tie.Need-returns-4
-returns-4 c = c .after-match .ensures ∙ ap (moved (λ p. p + size (c .before .before .before .cs4 .given .0 .0))) (c .before .match-backward2 .ensures) ∙ sym (ap (λ (x : CharSearch). searchCharPos catalogue (c .before .before .before .before .before .before .args .s .now) (c .before .before .before .before .before .before .args .pos) x (c .before .before .before .before .before .before .args .n)) (c .before .before .before .cs4 .given .1))
+returns-4 c =
+    let after-cs4 = c .before .before .before in
+    let entry = after-cs4 .before .before .before in
+    c.after-match.ensures
+    ∙ ap (moved (λ p. p + size after-cs4.cs4.given.0.0)) c.before.match-backward2.ensures
+    ∙ sym (ap (λ (x : CharSearch). searchCharPos catalogue entry.args.s.now entry.args.pos x entry.args.n) after-cs4.cs4.given.1)
 
 pub search-char-pos-spec : {M : Type 1} → statement M
 search-char-pos-spec =

@@ -33,24 +33,65 @@ next-cluster-requires c κs = search needs
 
 returns : tie.Need-returns Inv-loop μ-loop
 unfolding skipWhitespace
-returns c = sym (c .before .before .before .before .loop .inv .1 ∙ alnum-none catalogue (c .before .before .before .before .before .before .args .s .now) (c .before .before .before .before .loop .at) _ ((next-told catalogue (c .before .before .before .before .before .before .args .s .now) (c .before .before .before .before .loop .at) _ (c .before .before .before .before .loop .inv .0) (c .before .next-cluster .ensures .0, c .before .next-cluster .ensures .1)) .0) (c .if1 .taken))
+returns c =
+    let at-loop = c .before .before .before .before in
+    let entry = at-loop.before.before in
+    sym
+    (at-loop.loop.inv.1
+    ∙ alnum-none catalogue entry.args.s.now at-loop.loop.at _
+    (
+    (next-told catalogue entry.args.s.now at-loop.loop.at _ at-loop.loop.inv.0
+    (c.before.next-cluster.ensures.0, c.before.next-cluster.ensures.1)) .0) c.if1.taken)
 
 returns-2 : tie.Need-returns-2 Inv-loop μ-loop
 unfolding skipWhitespace
-returns-2 c = sym (c .before .before .before .before .before .loop .inv .1 ∙ alnum-here catalogue (c .before .before .before .before .before .before .before .args .s .now) (c .before .before .before .before .before .loop .at) _ ((next-told catalogue (c .before .before .before .before .before .before .before .args .s .now) (c .before .before .before .before .before .loop .at) _ (c .before .before .before .before .before .loop .inv .0) (c .before .before .next-cluster .ensures .0, c .before .before .next-cluster .ensures .1)) .0) (omega (arith, c .before .if1 .left)) (c .if2 .taken))
+returns-2 c =
+    let at-loop = c .before .before .before .before .before in
+    let entry = at-loop.before.before in
+    sym
+    (at-loop.loop.inv.1
+    ∙ alnum-here catalogue entry.args.s.now at-loop.loop.at _
+    (
+    (next-told catalogue entry.args.s.now at-loop.loop.at _ at-loop.loop.inv.0
+    (c.before.before.next-cluster.ensures.0, c.before.before.next-cluster.ensures.1)) .0) (omega (arith, c.before.if1.left)) c.if2.taken)
 
 add-at : tie.Need-add-at Inv-loop μ-loop
-add-at c = omega (arith, (next-told catalogue (c .before .before .before .before .before .before .before .args .s .now) (c .before .before .before .before .before .loop .at) _ (c .before .before .before .before .before .loop .inv .0) (c .before .before .next-cluster .ensures .0, c .before .before .next-cluster .ensures .1)) .1)
+add-at c =
+    let at-loop = c .before .before .before .before .before in
+    let entry = at-loop.before.before in
+    omega (
+      arith,
+      (next-told catalogue entry.args.s.now at-loop.loop.at _ at-loop.loop.inv.0
+          (c.before.before.next-cluster.ensures.0, c.before.before.next-cluster.ensures.1)) .1,
+    )
 
 loop-less : tie.Need-loop-less Inv-loop μ-loop
-loop-less c = omega (arith, (next-told catalogue (c .before .before .before .before .before .before .before .args .s .now) (c .before .before .before .before .before .loop .at) _ (c .before .before .before .before .before .loop .inv .0) (c .before .before .next-cluster .ensures .0, c .before .before .next-cluster .ensures .1)) .1, c .before .if1 .left)
+loop-less c =
+    let at-loop = c .before .before .before .before .before in
+    let entry = at-loop.before.before in
+    omega (
+      arith,
+      (next-told catalogue entry.args.s.now at-loop.loop.at _ at-loop.loop.inv.0
+          (c.before.before.next-cluster.ensures.0, c.before.before.next-cluster.ensures.1)) .1,
+      c.before.if1.left,
+    )
 
 loop-again : tie.Need-loop-again Inv-loop μ-loop
-loop-again c = ((next-told catalogue (c .before .before .before .before .before .before .before .args .s .now) (c .before .before .before .before .before .loop .at) _ (c .before .before .before .before .before .loop .inv .0) (c .before .before .next-cluster .ensures .0, c .before .before .next-cluster .ensures .1)) .1, c .before .before .before .before .before .loop .inv .1 ∙ alnum-later catalogue (c .before .before .before .before .before .before .before .args .s .now) (c .before .before .before .before .before .loop .at) _ ((next-told catalogue (c .before .before .before .before .before .before .before .args .s .now) (c .before .before .before .before .before .loop .at) _ (c .before .before .before .before .before .loop .inv .0) (c .before .before .next-cluster .ensures .0, c .before .before .next-cluster .ensures .1)) .0) (omega (arith, c .before .if1 .left)) (c .if2 .left))
+loop-again c =
+    let at-loop = c .before .before .before .before .before in
+    let entry = at-loop.before.before in
+    let next-told1 = next-told catalogue entry.args.s.now at-loop.loop.at _ at-loop.loop.inv.0
+    (c.before.before.next-cluster.ensures.0, c.before.before.next-cluster.ensures.1) in (
+      next-told1.1,
+      at-loop.loop.inv.1
+          ∙ alnum-later catalogue entry.args.s.now at-loop.loop.at _ next-told1.0 (omega (arith, c.before.if1.left)) c.if2.left,
+    )
 
 returns-3 : tie.Need-returns-3 Inv-loop μ-loop
 unfolding skipWhitespace
-returns-3 c = sym (c .before .loop .inv .1 ∙ alnum-end catalogue (c .before .before .before .args .s .now) (c .before .loop .at) (c .loop-test .left))
+returns-3 c =
+    let entry = c .before .before .before in
+    sym (c.before.loop.inv.1 ∙ alnum-end catalogue entry.args.s.now c.before.loop.at c.loop-test.left)
 
 pub skip-whitespace-spec : {M : Type 1} → statement M
 skip-whitespace-spec =

@@ -37,22 +37,66 @@ enum-told : tie.Need-enum-told Inv-loop μ-loop
 enum-told c = search needs
 
 returns : tie.Need-returns Inv-loop μ-loop
-returns c = ends-never _ _ _ _ (ends-before (c .before .before .before .before .before .before .before .args .s .now) (c .before .before .before .before .before .loop .at) _ (c .before .before .before .before .before .before .before .pre) (c .before .before .before .before .before .loop .inv .1) (c .before .before .before .before .loop-test .taken) (c .before .before .before .before .before .loop .inv .0) (c .before .before .before .prev-char .ensures)) (sym (c .before .before .decode-at .ensures) ∙ ap asFirst (c .enum-told .given .1))
+returns c =
+    let after-prev-char = c .before .before .before in
+    let in-loop = after-prev-char.before in
+    let at-loop = in-loop.before in
+    let entry = at-loop.before.before in
+    ends-never _ _ _ _
+    (ends-before entry.args.s.now at-loop.loop.at _ entry.pre at-loop.loop.inv.1 in-loop.loop-test.taken at-loop.loop.inv.0
+    after-prev-char.prev-char.ensures) (sym c.before.before.decode-at.ensures ∙ ap asFirst c.enum-told.given.1)
 
 is-white-requires : tie.Need-is-white-requires Inv-loop μ-loop
 is-white-requires c κs = search needs
 
 returns-2 : tie.Need-returns-2 Inv-loop μ-loop
-returns-2 c = sym (c .before .before .before .before .before .before .before .before .loop .inv .2 ∙ trim-stop catalogue (c .before .before .before .before .before .before .before .before .before .before .args .s .now) (c .before .before .before .before .before .before .before .before .loop .at) _ _ _ (c .before .before .before .before .before .before .before .before .loop .inv .1) (c .before .before .before .before .before .before .before .before .loop .inv .0) (ends-before (c .before .before .before .before .before .before .before .before .before .before .args .s .now) (c .before .before .before .before .before .before .before .before .loop .at) _ (c .before .before .before .before .before .before .before .before .before .before .pre) (c .before .before .before .before .before .before .before .before .loop .inv .1) (c .before .before .before .before .before .before .before .loop-test .taken) (c .before .before .before .before .before .before .before .before .loop .inv .0) (c .before .before .before .before .before .before .prev-char .ensures)) (sym (c .before .before .before .before .before .decode-at .ensures) ∙ ap asFirst (c .before .before .before .d .given .1)) (sym (c .before .is-white .ensures) ∙ not-true _ (c .if1 .taken)))
+returns-2 c =
+    let after-d = c .before .before .before in
+    let after-decode-at = after-d.before.before in
+    let after-prev-char = after-decode-at.before in
+    let in-loop = after-prev-char.before in
+    let at-loop = in-loop.before in
+    let entry = at-loop.before.before in
+    sym
+    (at-loop.loop.inv.2
+    ∙ trim-stop catalogue entry.args.s.now at-loop.loop.at _ _ _ at-loop.loop.inv.1 at-loop.loop.inv.0
+    (ends-before entry.args.s.now at-loop.loop.at _ entry.pre at-loop.loop.inv.1 in-loop.loop-test.taken at-loop.loop.inv.0
+    after-prev-char.prev-char.ensures) (sym after-decode-at.decode-at.ensures ∙ ap asFirst after-d.d.given.1)
+    (sym c.before.is-white.ensures ∙ not-true _ c.if1.taken))
 
 loop-less : tie.Need-loop-less Inv-loop μ-loop
-loop-less c = (ends-before (c .before .before .before .before .before .before .before .before .before .before .args .s .now) (c .before .before .before .before .before .before .before .before .loop .at) _ (c .before .before .before .before .before .before .before .before .before .before .pre) (c .before .before .before .before .before .before .before .before .loop .inv .1) (c .before .before .before .before .before .before .before .loop-test .taken) (c .before .before .before .before .before .before .before .before .loop .inv .0) (c .before .before .before .before .before .before .prev-char .ensures)) .below
+loop-less c =
+    let after-prev-char = c .before .before .before .before .before .before in
+    let in-loop = after-prev-char.before in
+    let at-loop = in-loop.before in
+    let entry = at-loop.before.before in
+    (ends-before entry.args.s.now at-loop.loop.at _ entry.pre at-loop.loop.inv.1 in-loop.loop-test.taken at-loop.loop.inv.0
+    after-prev-char.prev-char.ensures) .below
 
 loop-again : tie.Need-loop-again Inv-loop μ-loop
-loop-again c = let e = (ends-before (c .before .before .before .before .before .before .before .before .before .before .args .s .now) (c .before .before .before .before .before .before .before .before .loop .at) _ (c .before .before .before .before .before .before .before .before .before .before .pre) (c .before .before .before .before .before .before .before .before .loop .inv .1) (c .before .before .before .before .before .before .before .loop-test .taken) (c .before .before .before .before .before .before .before .before .loop .inv .0) (c .before .before .before .before .before .before .prev-char .ensures)) in (omega (arith, e .below, c .before .before .before .before .before .before .before .before .loop .inv .0), e .start, c .before .before .before .before .before .before .before .before .loop .inv .2 ∙ trim-more catalogue (c .before .before .before .before .before .before .before .before .before .before .args .s .now) (c .before .before .before .before .before .before .before .before .loop .at) _ _ _ e (sym (c .before .before .before .before .before .decode-at .ensures) ∙ ap asFirst (c .before .before .before .d .given .1)) (sym (c .before .is-white .ensures) ∙ not-false _ (c .if1 .left)))
+loop-again c =
+    let after-d = c .before .before .before in
+    let after-decode-at = after-d.before.before in
+    let after-prev-char = after-decode-at.before in
+    let in-loop = after-prev-char.before in
+    let at-loop = in-loop.before in
+    let entry = at-loop.before.before in
+    let e =
+    (ends-before entry.args.s.now at-loop.loop.at _ entry.pre at-loop.loop.inv.1 in-loop.loop-test.taken at-loop.loop.inv.0
+    after-prev-char.prev-char.ensures) in (
+      omega (arith, e.below, at-loop.loop.inv.0),
+      e.start,
+      at-loop.loop.inv.2
+          ∙ trim-more catalogue entry.args.s.now at-loop.loop.at _ _ _ e
+          (sym after-decode-at.decode-at.ensures ∙ ap asFirst after-d.d.given.1)
+          (sym c.before.is-white.ensures ∙ not-false _ c.if1.left),
+    )
 
 returns-3 : tie.Need-returns-3 Inv-loop μ-loop
-returns-3 c = let z : c .before .loop .at ≡ 0 = omega arith in sym (c .before .loop .inv .2 ∙ rw z (trim-start catalogue (c .before .before .before .args .s .now)))
+returns-3 c =
+    let entry = c .before .before .before in
+    let z : c.before.loop.at ≡ 0 = omega arith in
+    sym (c.before.loop.inv.2 ∙ rw z (trim-start catalogue entry.args.s.now))
 
 pub trim-end-spec : {M : Type 1} → statement M
 trim-end-spec =

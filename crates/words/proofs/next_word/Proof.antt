@@ -7,7 +7,19 @@ use lib.ListN.{length}
 use Rattle.unicode.specs.Repertoire.{catalogue}
 use Rattle.words.specs.Words.{nextWord}
 use Rattle.words.proofs.Marks.{told}
-use Rattle.words.proofs.Walks.{landing, rounds, inRound, rounds-done, rounds-out, rounds-in, in-out, in-hit, in-on, first-all, first-passed}
+use Rattle.words.proofs.Walks.{
+  landing,
+  rounds,
+  inRound,
+  rounds-done,
+  rounds-out,
+  rounds-in,
+  in-out,
+  in-hit,
+  in-on,
+  first-all,
+  first-passed,
+}
 use Rattle.words.proofs.next_word.Statement.{statement}
 use Rattle.words.proofs.next_word.Tie as tie
 
@@ -108,22 +120,27 @@ lands-on-requires c κs = search needs
 
 inner-less : tie.Need-inner-less Inv-inner μ-inner Inv-outer μ-outer
 inner-less c =
-    let a = c .before .before .before .before .before .before .before .before .before .before .before .before .before .before .before .args in
+    let after-next-cluster2 = c .before .before .before in
+    let a = c .before .before .before .before .before .before .before .before .before .before .before .before .before .before .before
+    .args in
     let i = c .before .before .before .before .before .inner in
-    omega (arith, told catalogue (a .t .now) (i .next) _ (i .inv .0) (c .before .before .before .next-cluster2 .ensures) .fits, c .before .before .if3 .left)
+    omega (arith, (told catalogue a.t.now i.next _ i.inv.0 after-next-cluster2.next-cluster2.ensures) .fits, c.before.before.if3.left)
 
 inner-again : tie.Need-inner-again Inv-inner μ-inner Inv-outer μ-outer
 inner-again c =
-    let a = c .before .before .before .before .before .before .before .before .before .before .before .before .before .before .before .args in
+    let after-next-cluster2 = c .before .before .before in
+    let at-outer = after-next-cluster2 .before .before .before .before .before .before .before .before in
+    let a = c .before .before .before .before .before .before .before .before .before .before .before .before .before .before .before
+    .args in
     let i = c .before .before .before .before .before .inner in
-    let y = told catalogue (a .t .now) (i .next) _ (i .inv .0) (c .before .before .before .next-cluster2 .ensures) in (
-      y .fits,
-      i .inv .1,
-      i .inv .2,
-      i .inv .3,
-      i .inv .4 ∙
-          in-on catalogue (a .t .now) (a .at) (a .word) (i .next) _ (y .known) (c .before .before .before .before .before .before .before .before .before .before .before .outer .left) (i .i) (i .x) _
-          (c .before .before .if3 .left) (c .before .stops-at .ensures) (c .if4 .left),
+    let y = told catalogue a.t.now i.next _ i.inv.0 after-next-cluster2.next-cluster2.ensures in (
+      y.fits,
+      i.inv.1,
+      i.inv.2,
+      i.inv.3,
+      i.inv.4
+          ∙ in-on catalogue a.t.now a.at a.word i.next _ y.known at-outer.outer.left i.i i.x _ c.before.before.if3.left
+          c.before.stops-at.ensures c.if4.left,
     )
 
 sub-left : tie.Need-sub-left Inv-inner μ-inner Inv-outer μ-outer
@@ -134,14 +151,18 @@ outer-less c = omega arith
 
 outer-again : tie.Need-outer-again Inv-inner μ-inner Inv-outer μ-outer
 outer-again c =
-    let a = c .before .before .before .before .before .before .before .before .before .before .before .before .before .before .before .before .args in
+    let else3 = c .before .before .before in
+    let after-next-cluster2 = else3.before in
+    let at-outer = after-next-cluster2 .before .before .before .before .before .before .before .before in
+    let a = c .before .before .before .before .before .before .before .before .before .before .before .before .before .before
+    .before .before .args in
     let i = c .before .before .before .before .before .before .inner in
-    let y = told catalogue (a .t .now) (i .next) _ (i .inv .0) (c .before .before .before .before .next-cluster2 .ensures) in (
-      y .fits,
-      i .inv .3,
-      i .inv .4 ∙
-          in-hit catalogue (a .t .now) (a .at) (a .word) (i .next) _ (y .known) (c .before .before .before .before .before .before .before .before .before .before .before .before .outer .left) (i .i) (i .x) _ _
-          (c .before .before .before .if3 .left) (c .before .before .stops-at .ensures) (c .before .if4 .taken) (c .lands-on .ensures),
+    let y = told catalogue a.t.now i.next _ i.inv.0 after-next-cluster2.next-cluster2.ensures in (
+      y.fits,
+      i.inv.3,
+      i.inv.4
+          ∙ in-hit catalogue a.t.now a.at a.word i.next _ y.known at-outer.outer.left i.i i.x _ _ else3.if3.left
+          c.before.before.stops-at.ensures c.before.if4.taken c.lands-on.ensures,
     )
 
 returns : tie.Need-returns Inv-inner μ-inner Inv-outer μ-outer
@@ -161,11 +182,14 @@ returns-2 c =
 
 returns-3 : tie.Need-returns-3 Inv-inner μ-inner Inv-outer μ-outer
 returns-3 c =
+    let at-outer = c .before .before .before .before .before .before .before .before .before in
     let a = c .before .before .before .before .before .before .before .before .before .before .before .before .before .args in
     let i = c .before .before .before .inner in
-    let y = told catalogue (a .t .now) (i .next) _ (i .inv .0) (c .before .next-cluster2 .ensures) in
-    sym (i .inv .4 ∙ in-out catalogue (a .t .now) (a .at) (a .word) (i .next) _ (y .known) (c .before .before .before .before .before .before .before .before .before .outer .left) (i .i) (i .x) (c .if3 .taken) ∙
-    ap (λ p. landing p (i .i)) (sym (i .inv .2)))
+    let y = told catalogue a.t.now i.next _ i.inv.0 c.before.next-cluster2.ensures in
+    sym
+    (i.inv.4
+    ∙ in-out catalogue a.t.now a.at a.word i.next _ y.known at-outer.outer.left i.i i.x c.if3.taken
+    ∙ ap (λ p. landing p i.i) (sym i.inv.2))
 
 pub next-word-spec : {M : Type 1} → statement M
 next-word-spec =

@@ -10,7 +10,17 @@ use Rattle.utf8.proofs.Boundary.{boundary-end}
 use Rattle.unicode.specs.Repertoire.{catalogue}
 use Rattle.words.specs.Words.{prevWord}
 use Rattle.words.proofs.Marks.{back-step}
-use Rattle.words.proofs.Walks.{roundsBack, inRoundBack, back-first, back-done, back-out, back-in, in-back-out, in-back-hit, in-back-on}
+use Rattle.words.proofs.Walks.{
+  roundsBack,
+  inRoundBack,
+  back-first,
+  back-done,
+  back-out,
+  back-in,
+  in-back-out,
+  in-back-hit,
+  in-back-on,
+}
 use Rattle.words.proofs.prev_word.Statement.{statement}
 use Rattle.words.proofs.prev_word.Tie as tie
 
@@ -24,7 +34,8 @@ abbrev μ-inner : tie.MeasureT-inner
 
 abbrev Inv-outer : tie.InvT-outer
 Inv-outer t word n rest₀ found₀ left₀ rest found left =
-    (rest ≤ length t) × (boundary t rest ≡ true) × (prevWord catalogue t word n ≡ roundsBack catalogue t word left rest found .found)
+    (rest ≤ length t) × (boundary t rest ≡ true)
+    × (prevWord catalogue t word n ≡ roundsBack catalogue t word left rest found .found)
 
 abbrev μ-outer : tie.MeasureT-outer
 μ-outer t word n rest₀ found₀ left₀ rest found left = left
@@ -42,7 +53,7 @@ sub-rest : tie.Need-sub-rest Inv-inner μ-inner Inv-outer μ-outer
 sub-rest c =
     let a = c .before .before .before .before .before .before .args in
     let o = c .before .before .before .before .outer in
-    omega (arith, back-step catalogue (a .t .now) (o .rest) _ (o .inv .0) (o .inv .1) (c .before .prev-cluster .ensures .0) (c .if1 .left) .fits)
+    omega (arith, (back-step catalogue a.t.now o.rest _ o.inv.0 o.inv.1 c.before.prev-cluster.ensures.0 c.if1.left) .fits)
 
 inner-holds : tie.Need-inner-holds Inv-inner μ-inner Inv-outer μ-outer
 inner-holds c =
@@ -70,30 +81,37 @@ sub-rest-2 : tie.Need-sub-rest-2 Inv-inner μ-inner Inv-outer μ-outer
 sub-rest-2 c =
     let a = c .before .before .before .before .before .before .before .before .before .before .args in
     let i = c .before .before .before .inner in
-    omega (arith, back-step catalogue (a .t .now) (i .rest) _ (i .inv .0) (i .inv .1) (c .before .prev-cluster2 .ensures .0) (c .if2 .left) .fits)
+    omega (arith, (back-step catalogue a.t.now i.rest _ i.inv.0 i.inv.1 c.before.prev-cluster2.ensures.0 c.if2.left) .fits)
 
 is-start-of-word-requires : tie.Need-is-start-of-word-requires Inv-inner μ-inner Inv-outer μ-outer
 is-start-of-word-requires c κs = search needs
 
 inner-less : tie.Need-inner-less Inv-inner μ-inner Inv-outer μ-outer
 inner-less c =
+    let after-prev-cluster2 = c .before .before .before in
     let a = c .before .before .before .before .before .before .before .before .before .before .before .before .args in
     let i = c .before .before .before .before .before .inner in
-    omega (arith, back-step catalogue (a .t .now) (i .rest) _ (i .inv .0) (i .inv .1) (c .before .before .before .prev-cluster2 .ensures .0) (c .before .before .if2 .left) .fits, c .before .before .if2 .left)
+    omega (
+      arith,
+      (back-step catalogue a.t.now i.rest _ i.inv.0 i.inv.1 after-prev-cluster2.prev-cluster2.ensures.0 c.before.before.if2.left) .fits,
+      c.before.before.if2.left,
+    )
 
 inner-again : tie.Need-inner-again Inv-inner μ-inner Inv-outer μ-outer
 inner-again c =
+    let after-prev-cluster2 = c .before .before .before in
+    let at-outer = after-prev-cluster2 .before .before .before .before .before .before .before in
     let a = c .before .before .before .before .before .before .before .before .before .before .before .before .args in
     let i = c .before .before .before .before .before .inner in
-    let s = back-step catalogue (a .t .now) (i .rest) _ (i .inv .0) (i .inv .1) (c .before .before .before .prev-cluster2 .ensures .0) (c .before .before .if2 .left) in (
+    let s = back-step catalogue a.t.now i.rest _ i.inv.0 i.inv.1 after-prev-cluster2.prev-cluster2.ensures.0 c.before.before.if2.left in (
       omega arith,
-      s .edge,
-      i .inv .2,
-      i .inv .3,
-      i .inv .4 ∙
-          ap (λ z. z .found)
-          (in-back-on catalogue (a .t .now) (a .word) (i .rest) _ (i .inv .0) (i .inv .1) (c .before .before .before .prev-cluster2 .ensures .0)
-          (c .before .before .before .before .before .before .before .before .before .before .outer .left) (i .j) (i .y) _ (c .before .before .if2 .left) (c .before .is-start-of-word .ensures) (c .if3 .left)),
+      s.edge,
+      i.inv.2,
+      i.inv.3,
+      i.inv.4
+          ∙ ap (λ z. z.found)
+          (in-back-on catalogue a.t.now a.word i.rest _ i.inv.0 i.inv.1 after-prev-cluster2.prev-cluster2.ensures.0 at-outer.outer.left i.j
+          i.y _ c.before.before.if2.left c.before.is-start-of-word.ensures c.if3.left),
     )
 
 sub-left : tie.Need-sub-left Inv-inner μ-inner Inv-outer μ-outer
@@ -104,15 +122,17 @@ outer-less c = omega arith
 
 outer-again : tie.Need-outer-again Inv-inner μ-inner Inv-outer μ-outer
 outer-again c =
+    let after-prev-cluster2 = c .before .before .before in
+    let at-outer = after-prev-cluster2 .before .before .before .before .before .before .before in
     let a = c .before .before .before .before .before .before .before .before .before .before .before .before .args in
     let i = c .before .before .before .before .before .inner in
-    let s = back-step catalogue (a .t .now) (i .rest) _ (i .inv .0) (i .inv .1) (c .before .before .before .prev-cluster2 .ensures .0) (c .before .before .if2 .left) in (
+    let s = back-step catalogue a.t.now i.rest _ i.inv.0 i.inv.1 after-prev-cluster2.prev-cluster2.ensures.0 c.before.before.if2.left in (
       omega arith,
-      s .edge,
-      i .inv .4 ∙
-          ap (λ z. z .found)
-          (in-back-hit catalogue (a .t .now) (a .word) (i .rest) _ (i .inv .0) (i .inv .1) (c .before .before .before .prev-cluster2 .ensures .0)
-          (c .before .before .before .before .before .before .before .before .before .before .outer .left) (i .j) (i .y) _ (c .before .before .if2 .left) (c .before .is-start-of-word .ensures) (c .if3 .taken)),
+      s.edge,
+      i.inv.4
+          ∙ ap (λ z. z.found)
+          (in-back-hit catalogue a.t.now a.word i.rest _ i.inv.0 i.inv.1 after-prev-cluster2.prev-cluster2.ensures.0 at-outer.outer.left i.j
+          i.y _ c.before.before.if2.left c.before.is-start-of-word.ensures c.if3.taken),
     )
 
 returns : tie.Need-returns Inv-inner μ-inner Inv-outer μ-outer
@@ -135,13 +155,15 @@ returns-2 c =
 
 returns-3 : tie.Need-returns-3 Inv-inner μ-inner Inv-outer μ-outer
 returns-3 c =
+    let at-outer = c .before .before .before .before .before .before .before .before in
     let a = c .before .before .before .before .before .before .before .before .before .before .args in
     let i = c .before .before .before .inner in
-    i .inv .3 ∙
-    sym (i .inv .4 ∙
-    ap (λ z. z .found)
-    (in-back-out catalogue (a .t .now) (a .word) (i .rest) _ (i .inv .0) (i .inv .1) (c .before .prev-cluster2 .ensures .0)
-    (c .before .before .before .before .before .before .before .before .outer .left) (i .j) (i .y) (c .if2 .taken)))
+    i.inv.3
+    ∙ sym
+    (i.inv.4
+    ∙ ap (λ z. z.found)
+    (in-back-out catalogue a.t.now a.word i.rest _ i.inv.0 i.inv.1 c.before.prev-cluster2.ensures.0 at-outer.outer.left i.j i.y
+    c.if2.taken))
 
 pub prev-word-spec : {M : Type 1} → statement M
 prev-word-spec =

@@ -11,10 +11,14 @@ unfolding prevWordPos
 returns c = simp (eq-eqb _ _ (c .if1 .taken))
 
 slice-aggregate-prev-word : tie.Need-slice-aggregate-prev-word
-slice-aggregate-prev-word c = sym (length-take-le _ _ (c .before .before .before .pre .2))
+slice-aggregate-prev-word c =
+    let entry = c .before .before .before in
+    sym (length-take-le _ _ entry.pre.2)
 
 prev-word-requires : tie.Need-prev-word-requires
-prev-word-requires c κs = c .before .before .before .pre .1
+prev-word-requires c κs =
+    let entry = c .before .before .before in
+    entry.pre.1
 
 returns-2 : tie.Need-returns-2
 unfolding prevWordPos

@@ -23,13 +23,19 @@ is-start-of-word-requires-3 : tie.Need-is-start-of-word-requires-3
 is-start-of-word-requires-3 c κs = search needs
 
 returns : tie.Need-returns
-returns c = c .is-start-of-word .ensures ∙ sym (ap (λ a. stopsAt a (c .before .before .before .args .word) (c .before .before .before .args .x) (c .before .before .before .args .y)) (c .before .enum-told .given .1))
+returns c =
+    let entry = c .before .before .before in
+    c.is-start-of-word.ensures ∙ sym (ap (λ a. stopsAt a entry.args.word entry.args.x entry.args.y) c.before.enum-told.given.1)
 
 returns-2 : tie.Need-returns-2
-returns-2 c = c .is-start-of-word2 .ensures ∙ sym (ap (λ a. stopsAt a (c .before .before .before .args .word) (c .before .before .before .args .x) (c .before .before .before .args .y)) (c .before .enum-told2 .given .1))
+returns-2 c =
+    let entry = c .before .before .before in
+    c.is-start-of-word2.ensures ∙ sym (ap (λ a. stopsAt a entry.args.word entry.args.x entry.args.y) c.before.enum-told2.given.1)
 
 returns-3 : tie.Need-returns-3
-returns-3 c = c .is-start-of-word3 .ensures ∙ sym (ap (λ a. stopsAt a (c .before .before .before .args .word) (c .before .before .before .args .x) (c .before .before .before .args .y)) (c .before .enum-told3 .given .1))
+returns-3 c =
+    let entry = c .before .before .before in
+    c.is-start-of-word3.ensures ∙ sym (ap (λ a. stopsAt a entry.args.word entry.args.x entry.args.y) c.before.enum-told3.given.1)
 
 pub stops-at-spec : {M : Type 1} → statement M
 stops-at-spec =
