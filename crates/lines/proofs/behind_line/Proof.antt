@@ -11,10 +11,14 @@ add-result : tie.Need-add-result
 add-result c = search needs
 
 returns : tie.Need-returns
-returns c = (behind-newline (c .before .before .before .args .s .now) (c .before .before .before .args .pos) _ (c .before .end-of-line .ensures .0) (c .if1 .taken), omega arith)
+returns c =
+    let entry = c .before .before .before in
+    (behind-newline entry.args.s.now entry.args.pos _ c.before.end-of-line.ensures.0 c.if1.taken, omega arith)
 
 returns-2 : tie.Need-returns-2
-returns-2 c = (behind-end (c .before .before .before .args .s .now) (c .before .before .before .args .pos) _ (c .before .end-of-line .ensures .0) (c .if1 .left), omega arith)
+returns-2 c =
+    let entry = c .before .before .before in
+    (behind-end entry.args.s.now entry.args.pos _ c.before.end-of-line.ensures.0 c.if1.left, omega arith)
 
 pub behind-line-spec : {M : Type 1} → statement M
 behind-line-spec = tie.close (tie.spec end-of-line-requires add-result returns returns-2)

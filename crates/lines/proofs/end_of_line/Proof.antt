@@ -22,7 +22,16 @@ shared-slice-read-if1 : tie.Need-shared-slice-read-if1 Inv-loop μ-loop
 shared-slice-read-if1 c = search needs
 
 returns : tie.Need-returns Inv-loop μ-loop
-returns c = (sym (c .before .before .before .loop .inv .2 ∙ end-here (c .before .before .before .before .args .s .now) (c .before .before .before .loop .i) (c .before .before .loop-test .taken) (getD-any (c .before .before .before .before .args .s .now) (c .before .before .before .loop .i) 256 0 (c .before .before .loop-test .taken) ∙ c .if1 .taken)), c .before .before .before .loop .inv .0, c .before .before .before .loop .inv .1)
+returns c =
+    let at-loop = c .before .before .before in
+    let entry = at-loop.before in (
+      sym
+          (at-loop.loop.inv.2
+          ∙ end-here entry.args.s.now at-loop.loop.i c.before.before.loop-test.taken
+          (getD-any entry.args.s.now at-loop.loop.i 256 0 c.before.before.loop-test.taken ∙ c.if1.taken)),
+      at-loop.loop.inv.0,
+      at-loop.loop.inv.1,
+    )
 
 add-i : tie.Need-add-i Inv-loop μ-loop
 add-i c = search needs
@@ -31,10 +40,22 @@ loop-less : tie.Need-loop-less Inv-loop μ-loop
 loop-less c = search needs
 
 loop-again : tie.Need-loop-again Inv-loop μ-loop
-loop-again c = (omega (arith, c .before .before .before .loop .inv .0), omega (arith, c .before .before .loop-test .taken), c .before .before .before .loop .inv .2 ∙ end-on (c .before .before .before .before .args .s .now) (c .before .before .before .loop .i) (c .before .before .loop-test .taken) (λ x. c .if1 .left (getD-any (c .before .before .before .before .args .s .now) (c .before .before .before .loop .i) 0 256 (c .before .before .loop-test .taken) ∙ x)))
+loop-again c =
+    let at-loop = c .before .before .before in
+    let entry = at-loop.before in (
+      omega (arith, at-loop.loop.inv.0),
+      omega (arith, c.before.before.loop-test.taken),
+      at-loop.loop.inv.2
+          ∙ end-on entry.args.s.now at-loop.loop.i c.before.before.loop-test.taken
+          (λ x. c.if1.left (getD-any entry.args.s.now at-loop.loop.i 0 256 c.before.before.loop-test.taken ∙ x)),
+    )
 
 returns-2 : tie.Need-returns-2 Inv-loop μ-loop
-returns-2 c = (sym (c .before .loop .inv .2 ∙ end-last (c .before .before .args .s .now) (c .before .loop .i) (c .loop-test .left)), c .before .loop .inv .0, c .before .loop .inv .1)
+returns-2 c = (
+  sym (c.before.loop.inv.2 ∙ end-last c.before.before.args.s.now c.before.loop.i c.loop-test.left),
+  c.before.loop.inv.0,
+  c.before.loop.inv.1,
+)
 
 pub end-of-line-spec : {M : Type 1} → statement M
 end-of-line-spec =

@@ -8,7 +8,8 @@ use Rattle.lines.proofs.line_above.Statement.{statement}
 use Rattle.lines.proofs.line_above.Tie as tie
 
 abbrev Inv-loop : tie.InvT-loop
-Inv-loop s n a e start₀ end₀ left₀ start end left = (start ≤ end) × (end ≤ e) × (lineAbove s n a e ≡ lineAbove s left start end)
+Inv-loop s n a e start₀ end₀ left₀ start end left =
+    (start ≤ end) × (end ≤ e) × (lineAbove s n a e ≡ lineAbove s left start end)
 
 abbrev μ-loop : tie.MeasureT-loop
 μ-loop s n a e start₀ end₀ left₀ start end left = left
@@ -17,7 +18,14 @@ loop-holds : tie.Need-loop-holds Inv-loop μ-loop
 loop-holds c = (omega arith, omega arith, refl)
 
 returns : tie.Need-returns Inv-loop μ-loop
-returns c = (sym (c .before .before .loop .inv .2 ∙ above-first (c .before .before .before .before .args .s .now) (c .before .before .loop .left) (c .before .before .loop .start) (c .before .before .loop .end) (c .if1 .taken)), c .before .before .loop .inv .0, c .before .before .loop .inv .1)
+returns c =
+    let entry = c .before .before .before .before in (
+      sym
+          (c.before.before.loop.inv.2
+          ∙ above-first entry.args.s.now c.before.before.loop.left c.before.before.loop.start c.before.before.loop.end c.if1.taken),
+      c.before.before.loop.inv.0,
+      c.before.before.loop.inv.1,
+    )
 
 sub-end : tie.Need-sub-end Inv-loop μ-loop
 sub-end c = search needs
@@ -32,10 +40,23 @@ loop-less : tie.Need-loop-less Inv-loop μ-loop
 loop-less c = search needs
 
 loop-again : tie.Need-loop-again Inv-loop μ-loop
-loop-again c = (c .start-of-line .ensures .1, omega (arith, c .before .before .before .loop .inv .0, c .before .before .before .loop .inv .1), c .before .before .before .loop .inv .2 ∙ above-on (c .before .before .before .before .before .args .s .now) (c .before .before .before .loop .left) (c .before .before .before .loop .start) (c .before .before .before .loop .end) _ (c .before .before .loop-test .taken) (c .before .if1 .left) (c .start-of-line .ensures .0))
+loop-again c =
+    let at-loop = c .before .before .before in
+    let entry = at-loop.before.before in (
+      c.start-of-line.ensures.1,
+      omega (arith, at-loop.loop.inv.0, at-loop.loop.inv.1),
+      at-loop.loop.inv.2
+          ∙ above-on entry.args.s.now at-loop.loop.left at-loop.loop.start at-loop.loop.end _ c.before.before.loop-test.taken
+          c.before.if1.left c.start-of-line.ensures.0,
+    )
 
 returns-2 : tie.Need-returns-2 Inv-loop μ-loop
-returns-2 c = (sym (c .before .loop .inv .2 ∙ above-none (c .before .before .before .args .s .now) (c .before .loop .left) (c .before .loop .start) (c .before .loop .end) (c .loop-test .left)), c .before .loop .inv .0, c .before .loop .inv .1)
+returns-2 c =
+    let entry = c .before .before .before in (
+      sym (c.before.loop.inv.2 ∙ above-none entry.args.s.now c.before.loop.left c.before.loop.start c.before.loop.end c.loop-test.left),
+      c.before.loop.inv.0,
+      c.before.loop.inv.1,
+    )
 
 pub line-above-spec : {M : Type 1} → statement M
 line-above-spec =

@@ -9,7 +9,8 @@ use Rattle.lines.proofs.line_below.Statement.{statement}
 use Rattle.lines.proofs.line_below.Tie as tie
 
 abbrev Inv-loop : tie.InvT-loop
-Inv-loop s n a e start₀ end₀ left₀ start end left = (start ≤ end) × (end ≤ length s) × (lineBelow s n a e ≡ lineBelow s left start end)
+Inv-loop s n a e start₀ end₀ left₀ start end left =
+    (start ≤ end) × (end ≤ length s) × (lineBelow s n a e ≡ lineBelow s left start end)
 
 abbrev μ-loop : tie.MeasureT-loop
 μ-loop s n a e start₀ end₀ left₀ start end left = left
@@ -18,7 +19,14 @@ loop-holds : tie.Need-loop-holds Inv-loop μ-loop
 loop-holds c = (omega arith, omega arith, refl)
 
 returns : tie.Need-returns Inv-loop μ-loop
-returns c = (sym (c .before .before .loop .inv .2 ∙ below-last (c .before .before .before .before .args .s .now) (c .before .before .loop .left) (c .before .before .loop .start) (c .before .before .loop .end) (c .if1 .taken)), c .before .before .loop .inv .0, c .before .before .loop .inv .1)
+returns c =
+    let entry = c .before .before .before .before in (
+      sym
+          (c.before.before.loop.inv.2
+          ∙ below-last entry.args.s.now c.before.before.loop.left c.before.before.loop.start c.before.before.loop.end c.if1.taken),
+      c.before.before.loop.inv.0,
+      c.before.before.loop.inv.1,
+    )
 
 add-start : tie.Need-add-start Inv-loop μ-loop
 add-start c = search needs
@@ -33,10 +41,23 @@ loop-less : tie.Need-loop-less Inv-loop μ-loop
 loop-less c = search needs
 
 loop-again : tie.Need-loop-again Inv-loop μ-loop
-loop-again c = (c .end-of-line .ensures .1, c .end-of-line .ensures .2, c .before .before .before .loop .inv .2 ∙ below-on (c .before .before .before .before .before .args .s .now) (c .before .before .before .loop .left) (c .before .before .before .loop .start) (c .before .before .before .loop .end) _ (c .before .before .loop-test .taken) (c .before .if1 .left) (c .end-of-line .ensures .0))
+loop-again c =
+    let at-loop = c .before .before .before in
+    let entry = at-loop.before.before in (
+      c.end-of-line.ensures.1,
+      c.end-of-line.ensures.2,
+      at-loop.loop.inv.2
+          ∙ below-on entry.args.s.now at-loop.loop.left at-loop.loop.start at-loop.loop.end _ c.before.before.loop-test.taken
+          c.before.if1.left c.end-of-line.ensures.0,
+    )
 
 returns-2 : tie.Need-returns-2 Inv-loop μ-loop
-returns-2 c = (sym (c .before .loop .inv .2 ∙ below-none (c .before .before .before .args .s .now) (c .before .loop .left) (c .before .loop .start) (c .before .loop .end) (c .loop-test .left)), c .before .loop .inv .0, c .before .loop .inv .1)
+returns-2 c =
+    let entry = c .before .before .before in (
+      sym (c.before.loop.inv.2 ∙ below-none entry.args.s.now c.before.loop.left c.before.loop.start c.before.loop.end c.loop-test.left),
+      c.before.loop.inv.0,
+      c.before.loop.inv.1,
+    )
 
 pub line-below-spec : {M : Type 1} → statement M
 line-below-spec =

@@ -10,7 +10,9 @@ end-of-line-requires : tie.Need-end-of-line-requires
 end-of-line-requires c κs = search needs
 
 returns : tie.Need-returns
-returns c = line-down-none catalogue (c .before .before .before .args .s .now) (c .before .before .before .args .pos) (c .before .before .before .args .n) (c .before .before .before .args .prompt) _ (c .before .end-of-line .ensures .0) (c .if1 .taken)
+returns c =
+    let entry = c .before .before .before in
+    line-down-none catalogue entry.args.s.now entry.args.pos entry.args.n entry.args.prompt _ c.before.end-of-line.ensures.0 c.if1.taken
 
 start-of-line-requires : tie.Need-start-of-line-requires
 start-of-line-requires c κs = search needs
@@ -28,10 +30,23 @@ part-width-end : tie.Need-part-width-end
 part-width-end c = search needs
 
 width-requires : tie.Need-width-requires
-width-requires c κs = (omega (arith, c .before .columns-before .ensures, offset-le (c .before .before .start-of-line .result) (c .before .before .before .before .before .before .args .prompt), c .before .before .before .before .before .before .pre), simp (length-take, length-drop) (omega (arith, c .before .before .before .before .before .before .pre)))
+width-requires c κs =
+    let entry = c .before .before .before .before .before .before in (
+      omega (arith, c.before.columns-before.ensures, offset-le c.before.before.start-of-line.result entry.args.prompt, entry.pre),
+      simp (length-take, length-drop) (omega (arith, entry.pre)),
+    )
 
 add-column : tie.Need-add-column
-add-column c = omega (arith, c .before .before .columns-before .ensures, offset-le (c .before .before .before .start-of-line .result) (c .before .before .before .before .before .before .before .args .prompt), c .before .before .before .before .before .before .before .pre, simp (length-take, length-drop) at (c .width .ensures .1))
+add-column c =
+    let after-start-of-line = c .before .before .before in
+    let entry = after-start-of-line .before .before .before .before in
+    omega (
+      arith,
+      c.before.before.columns-before.ensures,
+      offset-le after-start-of-line.start-of-line.result entry.args.prompt,
+      entry.pre,
+      simp (length-take, length-drop) at c.width.ensures.1,
+    )
 
 add-first : tie.Need-add-first
 add-first c = search needs
@@ -49,7 +64,18 @@ nth-cluster-requires : tie.Need-nth-cluster-requires
 nth-cluster-requires c κs = search needs
 
 returns-2 : tie.Need-returns-2
-returns-2 c = line-down-some catalogue (c .before .before .before .before .before .before .before .before .before .before .before .args .s .now) (c .before .before .before .before .before .before .before .before .before .before .before .args .pos) (c .before .before .before .before .before .before .before .before .before .before .before .args .n) (c .before .before .before .before .before .before .before .before .before .before .before .args .prompt) _ (c .before .before .before .before .before .before .before .before .before .end-of-line .ensures .0) _ _ _ _ _ _ _ (c .before .before .before .before .before .before .before .before .if1 .left) (c .before .before .before .before .before .before .before .start-of-line .ensures .0) (c .before .before .before .before .before .before .columns-before .ensures) (c .before .before .before .before .width .ensures .0) (c .before .before .before .less-one .ensures) (c .before .before .end-of-line2 .ensures .0) (c .before .line-below .ensures .0) (c .nth-cluster .ensures)
+returns-2 c =
+    let after-less-one = c .before .before .before in
+    let after-width = after-less-one.before in
+    let after-columns-before = after-width.before.before in
+    let after-start-of-line = after-columns-before.before in
+    let else1 = after-start-of-line.before in
+    let after-end-of-line = else1.before in
+    let entry = after-end-of-line.before.before in
+    line-down-some catalogue entry.args.s.now entry.args.pos entry.args.n entry.args.prompt _ after-end-of-line.end-of-line.ensures.0 _ _ _
+    _ _ _ _ else1.if1.left after-start-of-line.start-of-line.ensures.0 after-columns-before.columns-before.ensures
+    after-width.width.ensures.0 after-less-one.less-one.ensures c.before.before.end-of-line2.ensures.0 c.before.line-below.ensures.0
+    c.nth-cluster.ensures
 
 pub line-down-spec : {M : Type 1} → statement M
 line-down-spec =

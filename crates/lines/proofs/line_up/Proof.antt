@@ -8,7 +8,9 @@ start-of-line-requires : tie.Need-start-of-line-requires
 start-of-line-requires c κs = search needs
 
 returns : tie.Need-returns
-returns c = line-up-none catalogue (c .before .before .before .args .s .now) (c .before .before .before .args .pos) (c .before .before .before .args .n) (c .before .before .before .args .prompt) _ (c .before .start-of-line .ensures .0) (c .if1 .taken)
+returns c =
+    let entry = c .before .before .before in
+    line-up-none catalogue entry.args.s.now entry.args.pos entry.args.n entry.args.prompt _ c.before.start-of-line.ensures.0 c.if1.taken
 
 sub-width : tie.Need-sub-width
 sub-width c = search needs
@@ -44,7 +46,17 @@ nth-cluster-requires : tie.Need-nth-cluster-requires
 nth-cluster-requires c κs = search needs
 
 returns-2 : tie.Need-returns-2
-returns-2 c = line-up-some catalogue (c .before .before .before .before .before .before .before .before .before .before .before .args .s .now) (c .before .before .before .before .before .before .before .before .before .before .before .args .pos) (c .before .before .before .before .before .before .before .before .before .before .before .args .n) (c .before .before .before .before .before .before .before .before .before .before .before .args .prompt) _ (c .before .before .before .before .before .before .before .before .before .start-of-line .ensures .0) _ _ _ _ _ _ _ (c .before .before .before .before .before .before .before .before .if1 .left) (c .before .before .before .before .before .before .width .ensures .0) (c .before .before .before .before .before .less-one .ensures) (c .before .before .before .before .start-of-line2 .ensures .0) (c .before .before .before .line-above .ensures .0) (c .before .before .columns-before .ensures) (c .before .less .ensures) (c .nth-cluster .ensures)
+returns-2 c =
+    let after-line-above = c .before .before .before in
+    let after-start-of-line2 = after-line-above.before in
+    let after-less-one = after-start-of-line2.before in
+    let after-width = after-less-one.before in
+    let else1 = after-width.before.before in
+    let after-start-of-line = else1.before in
+    let entry = after-start-of-line.before.before in
+    line-up-some catalogue entry.args.s.now entry.args.pos entry.args.n entry.args.prompt _ after-start-of-line.start-of-line.ensures.0 _ _
+    _ _ _ _ _ else1.if1.left after-width.width.ensures.0 after-less-one.less-one.ensures after-start-of-line2.start-of-line2.ensures.0
+    after-line-above.line-above.ensures.0 c.before.before.columns-before.ensures c.before.less.ensures c.nth-cluster.ensures
 
 pub line-up-spec : {M : Type 1} → statement M
 line-up-spec =

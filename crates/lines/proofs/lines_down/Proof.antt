@@ -21,7 +21,16 @@ end-of-line-requires : tie.Need-end-of-line-requires Inv-loop μ-loop
 end-of-line-requires c κs = search needs
 
 returns : tie.Need-returns Inv-loop μ-loop
-returns c = (sym (c .before .before .before .loop .inv .2 ∙ down-last (c .before .before .before .before .before .args .s .now) (c .before .before .before .loop .left) (c .before .before .before .loop .end) _ (c .before .before .loop-test .taken) (c .before .end-of-line .ensures .0) (c .if1 .taken)), omega arith, omega arith)
+returns c =
+    let at-loop = c .before .before .before in
+    let entry = at-loop.before.before in (
+      sym
+          (at-loop.loop.inv.2
+          ∙ down-last entry.args.s.now at-loop.loop.left at-loop.loop.end _ c.before.before.loop-test.taken c.before.end-of-line.ensures.0
+          c.if1.taken),
+      omega arith,
+      omega arith,
+    )
 
 add-end : tie.Need-add-end Inv-loop μ-loop
 add-end c = search needs
@@ -33,10 +42,23 @@ loop-less : tie.Need-loop-less Inv-loop μ-loop
 loop-less c = search needs
 
 loop-again : tie.Need-loop-again Inv-loop μ-loop
-loop-again c = (omega (arith, c .before .before .before .loop .inv .0, c .before .end-of-line .ensures .1), omega (arith, c .if1 .left), c .before .before .before .loop .inv .2 ∙ down-on (c .before .before .before .before .before .args .s .now) (c .before .before .before .loop .left) (c .before .before .before .loop .end) _ (c .before .before .loop-test .taken) (c .before .end-of-line .ensures .0) (c .if1 .left))
+loop-again c =
+    let at-loop = c .before .before .before in
+    let entry = at-loop.before.before in (
+      omega (arith, at-loop.loop.inv.0, c.before.end-of-line.ensures.1),
+      omega (arith, c.if1.left),
+      at-loop.loop.inv.2
+          ∙ down-on entry.args.s.now at-loop.loop.left at-loop.loop.end _ c.before.before.loop-test.taken c.before.end-of-line.ensures.0
+          c.if1.left,
+    )
 
 returns-2 : tie.Need-returns-2 Inv-loop μ-loop
-returns-2 c = (sym (c .before .loop .inv .2 ∙ down-none (c .before .before .before .args .s .now) (c .before .loop .left) (c .before .loop .end) (c .loop-test .left)), c .before .loop .inv .0, c .before .loop .inv .1)
+returns-2 c =
+    let entry = c .before .before .before in (
+      sym (c.before.loop.inv.2 ∙ down-none entry.args.s.now c.before.loop.left c.before.loop.end c.loop-test.left),
+      c.before.loop.inv.0,
+      c.before.loop.inv.1,
+    )
 
 pub lines-down-spec : {M : Type 1} → statement M
 lines-down-spec =

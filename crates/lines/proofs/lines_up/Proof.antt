@@ -17,7 +17,11 @@ loop-holds : tie.Need-loop-holds Inv-loop μ-loop
 loop-holds c = (omega arith, refl)
 
 returns : tie.Need-returns Inv-loop μ-loop
-returns c = (sym (c .before .before .loop .inv .1 ∙ up-first (c .before .before .before .before .args .s .now) (c .before .before .loop .left) (c .before .before .loop .start) (c .if1 .taken)), omega arith)
+returns c =
+    let entry = c .before .before .before .before in (
+      sym (c.before.before.loop.inv.1 ∙ up-first entry.args.s.now c.before.before.loop.left c.before.before.loop.start c.if1.taken),
+      omega arith,
+    )
 
 sub-start-of-line : tie.Need-sub-start-of-line Inv-loop μ-loop
 sub-start-of-line c = search needs
@@ -32,10 +36,19 @@ loop-less : tie.Need-loop-less Inv-loop μ-loop
 loop-less c = search needs
 
 loop-again : tie.Need-loop-again Inv-loop μ-loop
-loop-again c = (omega (arith, c .before .before .before .loop .inv .0, c .start-of-line .ensures .1), c .before .before .before .loop .inv .1 ∙ up-on (c .before .before .before .before .before .args .s .now) (c .before .before .before .loop .left) (c .before .before .before .loop .start) _ (c .before .before .loop-test .taken) (c .before .if1 .left) (c .start-of-line .ensures .0))
+loop-again c =
+    let at-loop = c .before .before .before in
+    let entry = at-loop.before.before in (
+      omega (arith, at-loop.loop.inv.0, c.start-of-line.ensures.1),
+      at-loop.loop.inv.1
+          ∙ up-on entry.args.s.now at-loop.loop.left at-loop.loop.start _ c.before.before.loop-test.taken c.before.if1.left
+          c.start-of-line.ensures.0,
+    )
 
 returns-2 : tie.Need-returns-2 Inv-loop μ-loop
-returns-2 c = (sym (c .before .loop .inv .1 ∙ up-none (c .before .before .before .args .s .now) (c .before .loop .left) (c .before .loop .start) (c .loop-test .left)), c .before .loop .inv .0)
+returns-2 c =
+    let entry = c .before .before .before in
+    (sym (c.before.loop.inv.1 ∙ up-none entry.args.s.now c.before.loop.left c.before.loop.start c.loop-test.left), c.before.loop.inv.0)
 
 pub lines-up-spec : {M : Type 1} → statement M
 lines-up-spec =

@@ -7,7 +7,9 @@ start-of-line-requires : tie.Need-start-of-line-requires
 start-of-line-requires c κs = search needs
 
 returns : tie.Need-returns
-returns c = ups-none (c .before .before .before .args .s .now) (c .before .before .before .args .pos) (c .before .before .before .args .n) _ (c .before .start-of-line .ensures .0) (c .if1 .taken)
+returns c =
+    let entry = c .before .before .before in
+    ups-none entry.args.s.now entry.args.pos entry.args.n _ c.before.start-of-line.ensures.0 c.if1.taken
 
 lines-up-requires : tie.Need-lines-up-requires
 lines-up-requires c κs = search needs
@@ -16,7 +18,11 @@ behind-line-requires : tie.Need-behind-line-requires
 behind-line-requires c κs = search needs
 
 returns-2 : tie.Need-returns-2
-returns-2 c = ups-some (c .before .before .before .before .before .args .s .now) (c .before .before .before .before .before .args .pos) (c .before .before .before .before .before .args .n) _ _ _ (c .before .before .before .start-of-line .ensures .0) (c .before .before .if1 .left) (c .before .lines-up .ensures .0) (c .behind-line .ensures .0)
+returns-2 c =
+    let after-start-of-line = c .before .before .before in
+    let entry = after-start-of-line.before.before in
+    ups-some entry.args.s.now entry.args.pos entry.args.n _ _ _ after-start-of-line.start-of-line.ensures.0 c.before.before.if1.left
+    c.before.lines-up.ensures.0 c.behind-line.ensures.0
 
 pub n-lines-up-spec : {M : Type 1} → statement M
 n-lines-up-spec =

@@ -24,7 +24,15 @@ shared-slice-read-if1 : tie.Need-shared-slice-read-if1 Inv-loop μ-loop
 shared-slice-read-if1 c = search needs
 
 returns : tie.Need-returns Inv-loop μ-loop
-returns c = (sym (c .before .before .before .loop .inv .1 ∙ start-here (c .before .before .before .before .args .s .now) (c .before .before .before .loop .i) (c .before .before .loop-test .taken) (getD-any (c .before .before .before .before .args .s .now) ((c .before .before .before .loop .i) - 1) 256 0 (omega arith) ∙ c .if1 .taken)), c .before .before .before .loop .inv .0)
+returns c =
+    let at-loop = c .before .before .before in
+    let entry = at-loop.before in (
+      sym
+          (at-loop.loop.inv.1
+          ∙ start-here entry.args.s.now at-loop.loop.i c.before.before.loop-test.taken
+          (getD-any entry.args.s.now (at-loop.loop.i - 1) 256 0 (omega arith) ∙ c.if1.taken)),
+      at-loop.loop.inv.0,
+    )
 
 sub-i : tie.Need-sub-i Inv-loop μ-loop
 sub-i c = search needs
@@ -33,10 +41,18 @@ loop-less : tie.Need-loop-less Inv-loop μ-loop
 loop-less c = search needs
 
 loop-again : tie.Need-loop-again Inv-loop μ-loop
-loop-again c = (omega (arith, c .before .before .before .loop .inv .0), c .before .before .before .loop .inv .1 ∙ start-back (c .before .before .before .before .args .s .now) (c .before .before .before .loop .i) (c .before .before .loop-test .taken) (λ x. c .if1 .left (getD-any (c .before .before .before .before .args .s .now) ((c .before .before .before .loop .i) - 1) 0 256 (omega arith) ∙ x)))
+loop-again c =
+    let at-loop = c .before .before .before in
+    let entry = at-loop.before in (
+      omega (arith, at-loop.loop.inv.0),
+      at-loop.loop.inv.1
+          ∙ start-back entry.args.s.now at-loop.loop.i c.before.before.loop-test.taken
+          (λ x. c.if1.left (getD-any entry.args.s.now (at-loop.loop.i - 1) 0 256 (omega arith) ∙ x)),
+    )
 
 returns-2 : tie.Need-returns-2 Inv-loop μ-loop
-returns-2 c = (sym (c .before .loop .inv .1 ∙ start-first (c .before .before .args .s .now) (c .before .loop .i) (omega (arith, c .loop-test .left))), omega arith)
+returns-2 c =
+    (sym (c.before.loop.inv.1 ∙ start-first c.before.before.args.s.now c.before.loop.i (omega (arith, c.loop-test.left))), omega arith)
 
 pub start-of-line-spec : {M : Type 1} → statement M
 start-of-line-spec =
