@@ -19,8 +19,10 @@ pub extern "C" fn tlf_ring_new(ring: &mut Ring, size: usize) -> u32
 
 #[no_mangle]
 pub extern "C" fn tlf_ring_reset(slots: &[u8], lens: &[u8], ring: &mut Ring) -> RingAnswer
-    ensures { λ r. ⌜ (r ≡ rings.leftOf (now (ring .entry)) (rings.resetCall catalogue (rings.lent (now (slots .entry)) (now (lens .entry)) (now (ring .entry)))) .answer)
-        × (now (ring .exit) ≡ rings.leftOf (now (ring .entry)) (rings.resetCall catalogue (rings.lent (now (slots .entry)) (now (lens .entry)) (now (ring .entry)))) .ring) ⌝ }
+    ensures { λ r. ⌜ (r ≡ rings.leftOf (now (ring .entry))
+        (rings.resetCall catalogue (rings.lent (now (slots .entry)) (now (lens .entry)) (now (ring .entry)))) .answer)
+        × (now (ring .exit) ≡ rings.leftOf (now (ring .entry))
+        (rings.resetCall catalogue (rings.lent (now (slots .entry)) (now (lens .entry)) (now (ring .entry)))) .ring) ⌝ }
 {
     let a = kill_ring::reset(slots, lens, *ring);
     *ring = a.ring;
@@ -35,8 +37,10 @@ pub extern "C" fn tlf_ring_kill(
     text: &[u8],
     mode: u32,
 ) -> RingAnswer
-    ensures { λ r. ⌜ (r ≡ rings.leftOf (now (ring .entry)) (rings.killCall catalogue (rings.lent (now (slots .entry)) (now (lens .entry)) (now (ring .entry))) (now (text .entry)) mode) .answer)
-        × (now (ring .exit) ≡ rings.leftOf (now (ring .entry)) (rings.killCall catalogue (rings.lent (now (slots .entry)) (now (lens .entry)) (now (ring .entry))) (now (text .entry)) mode) .ring)
+    ensures { λ r. ⌜ (r ≡ rings.leftOf (now (ring .entry))
+        (rings.killCall catalogue (rings.lent (now (slots .entry)) (now (lens .entry)) (now (ring .entry))) (now (text .entry)) mode) .answer)
+        × (now (ring .exit) ≡ rings.leftOf (now (ring .entry))
+        (rings.killCall catalogue (rings.lent (now (slots .entry)) (now (lens .entry)) (now (ring .entry))) (now (text .entry)) mode) .ring)
         × rings.Bytes (rings.lent (now (slots .entry)) (now (lens .entry)) (now (ring .entry)))
         (rings.killCall catalogue (rings.lent (now (slots .entry)) (now (lens .entry)) (now (ring .entry))) (now (text .entry)) mode)
         (now (slots .exit)) (now (lens .exit)) ⌝ }
@@ -48,8 +52,10 @@ pub extern "C" fn tlf_ring_kill(
 
 #[no_mangle]
 pub extern "C" fn tlf_ring_yank(slots: &[u8], lens: &[u8], ring: &mut Ring) -> RingAnswer
-    ensures { λ r. ⌜ (r ≡ rings.leftOf (now (ring .entry)) (rings.yankCall catalogue (rings.lent (now (slots .entry)) (now (lens .entry)) (now (ring .entry)))) .answer)
-        × (now (ring .exit) ≡ rings.leftOf (now (ring .entry)) (rings.yankCall catalogue (rings.lent (now (slots .entry)) (now (lens .entry)) (now (ring .entry)))) .ring) ⌝ }
+    ensures { λ r. ⌜ (r ≡ rings.leftOf (now (ring .entry))
+        (rings.yankCall catalogue (rings.lent (now (slots .entry)) (now (lens .entry)) (now (ring .entry)))) .answer)
+        × (now (ring .exit) ≡ rings.leftOf (now (ring .entry))
+        (rings.yankCall catalogue (rings.lent (now (slots .entry)) (now (lens .entry)) (now (ring .entry)))) .ring) ⌝ }
 {
     let a = kill_ring::yank(slots, lens, *ring);
     *ring = a.ring;
@@ -58,8 +64,10 @@ pub extern "C" fn tlf_ring_yank(slots: &[u8], lens: &[u8], ring: &mut Ring) -> R
 
 #[no_mangle]
 pub extern "C" fn tlf_ring_yank_pop(slots: &[u8], lens: &[u8], ring: &mut Ring) -> RingAnswer
-    ensures { λ r. ⌜ (r ≡ rings.leftOf (now (ring .entry)) (rings.yankPopCall catalogue (rings.lent (now (slots .entry)) (now (lens .entry)) (now (ring .entry)))) .answer)
-        × (now (ring .exit) ≡ rings.leftOf (now (ring .entry)) (rings.yankPopCall catalogue (rings.lent (now (slots .entry)) (now (lens .entry)) (now (ring .entry)))) .ring) ⌝ }
+    ensures { λ r. ⌜ (r ≡ rings.leftOf (now (ring .entry))
+        (rings.yankPopCall catalogue (rings.lent (now (slots .entry)) (now (lens .entry)) (now (ring .entry)))) .answer)
+        × (now (ring .exit) ≡ rings.leftOf (now (ring .entry))
+        (rings.yankPopCall catalogue (rings.lent (now (slots .entry)) (now (lens .entry)) (now (ring .entry)))) .ring) ⌝ }
 {
     let a = kill_ring::yank_pop(slots, lens, *ring);
     *ring = a.ring;

@@ -1,4 +1,5 @@
--- `ring_entries::tlf_ring_reset` meets its contract: it is the thin function over `kill_ring::reset`, of which the proof knows that it meets its own. Assumes nothing.
+-- `ring_entries::tlf_ring_reset` meets its contract: it is the thin function over `kill_ring::reset`, of which the proof knows that it
+-- meets its own. Assumes nothing.
 use contract.Running.{givenOf, tables, tablesOf}
 use denote.Triple.Spec.{tripleOf}
 use denote.Triple.Table.{entered, cited}
@@ -18,6 +19,9 @@ pub tlf-ring-reset-spec : {M : Type 1} → stated.statement M
 unfolding code.routine tablesOf
 tlf-ring-reset-spec 𝓤 H 𝓜 𝓖 𝓡 =
     entered 𝓤 H (tripleOf 𝓤 H (𝓖 .A) f.signature (f.spec 𝓤 H (𝓖 .A) (𝓜 .mem) (𝓡 .run)))
-    (tables 𝓤 H 𝓜 𝓡 code.env .C) (tables 𝓤 H 𝓜 𝓡 code.env .Λ) #ring-entries·tlf-ring-reset code.function (code.unfolded 𝓤 H 𝓜 𝓡)
-    (thin-meets 𝓤 H (𝓖 .A) (givenOf 𝓤 H 𝓜 𝓖) (resetCall catalogue) #kill-ring·reset (tablesOf 𝓤 H 𝓜 (tables 𝓤 H 𝓜 𝓡 code.env))
-    (cited 𝓤 H (tripleOf 𝓤 H (𝓖 .A) core.signature (core.spec 𝓤 H (𝓖 .A) (𝓜 .mem) (𝓡 .run))) 𝓜 𝓡 code.env #kill-ring·reset core-def.routine code.calls-kill-ring·reset (core-thm.met 𝓤 H 𝓜 𝓖 𝓡)))
+    (tables 𝓤 H 𝓜 𝓡 code.env .C) (tables 𝓤 H 𝓜 𝓡 code.env .Λ) #ring-entries·tlf-ring-reset code.function
+    (code.unfolded 𝓤 H 𝓜 𝓡)
+    (thin-meets 𝓤 H (𝓖 .A) (givenOf 𝓤 H 𝓜 𝓖) (resetCall catalogue) #kill-ring·reset
+    (tablesOf 𝓤 H 𝓜 (tables 𝓤 H 𝓜 𝓡 code.env))
+    (cited 𝓤 H (tripleOf 𝓤 H (𝓖 .A) core.signature (core.spec 𝓤 H (𝓖 .A) (𝓜 .mem) (𝓡 .run))) 𝓜 𝓡 code.env
+    #kill-ring·reset core-def.routine code.calls-kill-ring·reset (core-thm.met 𝓤 H 𝓜 𝓖 𝓡)))
