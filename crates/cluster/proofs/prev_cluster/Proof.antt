@@ -3,6 +3,7 @@ use mathlib.Core.Path.{_≡_, sym, ap, _∙_}
 use native.Mathlib.Omega.{arith}
 use borrow.Author.Tests.{not-true, not-false}
 use Rattle.utf8.specs.Answer.{asFirst}
+use Rattle.utf8.specs.Chars.{EndsAt}
 use Rattle.utf8.proofs.Boundary.{boundary-end}
 use Rattle.unicode.specs.Repertoire.{catalogue}
 use Rattle.utf8.proofs.Ends.{ends-before, ends-never, ends-char}
@@ -74,16 +75,20 @@ enum-known-e c = search needs
 enum-told-2 : tie.Need-enum-told-2 Inv-loop μ-loop
 enum-told-2 c = search needs
 
+abbrev entry-of : tie.At-loop Inv-loop μ-loop → tie.Start Inv-loop μ-loop
+entry-of c = c .before .before .before .before .before .before .before .before .before
+
+-- the character that prev_char finds ends where the loop stands
+ended : (c : tie.After-prev-char2 Inv-loop μ-loop) →
+    EndsAt (entry-of c.before.before .args .s .now) c.before.before.loop.j c.prev-char2.result
+ended c =
+    let at-loop = c.before.before in
+    ends-before _ _ _ (entry-of at-loop .pre) at-loop.loop.inv.start c.before.loop-test.taken (omega (arith, at-loop.loop.inv.sized))
+    c.prev-char2.ensures
+
 returns-3 : tie.Need-returns-3 Inv-loop μ-loop
 returns-3 c =
-    let after-prev-char2 = c .before .before .before in
-    let in-loop = after-prev-char2.before in
-    let at-loop = in-loop.before in
-    let entry = at-loop .before .before .before .before .before .before .before .before .before in
-    ends-never _ _ _ _
-    (ends-before entry.args.s.now at-loop.loop.j _ entry.pre at-loop.loop.inv.start in-loop.loop-test.taken
-    (omega (arith, at-loop.loop.inv.sized)) after-prev-char2.prev-char2.ensures)
-    (sym c.before.before.decode-at2.ensures ∙ ap asFirst c.enum-told2.given.1)
+    ends-never _ _ _ _ (ended c.before.before.before) (sym c.before.before.decode-at2.ensures ∙ ap asFirst c.enum-told2.given.1)
 
 joins-requires : tie.Need-joins-requires Inv-loop μ-loop
 joins-requires c κs = search needs
@@ -93,13 +98,10 @@ returns-4 c =
     let after-e = c .before .before .before in
     let after-decode-at2 = after-e.before.before in
     let after-prev-char2 = after-decode-at2.before in
-    let in-loop = after-prev-char2.before in
-    let at-loop = in-loop.before in
-    let entry = at-loop .before .before .before .before .before .before .before .before .before in (
+    let at-loop = after-prev-char2.before.before in
+    let entry = entry-of at-loop in (
       back-stop catalogue entry.args.s.now _ _ _ at-loop.loop.inv _ _ _
-          (ends-before entry.args.s.now at-loop.loop.j _ entry.pre at-loop.loop.inv.start in-loop.loop-test.taken
-          (omega (arith, at-loop.loop.inv.sized)) after-prev-char2.prev-char2.ensures)
-          (sym after-decode-at2.decode-at2.ensures ∙ ap asFirst after-e.e.given.1)
+          (ended after-prev-char2) (sym after-decode-at2.decode-at2.ensures ∙ ap asFirst after-e.e.given.1)
           (sym c.before.joins.ensures ∙ not-true _ c.if2.taken),
       omega (arith, at-loop.loop.inv.sized),
     )
@@ -109,12 +111,9 @@ with-requires c κs =
     let after-e = c .before .before .before in
     let after-decode-at2 = after-e.before.before in
     let after-prev-char2 = after-decode-at2.before in
-    let in-loop = after-prev-char2.before in
-    let at-loop = in-loop.before in
-    let entry = at-loop .before .before .before .before .before .before .before .before .before in
-    let e =
-    (ends-before entry.args.s.now at-loop.loop.j _ entry.pre at-loop.loop.inv.start in-loop.loop-test.taken
-    (omega (arith, at-loop.loop.inv.sized)) after-prev-char2.prev-char2.ensures) in
+    let at-loop = after-prev-char2.before.before in
+    let entry = entry-of at-loop in
+    let e = ended after-prev-char2 in
     let m = ends-char _ _ _ _ _ e (sym after-decode-at2.decode-at2.ensures ∙ ap asFirst after-e.e.given.1) in
     let b = e.below in
     omega (arith, at-loop.loop.inv.sized)
@@ -122,24 +121,17 @@ with-requires c κs =
 loop-less : tie.Need-loop-less Inv-loop μ-loop
 loop-less c =
     let after-prev-char2 = c .before .before .before .before .before .before .before in
-    let in-loop = after-prev-char2.before in
-    let at-loop = in-loop.before in
-    let entry = at-loop .before .before .before .before .before .before .before .before .before in
-    (ends-before entry.args.s.now at-loop.loop.j _ entry.pre at-loop.loop.inv.start in-loop.loop-test.taken
-    (omega (arith, at-loop.loop.inv.sized)) after-prev-char2.prev-char2.ensures) .below
+    ended after-prev-char2 .below
 
 loop-again : tie.Need-loop-again Inv-loop μ-loop
 loop-again c =
     let after-e = c .before .before .before .before in
     let after-decode-at2 = after-e.before.before in
     let after-prev-char2 = after-decode-at2.before in
-    let in-loop = after-prev-char2.before in
-    let at-loop = in-loop.before in
-    let entry = at-loop .before .before .before .before .before .before .before .before .before in
+    let at-loop = after-prev-char2.before.before in
+    let entry = entry-of at-loop in
     back-more catalogue entry.args.s.now _ _ _ at-loop.loop.inv _ _ _
-    (ends-before entry.args.s.now at-loop.loop.j _ entry.pre at-loop.loop.inv.start in-loop.loop-test.taken
-    (omega (arith, at-loop.loop.inv.sized)) after-prev-char2.prev-char2.ensures)
-    (sym after-decode-at2.decode-at2.ensures ∙ ap asFirst after-e.e.given.1) _
+    (ended after-prev-char2) (sym after-decode-at2.decode-at2.ensures ∙ ap asFirst after-e.e.given.1) _
     (sym c.before.before.joins.ensures ∙ not-false _ c.before.if2.left) c.with.ensures
 
 returns-5 : tie.Need-returns-5 Inv-loop μ-loop

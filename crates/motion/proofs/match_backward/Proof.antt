@@ -5,7 +5,7 @@ use mathlib.Core.Bool.{true}
 use native.Mathlib.Omega.{arith}
 use lib.ListN.{length, take}
 use Rattle.utf8.specs.Answer.{asFirst}
-use Rattle.utf8.specs.Chars.{boundary}
+use Rattle.utf8.specs.Chars.{boundary, EndsAt}
 use Rattle.utf8.proofs.Ends.{ends-before, ends-never}
 use Rattle.motion.specs.Search.{lastFound, nthMatch, matchBackward}
 use Rattle.motion.specs.declared.Found.the-variants.{Nothing}
@@ -44,15 +44,18 @@ enum-known-d c = search needs
 enum-told : tie.Need-enum-told Inv-loop μ-loop
 enum-told c = search needs
 
-returns-2 : tie.Need-returns-2 Inv-loop μ-loop
-returns-2 c =
-    let after-prev-char = c .before .before .before in
-    let else1 = after-prev-char.before in
+-- the character that prev_char finds ends where the loop stands
+ended : (c : tie.After-prev-char Inv-loop μ-loop) →
+    EndsAt c.before.before.before.before.before.args.s.now c.before.before.before.loop.at c.prev-char.result
+ended c =
+    let else1 = c.before in
     let at-loop = else1.before.before in
     let entry = at-loop.before.before in
-    ends-never _ _ _ _
-    (ends-before entry.args.s.now at-loop.loop.at _ entry.pre.0 at-loop.loop.inv.1 (omega (arith, else1.if1.left)) at-loop.loop.inv.0
-    after-prev-char.prev-char.ensures) (sym c.before.before.decode-at.ensures ∙ ap asFirst c.enum-told.given.1)
+    ends-before _ _ _ entry.pre.0 at-loop.loop.inv.1 (omega (arith, else1.if1.left)) at-loop.loop.inv.0 c.prev-char.ensures
+
+returns-2 : tie.Need-returns-2 Inv-loop μ-loop
+returns-2 c =
+    ends-never _ _ _ _ (ended c.before.before.before) (sym c.before.before.decode-at.ensures ∙ ap asFirst c.enum-told.given.1)
 
 sub-left : tie.Need-sub-left Inv-loop μ-loop
 sub-left c = search needs
@@ -60,23 +63,16 @@ sub-left c = search needs
 loop-less : tie.Need-loop-less Inv-loop μ-loop
 loop-less c =
     let after-prev-char = c .before .before .before .before .before in
-    let else1 = after-prev-char.before in
-    let at-loop = else1.before.before in
-    let entry = at-loop.before.before in
-    (ends-before entry.args.s.now at-loop.loop.at _ entry.pre.0 at-loop.loop.inv.1 (omega (arith, else1.if1.left)) at-loop.loop.inv.0
-    after-prev-char.prev-char.ensures) .below
+    ended after-prev-char .below
 
 loop-again : tie.Need-loop-again Inv-loop μ-loop
 loop-again c =
     let after-decode-at = c .before .before .before .before in
     let after-prev-char = after-decode-at.before in
-    let else1 = after-prev-char.before in
-    let in-loop = else1.before in
+    let in-loop = after-prev-char.before.before in
     let at-loop = in-loop.before in
     let entry = at-loop.before.before in
-    let e =
-    (ends-before entry.args.s.now at-loop.loop.at _ entry.pre.0 at-loop.loop.inv.1 (omega (arith, else1.if1.left)) at-loop.loop.inv.0
-    after-prev-char.prev-char.ensures) in (
+    let e = ended after-prev-char in (
       omega (arith, e.below, at-loop.loop.inv.0),
       e.start,
       at-loop.loop.inv.2
@@ -88,22 +84,15 @@ loop-again c =
 loop-less-2 : tie.Need-loop-less-2 Inv-loop μ-loop
 loop-less-2 c =
     let after-prev-char = c .before .before .before .before .before in
-    let else1 = after-prev-char.before in
-    let at-loop = else1.before.before in
-    let entry = at-loop.before.before in
-    (ends-before entry.args.s.now at-loop.loop.at _ entry.pre.0 at-loop.loop.inv.1 (omega (arith, else1.if1.left)) at-loop.loop.inv.0
-    after-prev-char.prev-char.ensures) .below
+    ended after-prev-char .below
 
 loop-again-2 : tie.Need-loop-again-2 Inv-loop μ-loop
 loop-again-2 c =
     let after-decode-at = c .before .before .before .before in
     let after-prev-char = after-decode-at.before in
-    let else1 = after-prev-char.before in
-    let at-loop = else1.before.before in
+    let at-loop = after-prev-char.before.before.before in
     let entry = at-loop.before.before in
-    let e =
-    (ends-before entry.args.s.now at-loop.loop.at _ entry.pre.0 at-loop.loop.inv.1 (omega (arith, else1.if1.left)) at-loop.loop.inv.0
-    after-prev-char.prev-char.ensures) in (
+    let e = ended after-prev-char in (
       omega (arith, e.below, at-loop.loop.inv.0),
       e.start,
       at-loop.loop.inv.2

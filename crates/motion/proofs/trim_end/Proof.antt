@@ -6,7 +6,7 @@ use native.Mathlib.Omega.{arith}
 use borrow.Author.Tests.{not-true, not-false}
 use lib.ListN.{length, take}
 use Rattle.utf8.specs.Answer.{asFirst}
-use Rattle.utf8.specs.Chars.{boundary}
+use Rattle.utf8.specs.Chars.{boundary, EndsAt}
 use Rattle.utf8.proofs.Boundary.{boundary-end}
 use Rattle.utf8.proofs.Ends.{ends-before, ends-never}
 use Rattle.unicode.specs.Repertoire.{catalogue}
@@ -36,15 +36,17 @@ enum-known-d c = search needs
 enum-told : tie.Need-enum-told Inv-loop μ-loop
 enum-told c = search needs
 
+-- the character that prev_char finds ends where the loop stands
+ended : (c : tie.After-prev-char Inv-loop μ-loop) →
+    EndsAt c.before.before.before.before.args.s.now c.before.before.loop.at c.prev-char.result
+ended c =
+    let at-loop = c.before.before in
+    let entry = at-loop.before.before in
+    ends-before _ _ _ entry.pre at-loop.loop.inv.1 c.before.loop-test.taken at-loop.loop.inv.0 c.prev-char.ensures
+
 returns : tie.Need-returns Inv-loop μ-loop
 returns c =
-    let after-prev-char = c .before .before .before in
-    let in-loop = after-prev-char.before in
-    let at-loop = in-loop.before in
-    let entry = at-loop.before.before in
-    ends-never _ _ _ _
-    (ends-before entry.args.s.now at-loop.loop.at _ entry.pre at-loop.loop.inv.1 in-loop.loop-test.taken at-loop.loop.inv.0
-    after-prev-char.prev-char.ensures) (sym c.before.before.decode-at.ensures ∙ ap asFirst c.enum-told.given.1)
+    ends-never _ _ _ _ (ended c.before.before.before) (sym c.before.before.decode-at.ensures ∙ ap asFirst c.enum-told.given.1)
 
 is-white-requires : tie.Need-is-white-requires Inv-loop μ-loop
 is-white-requires c κs = search needs
@@ -54,36 +56,27 @@ returns-2 c =
     let after-d = c .before .before .before in
     let after-decode-at = after-d.before.before in
     let after-prev-char = after-decode-at.before in
-    let in-loop = after-prev-char.before in
-    let at-loop = in-loop.before in
+    let at-loop = after-prev-char.before.before in
     let entry = at-loop.before.before in
     sym
     (at-loop.loop.inv.2
     ∙ trim-stop catalogue entry.args.s.now at-loop.loop.at _ _ _ at-loop.loop.inv.1 at-loop.loop.inv.0
-    (ends-before entry.args.s.now at-loop.loop.at _ entry.pre at-loop.loop.inv.1 in-loop.loop-test.taken at-loop.loop.inv.0
-    after-prev-char.prev-char.ensures) (sym after-decode-at.decode-at.ensures ∙ ap asFirst after-d.d.given.1)
+    (ended after-prev-char) (sym after-decode-at.decode-at.ensures ∙ ap asFirst after-d.d.given.1)
     (sym c.before.is-white.ensures ∙ not-true _ c.if1.taken))
 
 loop-less : tie.Need-loop-less Inv-loop μ-loop
 loop-less c =
     let after-prev-char = c .before .before .before .before .before .before in
-    let in-loop = after-prev-char.before in
-    let at-loop = in-loop.before in
-    let entry = at-loop.before.before in
-    (ends-before entry.args.s.now at-loop.loop.at _ entry.pre at-loop.loop.inv.1 in-loop.loop-test.taken at-loop.loop.inv.0
-    after-prev-char.prev-char.ensures) .below
+    ended after-prev-char .below
 
 loop-again : tie.Need-loop-again Inv-loop μ-loop
 loop-again c =
     let after-d = c .before .before .before in
     let after-decode-at = after-d.before.before in
     let after-prev-char = after-decode-at.before in
-    let in-loop = after-prev-char.before in
-    let at-loop = in-loop.before in
+    let at-loop = after-prev-char.before.before in
     let entry = at-loop.before.before in
-    let e =
-    (ends-before entry.args.s.now at-loop.loop.at _ entry.pre at-loop.loop.inv.1 in-loop.loop-test.taken at-loop.loop.inv.0
-    after-prev-char.prev-char.ensures) in (
+    let e = ended after-prev-char in (
       omega (arith, e.below, at-loop.loop.inv.0),
       e.start,
       at-loop.loop.inv.2

@@ -22,7 +22,7 @@ is-plain-requires c κs = search needs
 returns-2 : tie.Need-returns-2
 returns-2 c =
     let else1 = c .before .before .before in
-    let a = c .before .before .before .before .before .args in
+    let a = else1.before.before.args in
     sym
     (one-at catalogue plain plain-one a.s.now a.at
     (ap plain (getD-any a.s.now a.at 256 0 else1.if1.left) ∙ sym c.before.is-plain.ensures ∙ c.if2.taken))

@@ -35,7 +35,7 @@ two-bytes-requires c κs = search needs
 returns-4 : tie.Need-returns-4
 returns-4 c =
     let after-char-len = c .before .before .before in
-    let a = c .before .before .before .before .before .args in
+    let a = after-char-len.before.before.args in
     let r = lead-2 a.a (omega arith) (sym after-char-len.char-len.ensures ∙ c.before.if4.taken) in
     c.two-bytes.ensures ∙ sym (first-two a.a a.b a.c a.d r.0 r.1)
 
@@ -45,7 +45,7 @@ three-bytes-requires c κs = search needs
 returns-5 : tie.Need-returns-5
 returns-5 c =
     let after-char-len = c .before .before .before .before in
-    let a = c .before .before .before .before .before .before .args in
+    let a = after-char-len.before.before.args in
     let r = lead-3 a.a (omega arith) (sym after-char-len.char-len.ensures ∙ c.before.if5.taken) in
     c.three-bytes.ensures ∙ sym (first-three a.a a.b a.c a.d r.0 r.1)
 
@@ -55,8 +55,8 @@ four-bytes-requires c κs = search needs
 returns-6 : tie.Need-returns-6
 returns-6 c =
     let else2 = c .before .before .before in
-    let a = c .before .before .before .before .before .before .args in
-    let e = c .before .before .before .before .char-len .ensures in
+    let a = else2 .before .before .before .args in
+    let e = else2.before.char-len.ensures in
     let r = lead-rest a.a (omega arith) (λ p. else2.if2.left (e ∙ p)) (λ p. c.before.before.if4.left (e ∙ p))
     (λ p. c.before.if5.left (e ∙ p)) in
     c.four-bytes.ensures ∙ sym (first-four a.a a.b a.c a.d r)

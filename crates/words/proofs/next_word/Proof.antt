@@ -121,18 +121,16 @@ lands-on-requires c κs = search needs
 inner-less : tie.Need-inner-less Inv-inner μ-inner Inv-outer μ-outer
 inner-less c =
     let after-next-cluster2 = c .before .before .before in
-    let a = c .before .before .before .before .before .before .before .before .before .before .before .before .before .before .before
-    .args in
-    let i = c .before .before .before .before .before .inner in
+    let a = after-next-cluster2 .before .before .before .before .before .before .before .before .before .before .before .before .args in
+    let i = after-next-cluster2.before.before.inner in
     omega (arith, (told catalogue a.t.now i.next _ i.inv.0 after-next-cluster2.next-cluster2.ensures) .fits, c.before.before.if3.left)
 
 inner-again : tie.Need-inner-again Inv-inner μ-inner Inv-outer μ-outer
 inner-again c =
     let after-next-cluster2 = c .before .before .before in
     let at-outer = after-next-cluster2 .before .before .before .before .before .before .before .before in
-    let a = c .before .before .before .before .before .before .before .before .before .before .before .before .before .before .before
-    .args in
-    let i = c .before .before .before .before .before .inner in
+    let a = at-outer .before .before .before .before .args in
+    let i = after-next-cluster2.before.before.inner in
     let y = told catalogue a.t.now i.next _ i.inv.0 after-next-cluster2.next-cluster2.ensures in (
       y.fits,
       i.inv.1,
@@ -154,9 +152,8 @@ outer-again c =
     let else3 = c .before .before .before in
     let after-next-cluster2 = else3.before in
     let at-outer = after-next-cluster2 .before .before .before .before .before .before .before .before in
-    let a = c .before .before .before .before .before .before .before .before .before .before .before .before .before .before
-    .before .before .args in
-    let i = c .before .before .before .before .before .before .inner in
+    let a = at-outer .before .before .before .before .args in
+    let i = after-next-cluster2.before.before.inner in
     let y = told catalogue a.t.now i.next _ i.inv.0 after-next-cluster2.next-cluster2.ensures in (
       y.fits,
       i.inv.3,
@@ -183,7 +180,7 @@ returns-2 c =
 returns-3 : tie.Need-returns-3 Inv-inner μ-inner Inv-outer μ-outer
 returns-3 c =
     let at-outer = c .before .before .before .before .before .before .before .before .before in
-    let a = c .before .before .before .before .before .before .before .before .before .before .before .before .before .args in
+    let a = at-outer .before .before .before .before .args in
     let i = c .before .before .before .inner in
     let y = told catalogue a.t.now i.next _ i.inv.0 c.before.next-cluster2.ensures in
     sym

@@ -89,8 +89,8 @@ is-start-of-word-requires c κs = search needs
 inner-less : tie.Need-inner-less Inv-inner μ-inner Inv-outer μ-outer
 inner-less c =
     let after-prev-cluster2 = c .before .before .before in
-    let a = c .before .before .before .before .before .before .before .before .before .before .before .before .args in
-    let i = c .before .before .before .before .before .inner in
+    let a = after-prev-cluster2 .before .before .before .before .before .before .before .before .before .args in
+    let i = after-prev-cluster2.before.before.inner in
     omega (
       arith,
       (back-step catalogue a.t.now i.rest _ i.inv.0 i.inv.1 after-prev-cluster2.prev-cluster2.ensures.0 c.before.before.if2.left) .fits,
@@ -101,8 +101,8 @@ inner-again : tie.Need-inner-again Inv-inner μ-inner Inv-outer μ-outer
 inner-again c =
     let after-prev-cluster2 = c .before .before .before in
     let at-outer = after-prev-cluster2 .before .before .before .before .before .before .before in
-    let a = c .before .before .before .before .before .before .before .before .before .before .before .before .args in
-    let i = c .before .before .before .before .before .inner in
+    let a = at-outer.before.before.args in
+    let i = after-prev-cluster2.before.before.inner in
     let s = back-step catalogue a.t.now i.rest _ i.inv.0 i.inv.1 after-prev-cluster2.prev-cluster2.ensures.0 c.before.before.if2.left in (
       omega arith,
       s.edge,
@@ -124,8 +124,8 @@ outer-again : tie.Need-outer-again Inv-inner μ-inner Inv-outer μ-outer
 outer-again c =
     let after-prev-cluster2 = c .before .before .before in
     let at-outer = after-prev-cluster2 .before .before .before .before .before .before .before in
-    let a = c .before .before .before .before .before .before .before .before .before .before .before .before .args in
-    let i = c .before .before .before .before .before .inner in
+    let a = at-outer.before.before.args in
+    let i = after-prev-cluster2.before.before.inner in
     let s = back-step catalogue a.t.now i.rest _ i.inv.0 i.inv.1 after-prev-cluster2.prev-cluster2.ensures.0 c.before.before.if2.left in (
       omega arith,
       s.edge,
@@ -156,7 +156,7 @@ returns-2 c =
 returns-3 : tie.Need-returns-3 Inv-inner μ-inner Inv-outer μ-outer
 returns-3 c =
     let at-outer = c .before .before .before .before .before .before .before .before in
-    let a = c .before .before .before .before .before .before .before .before .before .before .args in
+    let a = at-outer.before.before.args in
     let i = c .before .before .before .inner in
     i.inv.3
     ∙ sym
