@@ -1,14 +1,14 @@
 -- The check of a list at a record, by the tests of the code. Assumes nothing.
 use Prim.Native.Nat.{ℕ, _+_, _≤_, _<_}
 use native.Mathlib.Omega.{arith}
-use mathlib.Core.Path.{_≡_, refl, sym, ap, _∙_}
+use mathlib.Core.Path.{_≡_, refl, sym, ap, subst, _∙_}
 use mathlib.Core.List.{List}
-use mathlib.Core.Bool.{Bool, true, false, not, _&&_, and-true}
+use mathlib.Core.Bool.{Bool, true, false, not, _&&_, _||_, and-true}
 use lib.Dec.{leb, eqb}
 use lib.ListN.{length, getD, take, drop, take-append-drop}
 use lib.Seq.{drop-drop, getD-drop}
-use borrow.Author.Tests.{leb-true, le-leb, lt-leb}
-use Rattle.lists.proofs.Bools.{and-both, never}
+use borrow.Author.Tests.{leb-true, le-leb, lt-leb, eqb-true}
+use Rattle.lists.proofs.Bools.{and-both, by-test, never}
 use Rattle.utf8.specs.Utf8.{tail}
 use Rattle.utf8.specs.Chars.{noTail}
 use Rattle.unicode.specs.Repertoire.{Repertoire}
@@ -24,26 +24,23 @@ use Rattle.records.specs.declared.Newest.{Newest}
 use Rattle.records.specs.Records.{recordBy, IsWhole, recordAt}
 use Rattle.records.specs.Check.{isTextAt, areTextsAt}
 use Rattle.records.specs.Walks.{passing, NewestAt}
-use Rattle.records.proofs.Records.{by-begin, by-end, by-insert, by-delete, by-replace, is-whole, some-kind, size-is, texts-size-is, whole-by}
+use Rattle.records.proofs.Records.{by-begin, by-end, by-insert, by-delete, by-replace, is-whole, some-kind, size-is, texts-size-is, no-texts-of, whole-by}
 use Rattle.records.proofs.Walks.{NewestOf, newest, newest-none, pass-count, newest-on}
 
 -- ---- n bytes at t
 module _ (R : Repertoire) (ts : List ℕ) (t n : ℕ) where
-  pub none-at : n ≡ 0 → t ≤ length ts → true ≡ isTextAt R ts t n
+  none-at : n ≡ 0 → t ≤ length ts → true ≡ isTextAt R ts t n
   none-at e h = rw e (sym (rw (le-leb (t + 0) (length ts) (omega arith), text-nil R)))
-
-  pub no-room : length ts < t + n → false ≡ isTextAt R ts t n
-  no-room h = sym (rw (lt-leb (t + n) (length ts) h))
 
   module _ (text : isText R (drop t ts) ≡ true) where
     -- of a text, by the byte behind them
-    pub by-end-of : (r : Bool) → t + n ≤ length ts → r ≡ noTail ts (t + n) → r ≡ isTextAt R ts t n
+    by-end-of : (r : Bool) → t + n ≤ length ts → r ≡ noTail ts (t + n) → r ≡ isTextAt R ts t n
     by-end-of r h e =
         let f = text-front R (drop t ts) n text ∙ ap (λ (b : ℕ). not (tail b)) (getD-drop t ts n 256) in
         sym (rw (le-leb (t + n) (length ts) h) (f ∙ sym e))
 
     -- what stands behind them is a text too
-    pub text-behind : isTextAt R ts t n ≡ true → (t + n ≤ length ts) × (isText R (drop (t + n) ts) ≡ true)
+    text-behind : isTextAt R ts t n ≡ true → (t + n ≤ length ts) × (isText R (drop (t + n) ts) ≡ true)
     text-behind e =
         let b = and-both (leb (t + n) (length ts)) (isText R (take n (drop t ts))) e in (
           leb-true _ _ (b .0),
@@ -52,10 +49,10 @@ module _ (R : Repertoire) (ts : List ℕ) (t n : ℕ) where
 
 -- ---- o bytes at t, and n bytes behind them
 module _ (R : Repertoire) (ts : List ℕ) (t o n : ℕ) where
-  pub first-bad : isTextAt R ts t o ≡ false → false ≡ areTextsAt R ts t o n
+  first-bad : isTextAt R ts t o ≡ false → false ≡ areTextsAt R ts t o n
   first-bad e = sym (rw e)
 
-  pub second-says : (r : Bool) → isTextAt R ts t o ≡ true → r ≡ isTextAt R ts (t + o) n → r ≡ areTextsAt R ts t o n
+  second-says : (r : Bool) → isTextAt R ts t o ≡ true → r ≡ isTextAt R ts (t + o) n → r ≡ areTextsAt R ts t o n
   second-says r e f = f ∙ sym (rw e)
 
   -- they are texts
@@ -73,6 +70,47 @@ module _ (R : Repertoire) (ts : List ℕ) (t o n : ℕ) where
       let x = and-both (leb (t + o) (length ts)) (isText R (take o (drop t ts))) (b .0) in
       let y = and-both (leb (t + o + n) (length ts)) (isText R (take n (drop (t + o) ts))) (b .1) in
       (omega (arith, leb-true (t + o + n) (length ts) (y .0)), rw (x .1, y .1))
+
+-- ---- the same, of a text from t on, by the bytes behind them
+module _ (R : Repertoire) (ts : List ℕ) (t o n : ℕ) (text : isText R (drop t ts) ≡ true) where
+  pub no-room-at : length ts < t + (o + n) → false ≡ areTextsAt R ts t o n
+  no-room-at h = by-test _ (areTextsAt R ts t o n) (λ e. absurd (omega (arith, at-texts R ts t o n e .0))) sym
+
+  module _ (room : t + (o + n) ≤ length ts) where
+    first-is : noTail ts (t + o) ≡ isTextAt R ts t o
+    first-is = by-end-of R ts t o text (noTail ts (t + o)) (omega arith) refl
+
+    second-is : isTextAt R ts t o ≡ true → noTail ts (t + (o + n)) ≡ isTextAt R ts (t + o) n
+    second-is e =
+        let z : t + (o + n) ≡ t + o + n = omega arith in
+        by-end-of R ts (t + o) n (text-behind R ts t o text e .1) (noTail ts (t + (o + n))) (omega arith) (ap (noTail ts) z)
+
+    -- they end inside a character
+    pub bad-end : noTail ts (t + (o + n)) ≡ false → false ≡ areTextsAt R ts t o n
+    bad-end z = by-test _ (isTextAt R ts t o) (λ e. second-says R ts t o n false e (sym z ∙ second-is e)) (first-bad R ts t o n)
+
+    -- they end between two: the first says
+    good-end : noTail ts (t + (o + n)) ≡ true → (r : Bool) → r ≡ isTextAt R ts t o → r ≡ areTextsAt R ts t o n
+    good-end z r f = by-test _ (isTextAt R ts t o) (λ e. second-says R ts t o n r e (f ∙ e ∙ sym z ∙ second-is e)) (λ e. f ∙ e ∙ first-bad R ts t o n e)
+
+    pub middle-says : noTail ts (t + (o + n)) ≡ true → (r : Bool) → r ≡ noTail ts (t + o) → r ≡ areTextsAt R ts t o n
+    middle-says z r f = good-end z r (f ∙ first-is)
+
+    -- one is empty
+    pub one-at : noTail ts (t + (o + n)) ≡ true → (eqb o 0 || eqb n 0) ≡ true → true ≡ areTextsAt R ts t o n
+    one-at z g =
+        by-test _ (eqb o 0)
+        (λ e. good-end z true (none-at R ts t o (eqb-true o 0 e) (omega arith)))
+        (λ e.
+        let m : n ≡ 0 = eqb-true n 0 (rw e at g) in
+        let w : t + (o + n) ≡ t + o = omega arith in
+        middle-says z true (sym z ∙ ap (noTail ts) w))
+
+-- both are empty
+none-both : (R : Repertoire) (ts : List ℕ) (t o n : ℕ) → o ≡ 0 → n ≡ 0 → t ≤ length ts → true ≡ areTextsAt R ts t o n
+none-both R ts t o n e f h =
+    let a = none-at R ts t o e h in
+    second-says R ts t o n true (sym a) (none-at R ts (t + o) n f (omega arith))
 
 -- one of them is empty, or both
 module _ (R : Repertoire) (ts : List ℕ) (t : ℕ) where
@@ -174,6 +212,14 @@ module _ (R : Repertoire) (F : Format) (rs ts : List ℕ) where
           begins = omega (arith, c .0, c .1, a, b);
           newest = newest-on R F rs at r h e (whole-by F rs at r e k) n m g (l .newest);
         }
+
+    -- a Begin or an End is passed: it has no texts
+    pub looks-bare : (r : Record) → r ≡ recordAt F rs at → at < length rs → (r .kind ≡ 0 → ⊥) → r .kind ≤ 2 → (m : Newest) → m ≡ passing (r .kind) at (at + r .size) n
+        → Looks R F rs ts m (at + r .size) t
+    looks-bare r e h k b m g =
+        let w = no-texts-of F rs at r e (whole-by F rs at r e k) b in
+        let z : t + (r .old + r .new) ≡ t = omega (arith, w) in
+        subst (Looks R F rs ts m (at + r .size)) z (looks-on r e h k (sym (none-both R ts t (r .old) (r .new) (w .0) (w .1) (l .texts))) m g)
 
     -- all records are passed
     pub looks-end : length rs ≤ at → (eqb t (length ts) ≡ isSome (decode R F rs ts)) × NewestAt R F rs n

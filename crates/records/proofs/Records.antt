@@ -65,6 +65,14 @@ module _ (F : Format) (rs : List ℕ) (at k : ℕ) where
   texts-read (is-delete e) = rw (by-delete F rs at k e, texts-delete F rs at k e) (omega arith)
   texts-read (is-replace e) = rw (by-replace F rs at k e, texts-replace F rs at k e)
 
+  -- a Begin and an End have no texts
+  bare-texts : KindIs F k → recordBy F rs at k .kind ≤ 2 → (recordBy F rs at k .old ≡ 0) × (recordBy F rs at k .new ≡ 0)
+  bare-texts (is-begin e) h = let w = by-begin F rs at k e in (ap (λ (x : Record). x .old) w, ap (λ (x : Record). x .new) w)
+  bare-texts (is-end e) h = let w = by-end F rs at k e in (ap (λ (x : Record). x .old) w, ap (λ (x : Record). x .new) w)
+  bare-texts (is-insert e) h = absurd (omega (arith, ap (λ (x : Record). x .kind) (by-insert F rs at k e)))
+  bare-texts (is-delete e) h = absurd (omega (arith, ap (λ (x : Record). x .kind) (by-delete F rs at k e)))
+  bare-texts (is-replace e) h = absurd (omega (arith, ap (λ (x : Record). x .kind) (by-replace F rs at k e)))
+
 -- ---- whether a whole record stands at the place
 module _ (F : Format) (rs : List ℕ) (at : ℕ) where
   pub is-whole : IsWhole F rs at → recordAt F rs at ≡ recordBy F rs at (getD rs at 0)
@@ -96,6 +104,12 @@ module _ (F : Format) (rs : List ℕ) (at : ℕ) where
 
     pub texts-size-is : IsWhole F rs at → r .old + r .new ≡ textsAt F rs at (getD rs at 0)
     texts-size-is h = ap (λ (x : Record). x .old + x .new) (e ∙ is-whole h) ∙ texts-read F rs at (getD rs at 0) (kind-is F (getD rs at 0) (h .0))
+
+    pub no-texts-of : IsWhole F rs at → r .kind ≤ 2 → (r .old ≡ 0) × (r .new ≡ 0)
+    no-texts-of h b =
+        let f = e ∙ is-whole h in
+        let t = bare-texts F rs at (getD rs at 0) (kind-is F (getD rs at 0) (h .0)) (omega (arith, ap (λ (x : Record). x .kind) f)) in
+        (ap (λ (x : Record). x .old) f ∙ t .0, ap (λ (x : Record). x .new) f ∙ t .1)
 
     -- it has a kind only there
     pub whole-by : (r .kind ≡ 0 → ⊥) → IsWhole F rs at

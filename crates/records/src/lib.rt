@@ -11,7 +11,7 @@ ghost use Rattle.journal.specs.Layout.{sizeOf, decode, isSome};
 ghost use Rattle.journal.specs.Hold.{Listed};
 ghost use Rattle.formats.specs.Formats.{Fit, recordsMax};
 ghost use Rattle.records.specs.Records.{noRecord, Read};
-ghost use Rattle.records.specs.Check.{isTextAt, areTextsAt};
+ghost use Rattle.records.specs.Check.{areTextsAt};
 ghost use Rattle.records.specs.Walks.{Walks, LastAt, NewestAt, passing, SizesNoted};
 ghost use Rattle.records.specs.Written.{recordBytes, editSize};
 use formats::Format;
@@ -124,29 +124,24 @@ pub fn read_record(f: Format, records: &[u8], at: usize) -> Record
     }
 }
 
-// Do n bytes stand at t, and are they a text? All from t on are one: the n are where they end between two of its characters.
-fn is_text_at(texts: &[u8], t: usize, n: usize) -> bool
-    requires { ⌜ (t ≤ length (now texts)) × (isText catalogue (drop t (now texts)) ≡ true) ⌝ }
-    ensures { λ r. ⌜ r ≡ isTextAt catalogue (now (texts .entry)) t n ⌝ }
-{
-    if n == 0 {
-        return true;
-    }
-    if texts.len() - t < n {
-        return false;
-    }
-    is_boundary(texts, t + n)
-}
-
-// Do the texts of a record, old and new bytes long, stand at t? All bytes from t on are a text.
+// Do the texts of a record, old and new bytes long, stand at t? All bytes from t on are a text: bytes of it are one where they end
+// between two of its characters. Where one of the two is empty, there is one end.
 fn are_texts_at(texts: &[u8], t: usize, old: usize, new: usize) -> bool
     requires { ⌜ (t ≤ length (now texts)) × (isText catalogue (drop t (now texts)) ≡ true) ⌝ }
+    requires { ⌜ (old < 4294967296) × (new < 4294967296) ⌝ }
     ensures { λ r. ⌜ r ≡ areTextsAt catalogue (now (texts .entry)) t old new ⌝ }
 {
-    if !is_text_at(texts, t, old) {
+    let size = old + new;
+    if texts.len() - t < size {
         return false;
     }
-    is_text_at(texts, t + old, new)
+    if !is_boundary(texts, t + size) {
+        return false;
+    }
+    if (old == 0) | (new == 0) {
+        return true;
+    }
+    is_boundary(texts, t + old)
 }
 
 // A list by its records: how many they are, where the newest begins, how many Begins stand last and where the first of those
@@ -201,7 +196,7 @@ pub struct Looked {
 }
 
 // Are records and texts the layout of a list of changes? One pass over each: the texts are looked at as one text, and of each
-// record's texts it is then asked where they end.
+// record's texts it is then asked where they end. A Begin and an End have none.
 pub fn check_list(f: Format, records: &[u8], texts: &[u8]) -> Looked
     requires { ⌜ Fit f ⌝ }
     ensures sound { λ r. ⌜ r .sound ≡ isSome (decode catalogue f (now (records .entry)) (now (texts .entry))) ⌝ }
@@ -230,13 +225,18 @@ pub fn check_list(f: Format, records: &[u8], texts: &[u8]) -> Looked
                 newest,
             };
         }
+        let next = at + r.size;
+        if r.kind <= 2 {
+            newest = newest.pass(r.kind, at, next);
+            at = next;
+            continue;
+        }
         if !are_texts_at(texts, t, r.old, r.new) {
             return Looked {
                 sound: false,
                 newest,
             };
         }
-        let next = at + r.size;
         newest = newest.pass(r.kind, at, next);
         at = next;
         t += r.old + r.new;
