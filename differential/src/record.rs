@@ -55,7 +55,7 @@ fn is_edit(name: &str) -> bool {
     edit_calls::ENTRIES.iter().any(|entry| entry.name == name)
 }
 
-/// The entries of the crate `kill_entries`.
+/// The entries of the crate `c_kill`.
 #[rustfmt::skip]
 const KILLS: [&str; 10] = [
     "tlf_line_kill", "tlf_line_delete", "tlf_line_backspace", "tlf_line_kill_line", "tlf_line_kill_buffer",

@@ -7,22 +7,24 @@ use mathlib.Core.List.{List}
 use Rattle.unicode.specs.Repertoire.{Repertoire}
 use Rattle.checks.specs.declared.Line.{Line}
 use Rattle.checks.specs.Outcome.{Outcome, refused, answered}
-use Rattle.movement.specs.Moves as moves
-use Rattle.copies.specs.Copy.{copyCall}
+use Rattle.motion_calls.specs.Moves as moves
+use Rattle.motion_calls.specs.Copy.{copyCall}
 use Rattle.formats.specs.declared.Format.{Format}
-use Rattle.journal.specs.Groups.{Log}
-use Rattle.changeset.specs.Calls as logs
+use Rattle.log_model.specs.Groups.{Log}
+use Rattle.log_state.specs.Calls as logs
 use Rattle.edit.specs.Plan.{State}
 use Rattle.edit.specs.Calls.{Lent, logLent, stateOf}
-use Rattle.kills.specs.Kills.{killCall, killLineCall, killBufferCall, discardLineCall, discardBufferCall, deleteCall, backspaceCall, deletePrevWordCall, deleteWordCall, deleteToCall}
-use Rattle.ranges.specs.Ranges.{replaceCall, deleteRangeCall}
-use Rattle.inserts.specs.Inserts.{updateCall, insertCall, yankCall, yankPopCall}
-use Rattle.transpose_chars.specs.TransposeChars.{transposeCharsCall}
-use Rattle.edit_word.specs.EditWord.{editWordCall}
-use Rattle.transpose_words.specs.TransposeWords.{transposeWordsCall}
-use Rattle.indents.specs.Indents.{indentCall}
-use Rattle.undo.specs.Undo.{undoCall, redoCall}
-use Rattle.cancel.specs.Cancel.{cancelCall}
+use Rattle.edit_kill.specs.Kills.{killCall, killLineCall, killBufferCall, discardLineCall, discardBufferCall, deleteCall, backspaceCall}
+use Rattle.edit_kill.specs.Kills.{deletePrevWordCall, deleteWordCall, deleteToCall}
+use Rattle.edit_range.specs.Ranges.{replaceCall, deleteRangeCall}
+use Rattle.edit_insert.specs.Inserts.{updateCall, insertCall, yankCall, yankPopCall}
+use Rattle.edit_transpose.specs.TransposeChars.{transposeCharsCall}
+use Rattle.edit_case.specs.EditWord.{editWordCall}
+use Rattle.edit_transpose.specs.TransposeWords.{transposeWordsCall}
+use Rattle.edit_indent.specs.Indents.{indentCall}
+use Rattle.undo.specs.Undo.{undoCall}
+use Rattle.undo_redo.specs.Redo.{redoCall}
+use Rattle.undo_cancel.specs.Cancel.{cancelCall}
 
 -- a movement by its numbers
 pub record Codes : Type 0 where

@@ -7,8 +7,8 @@ use Rattle.checks.specs.declared.LineAnswer.{LineAnswer}
 use Rattle.checks.specs.Answers.{lineAnswer}
 use Rattle.formats.specs.declared.Format.{Format}
 use Rattle.formats.specs.Formats.{logFormat}
-use Rattle.changeset.specs.Calls.{Logged, answerOf}
-use Rattle.changeset.specs.declared.LogAnswer.{LogAnswer}
+use Rattle.log_state.specs.Calls.{Logged, answerOf}
+use Rattle.log_state.specs.declared.LogAnswer.{LogAnswer}
 use Rattle.edit.specs.Calls.{Lent, formatOf, logLent, Same, Edited}
 use Rattle.edit.specs.declared.EditAnswer.{EditAnswer}
 use Rattle.calls.specs.Calls.{Asked, edit, move, log, begin, end, lastInsert, undo, redo, cancel, moveOutcome, logOutcome, outcomeOf}

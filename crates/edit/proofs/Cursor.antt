@@ -9,7 +9,7 @@ use lib.ListN.{length, take}
 use Rattle.unicode.specs.Repertoire.{Repertoire}
 use Rattle.checks.specs.Outcome.{Outcome, refused, answered}
 use Rattle.formats.specs.declared.Format.{Format}
-use Rattle.journal.specs.Undo.{Sizes, fits}
+use Rattle.log_model.specs.UndoBytes.{Sizes, fits}
 use Rattle.edit.specs.declared.EditAnswer.{EditAnswer}
 use Rattle.edit.specs.Plan.{Piece, Plan, State, planned, textAfter, listAfter, tooLong, edited}
 use Rattle.edit.specs.Calls.{Lent, says, Edited}
@@ -25,7 +25,8 @@ module _ (R : Repertoire) (F : Format) (l : Lent) (z : Sizes) (C : ℕ) (xs : Li
 
   module _ (c c′ : ℕ) (r : EditAnswer) (t rb tb : List ℕ) where
     abbrev Moved : Bool → Bool → Type 0
-    Moved a b = (r .number ≡ 0) × (Edited F l (out a b c′) (says 0 (record { len = r .line .len; cursor = c′ }) (r .log)) t rb tb) × (take (r .line .len) t ≡ textAfter xs (s .text)) × (r .line .len ≤ length t)
+    Moved a b = (r .number ≡ 0) × (Edited F l (out a b c′) (says 0 (record { len = r .line .len; cursor = c′ }) (r .log)) t rb tb)
+        × (take (r .line .len) t ≡ textAfter xs (s .text)) × (r .line .len ≤ length t)
 
     abbrev Kept : Bool → Bool → Type 0
     Kept a b = (r .number ≡ 0 → ⊥) × (Edited F l (out a b c′) r t rb tb)
@@ -45,7 +46,8 @@ module _ (R : Repertoire) (F : Format) (l : Lent) (z : Sizes) (C : ℕ) (xs : Li
     ways false false q = inr (λ e. absurd (omega (arith, ap (λ (x : EditAnswer). x .number) (q .answer))), record { answer = q .answer; bytes = q .bytes })
 
     module _ (q : Edited F l (edited R F z C (ending c) s) r t rb tb) where
-      both : Moved (tooLong C xs (s .text)) (fits F z (listAfter R xs (s .text) (s .log .undo))) ⊎ Kept (tooLong C xs (s .text)) (fits F z (listAfter R xs (s .text) (s .log .undo)))
+      both : Moved (tooLong C xs (s .text)) (fits F z (listAfter R xs (s .text) (s .log .undo))) ⊎ Kept (tooLong C xs (s .text))
+          (fits F z (listAfter R xs (s .text) (s .log .undo)))
       unfolding edited
       both = ways (tooLong C xs (s .text)) (fits F z (listAfter R xs (s .text) (s .log .undo))) q
 

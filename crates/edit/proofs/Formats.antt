@@ -12,7 +12,8 @@ use Rattle.edit.specs.Plan.{State}
 use Rattle.edit.specs.Calls.{Lent, formatOf, Edited, Ready}
 
 -- F was found to be it: what is done in F is the call
-pub in-format : {F : Format} (l : Lent) (call : Format → Outcome State) {r : EditAnswer} {t rb tb : List ℕ} → F ≡ formatOf l → Edited F l (call F) r t rb tb → Edited (formatOf l) l (call (formatOf l)) r t rb tb
+pub in-format : {F : Format} (l : Lent) (call : Format → Outcome State) {r : EditAnswer} {t rb tb : List ℕ} → F ≡ formatOf l
+    → Edited F l (call F) r t rb tb → Edited (formatOf l) l (call (formatOf l)) r t rb tb
 in-format l call {r} {t} {rb} {tb} e q = subst (λ (G : Format). Edited G l (call G) r t rb tb) e q
 
 -- a text is no longer than an array of a call's own frame

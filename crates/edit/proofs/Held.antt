@@ -10,19 +10,19 @@ use borrow.Author.Tests.{le-ltb}
 use Rattle.utf8.specs.Chars.{boundary, In}
 use Rattle.unicode.specs.Repertoire.{Repertoire, catalogue}
 use Rattle.unicode.specs.Text.{isText}
-use Rattle.journal.specs.Change.{Change, turn}
+use Rattle.log_model.specs.Change.{Change, turn}
 use Rattle.formats.specs.Formats.{Fit}
 use Rattle.formats.specs.declared.Format.{Format}
-use Rattle.journal.specs.Layout.{AllGood, Layout, isSome, decode, encodeRecords, encodeTexts}
-use Rattle.journal.specs.Hold.{Holds}
-use Rattle.journal.specs.Groups as groups
-use Rattle.journal.proofs.Decode.{decode-encode}
-use Rattle.journal.proofs.Newest.{turned-back}
-use Rattle.journal.proofs.Holds.{records-append, texts-append, good-append, front, behind}
-use Rattle.journal.proofs.Undo.{good-oldest}
+use Rattle.log_model.specs.Layout.{AllGood, Layout, isSome, decode, encodeRecords, encodeTexts}
+use Rattle.log_model.specs.Hold.{Holds}
+use Rattle.log_model.specs.Groups as groups
+use Rattle.log_model.proofs.Decode.{decode-encode}
+use Rattle.log_model.proofs.Newest.{turned-back}
+use Rattle.log_model.proofs.Holds.{records-append, texts-append, good-append, front, behind}
+use Rattle.log_model.proofs.UndoBytes.{good-oldest}
 use Rattle.checks.specs.Checks.{refusal, ownTests}
-use Rattle.changeset.specs.Logs.{overSizes, broken, damaged}
-use Rattle.changeset.specs.Calls as log
+use Rattle.log_state.specs.Logs.{overSizes, broken, damaged}
+use Rattle.log_state.specs.Calls as log
 use Rattle.edit.specs.Plan.{State}
 use Rattle.edit.specs.Calls.{Lent, lent, checked, stateOf, Stored, Ready}
 
@@ -33,7 +33,8 @@ take-within (suc n) [] e = absurd (omega arith)
 take-within (suc n) (b ∷ l) e = let h = take-within n l (omega arith) in omega arith
 
 -- ---- the log
-module _ (R : Repertoire) (F : Format) (g : groups.Log) (rb tb : List ℕ) (s : log.Stored F g rb tb) (gu : AllGood R (F .width) (g .undo)) (gr : AllGood R (F .width) (map turn (g .redo))) where
+module _ (R : Repertoire) (F : Format) (g : groups.Log) (rb tb : List ℕ) (s : log.Stored F g rb tb) (gu : AllGood R (F .width) (g .undo))
+    (gr : AllGood R (F .width) (map turn (g .redo))) where
   abbrev us : List Change
   us = reverse (g .undo)
 
@@ -78,12 +79,16 @@ module _ (R : Repertoire) (F : Format) (g : groups.Log) (rb tb : List ℕ) (s : 
   -- the log that the bytes hold
   pub log-held : log.valueOf R F held ≡ g
   log-held =
-      ap₂ (λ (u r : List Change). record { undo = u; redo = r; level = g .level }) (ap reverse undos-held ∙ reverse-reverse (g .undo)) (ap (map turn) redos-held ∙ turned-back (g .redo))
+      ap₂ (λ (u r : List Change). record { undo = u; redo = r; level = g .level }) (ap reverse undos-held ∙ reverse-reverse (g .undo))
+      (ap (map turn) redos-held ∙ turned-back (g .redo))
 
-  pub log-holds : Holds R F rb tb (length (encodeRecords F us)) (length (encodeTexts us)) (length (encodeRecords F rs)) (length (encodeTexts rs)) (log.undos R F held) (log.redos R F held)
+  pub log-holds : Holds R F rb tb (length (encodeRecords F us)) (length (encodeTexts us)) (length (encodeRecords F rs)) (length (encodeTexts rs))
+      (log.undos R F held) (log.redos R F held)
   log-holds =
-      subst (λ (x : List Change). Holds R F rb tb (length (encodeRecords F us)) (length (encodeTexts us)) (length (encodeRecords F rs)) (length (encodeTexts rs)) x (log.redos R F held)) (sym undos-held)
-      (subst (λ (x : List Change). Holds R F rb tb (length (encodeRecords F us)) (length (encodeTexts us)) (length (encodeRecords F rs)) (length (encodeTexts rs)) us x) (sym redos-held) stored-holds)
+      subst (λ (x : List Change). Holds R F rb tb (length (encodeRecords F us)) (length (encodeTexts us)) (length (encodeRecords F rs))
+      (length (encodeTexts rs)) x (log.redos R F held)) (sym undos-held)
+      (subst (λ (x : List Change). Holds R F rb tb (length (encodeRecords F us)) (length (encodeTexts us)) (length (encodeRecords F rs))
+      (length (encodeTexts rs)) us x) (sym redos-held) stored-holds)
 
   -- check 2 passes it
   pub log-sized : length rb ≤ F .records → length tb ≤ F .texts → overSizes F (log.logOf F g) rb tb ≡ false
@@ -102,7 +107,8 @@ module _ (R : Repertoire) (F : Format) (g : groups.Log) (rb tb : List ℕ) (s : 
       rw (le-ltb 255 (g .level) v, whole _ _ us f, whole _ _ rs b)
 
 -- ---- text, cursor and log
-module _ (R : Repertoire) (F : Format) (s : State) (t rb tb : List ℕ) (q : Stored F s t rb tb) (gu : AllGood R (F .width) (s .log .undo)) (gr : AllGood R (F .width) (map turn (s .log .redo))) where
+module _ (R : Repertoire) (F : Format) (s : State) (t rb tb : List ℕ) (q : Stored F s t rb tb) (gu : AllGood R (F .width) (s .log .undo))
+    (gr : AllGood R (F .width) (map turn (s .log .redo))) where
   abbrev pub lentNext : Lent
   lentNext = lent t rb tb (record { len = length (s .text); cursor = s .cursor }) (log.logOf F (s .log))
 
@@ -110,14 +116,27 @@ module _ (R : Repertoire) (F : Format) (s : State) (t rb tb : List ℕ) (q : Sto
   state-held = ap₂ (λ (x : List ℕ) (g : groups.Log). record { text = x; cursor = s .cursor; log = g }) (q .text) (log-held R F (s .log) rb tb (q .log) gu gr)
 
   -- the checks 2 to 8 pass it
-  pub state-passes : length t ≤ F .text → length rb ≤ F .records → length tb ≤ F .texts → s .log .level ≤ 255 → isText R (s .text) ≡ true → In (s .text) (s .cursor) (s .cursor) → checked R F lentNext (ownTests false false false) ≡ 0
+  pub state-passes : length t ≤ F .text → length rb ≤ F .records → length tb ≤ F .texts → s .log .level ≤ 255 → isText R (s .text) ≡ true
+      → In (s .text) (s .cursor) (s .cursor) → checked R F lentNext (ownTests false false false) ≡ 0
   unfolding refusal
   state-passes a b c v e i =
-      rw (le-ltb (F .text) (length t) a, le-ltb (length t) (length (s .text)) (take-within (length (s .text)) t (ap length (q .text))), log-sized R F (s .log) rb tb (q .log) gu gr b c, q .text, e, le-ltb (length (s .text)) (s .cursor) (i .1), i .2, log-whole R F (s .log) rb tb (q .log) gu gr v)
+      rw (
+        le-ltb (F .text) (length t) a,
+        le-ltb (length t) (length (s .text)) (take-within (length (s .text)) t (ap length (q .text))),
+        log-sized R F
+            (s .log) rb tb (q .log) gu gr b c,
+        q .text,
+        e,
+        le-ltb (length (s .text)) (s .cursor) (i .1),
+        i .2,
+        log-whole R F (s .log) rb tb (q .log) gu gr v,
+      )
 
 -- over 01's repertoire: what the functions ask for where the checks have passed
-module _ (F : Format) (s : State) (t rb tb : List ℕ) (q : Stored F s t rb tb) (gu : AllGood catalogue (F .width) (s .log .undo)) (gr : AllGood catalogue (F .width) (map turn (s .log .redo))) where
-  pub state-ready : length t ≤ F .text → length rb ≤ F .records → length tb ≤ F .texts → Fit F → s .log .level ≤ 255 → isText catalogue (s .text) ≡ true → In (s .text) (s .cursor) (s .cursor) → Ready F (lentNext catalogue F s t rb tb q gu gr)
+module _ (F : Format) (s : State) (t rb tb : List ℕ) (q : Stored F s t rb tb) (gu : AllGood catalogue (F .width) (s .log .undo))
+    (gr : AllGood catalogue (F .width) (map turn (s .log .redo))) where
+  pub state-ready : length t ≤ F .text → length rb ≤ F .records → length tb ≤ F .texts → Fit F → s .log .level ≤ 255
+      → isText catalogue (s .text) ≡ true → In (s .text) (s .cursor) (s .cursor) → Ready F (lentNext catalogue F s t rb tb q gu gr)
   state-ready a b c w v e i =
       record {
         small = a;

@@ -11,13 +11,13 @@ use Rattle.lists.proofs.Bools.{and-both, or-none}
 use Rattle.utf8.specs.Chars.{In}
 use Rattle.unicode.specs.Repertoire.{Repertoire, catalogue}
 use Rattle.checks.specs.Outcome.{Outcome, answered}
-use Rattle.journal.specs.Change.{Change}
+use Rattle.log_model.specs.Change.{Change}
 use Rattle.numbers.specs.Numbers.{top}
 use Rattle.formats.specs.declared.Format.{Format}
-use Rattle.journal.specs.Layout.{AllGood}
-use Rattle.journal.specs.Undo.{undoRecords, undoTexts, allSmall, Sizes, fits}
-use Rattle.changeset.specs.declared.Log.{Log}
-use Rattle.changeset.proofs.Recorded.{good}
+use Rattle.log_model.specs.Layout.{AllGood}
+use Rattle.log_model.specs.UndoBytes.{undoRecords, undoTexts, allSmall, Sizes, fits}
+use Rattle.log_state.specs.declared.Log.{Log}
+use Rattle.log_state.proofs.Recorded.{good}
 use Rattle.edit.specs.declared.EditAnswer.{EditAnswer}
 use Rattle.edit.specs.Plan.{Piece, made, recorded, Plan, once, textAfter, listAfter, redoAfter, AllSuit, Suits, tooLong, State, edited}
 use Rattle.edit.specs.Calls.{Lent, lent, logLent, textOf, sizesOf, stateOf, Edited, Ready}
@@ -39,7 +39,8 @@ pub record Left (F : Format) (l₀ : Lent) (p : Plan) (xs : List Piece) (l : Len
   pub suit : AllSuit catalogue xs (textOf l)
   pub short : tooLong (length (l₀ .text)) xs (textOf l) ≡ false
   pub room : fits F (sizesOf l₀) (listAfter catalogue xs (textOf l) (stateOf catalogue F l .log .undo)) ≡ true
-  pub same : edited catalogue F (sizesOf l₀) (length (l₀ .text)) p (stateOf catalogue F l₀) ≡ edited catalogue F (sizesOf l₀) (length (l₀ .text)) (rest p xs) (stateOf catalogue F l)
+  pub same : edited catalogue F (sizesOf l₀) (length (l₀ .text)) p (stateOf catalogue F l₀) ≡ edited catalogue F (sizesOf l₀) (length (l₀ .text))
+      (rest p xs) (stateOf catalogue F l)
 
 -- ---- one change of a plan
 no-redo : (xs : List Piece) → redoAfter xs [] ≡ []
@@ -66,7 +67,8 @@ none-left : (R : Repertoire) (F : Format) (z : Sizes) (C : ℕ) (p : Plan) (s : 
 unfolding edited textAfter listAfter tooLong
 none-left R F z C p s room = rw room
 
-after-first : (R : Repertoire) (F : Format) (z : Sizes) (x : Piece) (xs : List Piece) (t : List ℕ) (u : List Change) → fits F z (listAfter R (x ∷ xs) t u) ≡ true → fits F z (listAfter R xs (made x t) (recorded R x t u)) ≡ true
+after-first : (R : Repertoire) (F : Format) (z : Sizes) (x : Piece) (xs : List Piece) (t : List ℕ) (u : List Change)
+    → fits F z (listAfter R (x ∷ xs) t u) ≡ true → fits F z (listAfter R xs (made x t) (recorded R x t u)) ≡ true
 unfolding listAfter
 after-first R F z x xs t u e = e
 
@@ -83,7 +85,8 @@ module _ (F : Format) where
 
   -- a change is made
   module _ (l₀ : Lent) (p : Plan) (x : Piece) (xs : List Piece) (l : Lent) (k : Left F l₀ p (x ∷ xs) l) (r : EditAnswer) (t rb tb : List ℕ)
-      (q : Edited F l (edited catalogue F (sizesOf l) (length (l .text)) (once x (startOf x)) (stateOf catalogue F l)) r t rb tb) (lt : length t ≡ length (l .text)) (lr : length rb ≡ length (l .records)) (ls : length tb ≡ length (l .texts)) where
+      (q : Edited F l (edited catalogue F (sizesOf l) (length (l .text)) (once x (startOf x)) (stateOf catalogue F l)) r t rb tb)
+      (lt : length t ≡ length (l .text)) (lr : length rb ≡ length (l .records)) (ls : length tb ≡ length (l .texts)) where
     abbrev s : State
     s = stateOf catalogue F l
 
@@ -108,15 +111,18 @@ module _ (F : Format) where
     wide = omega (arith, k .text, k .ready .small, k .ready .log .fit .places, k .ready .log .fit .lengths)
 
     room : fits F (sizesOf l₀) (recorded catalogue x (textOf l) (s .log .undo)) ≡ true
-    room = room-first catalogue F C wide (sizesOf l₀) (omega (arith, k .texts, k .ready .log .texts, k .ready .log .fit .lengths)) x xs (textOf l) (s .log .undo) (suits .0) (k .ready .text) within (good F (logLent l) (k .ready .log)) (k .room)
+    room = room-first catalogue F C wide (sizesOf l₀) (omega (arith, k .texts, k .ready .log .texts, k .ready .log .fit .lengths)) x xs (textOf l)
+        (s .log .undo) (suits .0) (k .ready .text) within (good F (logLent l) (k .ready .log)) (k .room)
 
     goods : AllGood catalogue (F .width) (recorded catalogue x (textOf l) (s .log .undo))
     unfolding fits
     goods =
         let y = recorded catalogue x (textOf l) (s .log .undo) in
-        let e = and-both (leb (length (undoRecords F y)) (length (l₀ .records))) (leb (length (undoTexts y)) (length (l₀ .texts))) (and-both (allSmall (F .width) y) _ room .1) .1 in
+        let e = and-both (leb (length (undoRecords F y)) (length (l₀ .records))) (leb (length (undoTexts y)) (length (l₀ .texts)))
+        (and-both (allSmall (F .width) y) _ room .1) .1 in
         let n = leb-true (length (undoTexts y)) (length (l₀ .texts)) e in
-        good-step catalogue F C wide x (textOf l) (s .log .undo) (suits .0) (k .ready .text) within (good F (logLent l) (k .ready .log)) (omega (arith, k .texts, k .ready .log .texts, k .ready .log .fit .lengths))
+        good-step catalogue F C wide x (textOf l) (s .log .undo) (suits .0) (k .ready .text) within (good F (logLent l) (k .ready .log))
+        (omega (arith, k .texts, k .ready .log .texts, k .ready .log .fit .lengths))
 
     sizes : sizesOf l ≡ sizesOf l₀
     sizes = ap₂ (λ (a b : ℕ). record { records = a; texts = b }) (k .records) (k .texts)
@@ -136,7 +142,8 @@ module _ (F : Format) where
     pub goes-on : Left F l₀ p xs (lent t rb tb (r .line) (r .log))
     goes-on =
         let g = state-held catalogue F next t rb tb (taken .bytes) goods tt in
-        let e = state-ready F next t rb tb (taken .bytes) goods tt (omega (arith, k .ready .small)) (omega (arith, k .ready .log .records)) (omega (arith, k .ready .log .texts)) (k .ready .log .fit) (k .ready .log .level)
+        let e = state-ready F next t rb tb (taken .bytes) goods tt (omega (arith, k .ready .small)) (omega (arith, k .ready .log .records))
+        (omega (arith, k .ready .log .texts)) (k .ready .log .fit) (k .ready .log .level)
         (made-text catalogue x (textOf l) (suits .0) (k .ready .text)) start in
         subst (λ (a : EditAnswer). Left F l₀ p xs (lent t rb tb (a .line) (a .log))) (sym (taken .answer))
         (record {
@@ -155,13 +162,28 @@ module _ (F : Format) where
 
   -- all are made
   pub ends : (l₀ : Lent) (p : Plan) (l : Lent) → Left F l₀ p [] l
-      → Edited F l₀ (edited catalogue F (sizesOf l₀) (length (l₀ .text)) p (stateOf catalogue F l₀)) (record { number = p .number; from = p .from; to = p .to; line = record { len = l .line .len; cursor = p .cursor }; log = l .log }) (l .text) (l .records) (l .texts)
+      → Edited F l₀ (edited catalogue F (sizesOf l₀) (length (l₀ .text)) p (stateOf catalogue F l₀))
+      (record { number = p .number; from = p .from; to = p .to; line = record { len = l .line .len; cursor = p .cursor }; log = l .log }) (l .text) (l .records) (l .texts)
   ends l₀ p l k =
-      subst (λ (o : Outcome State). Edited F l₀ o (record { number = p .number; from = p .from; to = p .to; line = record { len = l .line .len; cursor = p .cursor }; log = l .log }) (l .text) (l .records) (l .texts)) (sym (k .same ∙ all-made))
+      subst (λ (o : Outcome State). Edited F l₀ o (record {
+        number = p .number;
+        from = p .from;
+        to = p .to;
+        line = record
+            { len = l .line .len; cursor = p .cursor };
+        log = l .log;
+      }) (l .text) (l .records) (l .texts)) (sym (k .same ∙ all-made))
       (record {
-        answer = ap₂ (λ (n : ℕ) (g : Log). record { number = p .number; from = p .from; to = p .to; line = record { len = n; cursor = p .cursor }; log = g }) (sym (length-kept F l (k .ready))) (log-kept F l (k .ready));
+        answer = ap₂ (λ (n : ℕ) (g : Log). record {
+          number = p .number;
+          from = p .from;
+          to = p .to;
+          line = record { len = n; cursor = p .cursor };
+          log = g;
+        }) (sym (length-kept F l (k .ready))) (log-kept F l (k .ready));
         bytes = state-kept F l (k .ready) (p .cursor);
       })
     where
-      all-made : edited catalogue F (sizesOf l₀) (length (l₀ .text)) (rest p []) (stateOf catalogue F l) ≡ answered (p .number) (p .from) (p .to) (record { text = textOf l; cursor = p .cursor; log = stateOf catalogue F l .log })
+      all-made : edited catalogue F (sizesOf l₀) (length (l₀ .text)) (rest p []) (stateOf catalogue F l) ≡ answered (p .number) (p .from) (p .to)
+          (record { text = textOf l; cursor = p .cursor; log = stateOf catalogue F l .log })
       all-made = none-left catalogue F (sizesOf l₀) (length (l₀ .text)) p (stateOf catalogue F l) (k .room)

@@ -13,3 +13,4 @@ pub mod Tests
 pub mod Cursor
 pub mod Suits
 pub mod Formats
+pub mod Pair

@@ -14,19 +14,19 @@ use Rattle.lists.proofs.Parts.{none-left}
 use Rattle.unicode.specs.Repertoire.{catalogue}
 use Rattle.checks.specs.Outcome.{Outcome, refused, answered}
 use Rattle.buffer.specs.Edit.{inserted, cut}
-use Rattle.journal.specs.Change.{Edit, insert, delete, replace, Change, edit, place, old, new}
+use Rattle.log_model.specs.Change.{Edit, insert, delete, replace, Change, edit, place, old, new}
 use Rattle.formats.specs.declared.Format.{Format}
-use Rattle.journal.specs.Layout.{okChange}
-use Rattle.journal.specs.Recording.{note}
-use Rattle.journal.specs.Groups as groups
-use Rattle.journal.specs.Undo.{fits}
+use Rattle.log_model.specs.Layout.{okChange}
+use Rattle.log_model.specs.Recording.{note}
+use Rattle.log_model.specs.Groups as groups
+use Rattle.log_model.specs.UndoBytes.{fits}
 use mathlib.Core.Logic.{_⊎_, inl, inr, ⊎-elim}
-use Rattle.records.specs.Records.{kindNumber}
-use Rattle.changeset.specs.Outcomes.{recordOut}
-use Rattle.changeset.specs.declared.Log.{Log}
-use Rattle.changeset.specs.declared.LogAnswer.{LogAnswer}
-use Rattle.changeset.specs.Calls as log
-use Rattle.changeset.proofs.Recorded as recorded
+use Rattle.log_records.specs.Records.{kindNumber}
+use Rattle.log_state.specs.Outcomes.{recordOut}
+use Rattle.log_state.specs.declared.Log.{Log}
+use Rattle.log_state.specs.declared.LogAnswer.{LogAnswer}
+use Rattle.log_state.specs.Calls as log
+use Rattle.log_state.proofs.Recorded as recorded
 use Rattle.edit.specs.declared.EditAnswer.{EditAnswer}
 use Rattle.edit.specs.Plan.{State, splice, blank, changed, changeOut}
 use Rattle.edit.specs.Calls.{Lent, logLent, textOf, sizesOf, stateOf, says, Edited, Ready}
@@ -45,7 +45,8 @@ module _ (F : Format) (l : log.Lent) (u : List Change) (g : groups.Log) (a : Log
     pub records : rb ≡ l .records
     pub texts : tb ≡ l .texts
 
-  split : (b : Bool) → fits F (log.sizesOf l) u ≡ b → log.Logged F l (cond b (answered 0 0 0 (record { undo = u; redo = []; level = g .level })) (refused 10)) a rb tb → ((a .number ≡ 0) × Took) ⊎ ((a .number ≡ 10) × Refused)
+  split : (b : Bool) → fits F (log.sizesOf l) u ≡ b → log.Logged F l
+      (cond b (answered 0 0 0 (record { undo = u; redo = []; level = g .level })) (refused 10)) a rb tb → ((a .number ≡ 0) × Took) ⊎ ((a .number ≡ 10) × Refused)
   split true e r = inl (ap (λ (x : LogAnswer). x .number) (r .answer), record { room = e; state = ap (λ (x : LogAnswer). x .log) (r .answer); bytes = r .bytes })
   split false e r = inr (ap (λ (x : LogAnswer). x .number) (r .answer), record { full = e; records = r .bytes .records; texts = r .bytes .texts })
 
@@ -68,7 +69,8 @@ blank-is (delete p (c ∷ s)) k a b m e h f g = rw (sym e, ne-eqb a b (λ z. ome
 blank-is (replace p o n) k a b m e h f g = rw (sym e)
 
 -- ---- the change x in the text of l
-module _ (F : Format) (l : Lent) (h : Ready F l) (j : Bool) (x : Edit) (k a b : ℕ) (n : List ℕ) (p : ℕ) (d : log.Numbered x k a (part (textOf l) a b) n) (h₁ : a ≤ b) (h₂ : b ≤ l .line .len) where
+module _ (F : Format) (l : Lent) (h : Ready F l) (j : Bool) (x : Edit) (k a b : ℕ) (n : List ℕ) (p : ℕ)
+    (d : log.Numbered x k a (part (textOf l) a b) n) (h₁ : a ≤ b) (h₂ : b ≤ l .line .len) where
   abbrev u : List Change
   u = log.valueOf catalogue F (logLent l) .undo
 
@@ -92,7 +94,8 @@ module _ (F : Format) (l : Lent) (h : Ready F l) (j : Bool) (x : Edit) (k a b : 
   -- 9
   pub too-long : length (l .text) - (l .line .len - (b - a)) < length n → Edited F l outcome (says 9 (l .line) (l .log)) (l .text) (l .records) (l .texts)
   unfolding changeOut
-  too-long c = rw (lt-ltb (length (l .text)) (length (changed x (textOf l))) (omega (arith, size, h .used))) (record { answer = refl; bytes = record { text = refl; records = refl; texts = refl } })
+  too-long c = rw (lt-ltb (length (l .text)) (length (changed x (textOf l))) (omega (arith, size, h .used)))
+      (record { answer = refl; bytes = record { text = refl; records = refl; texts = refl } })
 
   module _ (fits-text : length n ≤ length (l .text) - (l .line .len - (b - a))) where
     no-nine : ltb (length (l .text)) (length (changed x (textOf l))) ≡ false
@@ -100,7 +103,8 @@ module _ (F : Format) (l : Lent) (h : Ready F l) (j : Bool) (x : Edit) (k a b : 
 
     -- nothing is recorded
     pub unrecorded : blank x ≡ true
-        → Edited F l outcome (says 0 (record { len = l .line .len; cursor = p }) (record { undo = l .log .undo; redo = record { records = 0; texts = 0 }; level = l .log .level })) (l .text) (l .records) (l .texts)
+        → Edited F l outcome (says 0 (record { len = l .line .len; cursor = p })
+        (record { undo = l .log .undo; redo = record { records = 0; texts = 0 }; level = l .log .level })) (l .text) (l .records) (l .texts)
     unfolding changeOut
     unrecorded e =
         let q = took F (logLent l) u (log.valueOf catalogue F (logLent l)) _ (l .records) (l .texts) (recorded.only-dropped F (logLent l) (h .log) u refl) refl in
@@ -118,7 +122,8 @@ module _ (F : Format) (l : Lent) (h : Ready F l) (j : Bool) (x : Edit) (k a b : 
             let e : a ≡ b = eqb-true a b (and-both (not (eqb k 5)) (eqb a b) (m .0) .1) in
             ap₂ (λ (i : ℕ) (s : List ℕ). splice (textOf l) a i s) (sym e) (none-left n (eqb-true (length n) 0 (m .1))) ∙ splice-none (textOf l) a
 
-    module _ (some : blank x ≡ false) (r : LogAnswer) (rb tb : List ℕ) (q : log.Logged F (logLent l) (recordOut F (sizesOf l) (note j x u) (log.valueOf catalogue F (logLent l))) r rb tb) where
+    module _ (some : blank x ≡ false) (r : LogAnswer) (rb tb : List ℕ)
+        (q : log.Logged F (logLent l) (recordOut F (sizesOf l) (note j x u) (log.valueOf catalogue F (logLent l))) r rb tb) where
       -- 10
       pub no-room : (r .number ≡ 0 → ⊥) → Edited F l outcome (says 10 (l .line) (l .log)) (l .text) rb tb
       unfolding changeOut
@@ -126,7 +131,8 @@ module _ (F : Format) (l : Lent) (h : Ready F l) (j : Bool) (x : Edit) (k a b : 
           let w = was-refused F (logLent l) (note j x u) (log.valueOf catalogue F (logLent l)) r rb tb q e in
           rw (no-nine, some, w .full) (record { answer = refl; bytes = record { text = refl; records = w .records; texts = w .texts } })
 
-      made-in : r .number ≡ 0 → (t : List ℕ) (m : ℕ) → m ≡ l .line .len - (b - a) + length n → take m t ≡ splice (textOf l) a b n → Edited F l outcome (says 0 (record { len = m; cursor = p }) (r .log)) t rb tb
+      made-in : r .number ≡ 0 → (t : List ℕ) (m : ℕ) → m ≡ l .line .len - (b - a) + length n → take m t ≡ splice (textOf l) a b n
+          → Edited F l outcome (says 0 (record { len = m; cursor = p }) (r .log)) t rb tb
       unfolding changeOut
       made-in e t m f i =
           let w = took F (logLent l) (note j x u) (log.valueOf catalogue F (logLent l)) r rb tb q e in
@@ -142,7 +148,8 @@ module _ (F : Format) (l : Lent) (h : Ready F l) (j : Bool) (x : Edit) (k a b : 
       pub made : r .number ≡ 0 → (t₁ t₂ : List ℕ) → take (l .line .len - (b - a)) t₁ ≡ cut (textOf l) a b
           → take (l .line .len - (b - a) + length n) t₂ ≡ inserted (take (l .line .len - (b - a)) t₁) a n
           → Edited F l outcome (says 0 (record { len = l .line .len - (b - a) + length n; cursor = p }) (r .log)) t₂ rb tb
-      made e t₁ t₂ c i = made-in e t₂ (l .line .len - (b - a) + length n) refl (i ∙ ap (λ (s : List ℕ). inserted s a n) c ∙ cut-put (textOf l) a b n (omega (arith, length-kept F l h)))
+      made e t₁ t₂ c i = made-in e t₂ (l .line .len - (b - a) + length n) refl
+          (i ∙ ap (λ (s : List ℕ). inserted s a n) c ∙ cut-put (textOf l) a b n (omega (arith, length-kept F l h)))
 
 -- ---- the bytes that are cut, as they are lent from the buffer
 module _ (F : Format) (l : Lent) (j : Bool) (k a : ℕ) (n s s′ : List ℕ) (e : s ≡ s′) where
@@ -152,9 +159,11 @@ module _ (F : Format) (l : Lent) (j : Bool) (k a : ℕ) (n s s′ : List ℕ) (e
   pub ok-as : okChange catalogue (edit (log.editOf k a s n)) ≡ true → okChange catalogue (edit (log.editOf k a s′ n)) ≡ true
   ok-as o = subst (λ (x : List ℕ). okChange catalogue (edit (log.editOf k a x n)) ≡ true) e o
 
-  pub logged-as : (r : LogAnswer) (rb tb : List ℕ) → log.Logged F (logLent l) (recordOut F (sizesOf l) (note j (log.editOf k a s n) (log.valueOf catalogue F (logLent l) .undo)) (log.valueOf catalogue F (logLent l))) r rb tb
+  pub logged-as : (r : LogAnswer) (rb tb : List ℕ) → log.Logged F (logLent l)
+      (recordOut F (sizesOf l) (note j (log.editOf k a s n) (log.valueOf catalogue F (logLent l) .undo)) (log.valueOf catalogue F (logLent l))) r rb tb
       → log.Logged F (logLent l) (recordOut F (sizesOf l) (note j (log.editOf k a s′ n) (log.valueOf catalogue F (logLent l) .undo)) (log.valueOf catalogue F (logLent l))) r rb tb
-  logged-as r rb tb q = subst (λ (x : List ℕ). log.Logged F (logLent l) (recordOut F (sizesOf l) (note j (log.editOf k a x n) (log.valueOf catalogue F (logLent l) .undo)) (log.valueOf catalogue F (logLent l))) r rb tb) e q
+  logged-as r rb tb q = subst (λ (x : List ℕ). log.Logged F (logLent l)
+      (recordOut F (sizesOf l) (note j (log.editOf k a x n) (log.valueOf catalogue F (logLent l) .undo)) (log.valueOf catalogue F (logLent l))) r rb tb) e q
 
 -- the answer as a function gave it
 pub edited-as : (F : Format) (l : Lent) (o : Outcome State) (r r′ : EditAnswer) (t rb tb : List ℕ) → r ≡ r′ → Edited F l o r′ t rb tb → Edited F l o r t rb tb

@@ -9,8 +9,8 @@ use Rattle.checks.proofs.Fit.{fit}
 use Rattle.formats.specs.Formats.{Fit}
 use Rattle.formats.specs.declared.Format.{Format}
 use Rattle.numbers.proofs.Numbers.{Bytes}
-use Rattle.changeset.specs.Logs.{overSizes, damaged}
-use Rattle.changeset.proofs.Passed as passed
+use Rattle.log_state.specs.Logs.{overSizes, damaged}
+use Rattle.log_state.proofs.Passed as passed
 use Rattle.edit.specs.declared.Own.{Own}
 use Rattle.edit.specs.Calls.{Lent, logLent, own, checked, Ready}
 
@@ -79,7 +79,8 @@ module _ (F : Format) (l : Lent) (o : Own) where
     first = text-is ∙ ap (λ (c : Bool). chain (T .sizes || false) (o .code) (T .foreign || o .foreign) (T .place || o .place) c 0) (or-false (T .split))
 
     pub by-text : (k : ℕ) → k ≡ textNumber → (k ≡ 0 → ⊥) → k ≡ checked catalogue F l (own o)
-    by-text k e h = sym (same ∙ early (T .sizes || false) (o .code) (T .foreign || o .foreign) (T .place || o .place) (T .split) (o .split) (cond (broken || false) 8 0) k (sym first ∙ sym e) h)
+    by-text k e h = sym (same ∙ early (T .sizes || false) (o .code) (T .foreign || o .foreign) (T .place || o .place) (T .split) (o .split)
+        (cond (broken || false) 8 0) k (sym first ∙ sym e) h)
 
     module _ (k : ℕ) (e : k ≡ textNumber) (z : k ≡ 0) where
       rest : checked catalogue F l (own o) ≡ cond (o .split) 6 (cond (broken || false) 8 0)

@@ -14,10 +14,10 @@ use Rattle.utf8.proofs.Encode.{size-encode}
 use Rattle.unicode.specs.Repertoire.{Repertoire}
 use Rattle.cluster.specs.Clusters.{clustersOf}
 use Rattle.checks.specs.Outcome.{Outcome, refused, answered}
-use Rattle.journal.specs.Change.{Edit, insert, delete, replace, Change}
+use Rattle.log_model.specs.Change.{Edit, insert, delete, replace, Change}
 use Rattle.formats.specs.declared.Format.{Format}
-use Rattle.journal.specs.Recording.{isSingle, note, recordInsert, recordInsertStr, recordDelete, recordReplace}
-use Rattle.journal.specs.Undo.{Sizes, fits}
+use Rattle.log_model.specs.Recording.{isSingle, note, recordInsert, recordInsertStr, recordDelete, recordReplace}
+use Rattle.log_model.specs.UndoBytes.{Sizes, fits}
 use Rattle.edit.specs.Plan.{Piece, State, changeOut, changed, cutting, edited, listAfter, made, notedOr, once, pasted, recorded, splice, swapping, textAfter, tooLong, typed}
 use Rattle.edit.proofs.Parts.{part-length}
 
@@ -54,7 +54,8 @@ noted-typed R p c j s u e f =
 
 module _ (R : Repertoire) (F : Format) (z : Sizes) (C p : ℕ) (s : State) where
   -- bytes cut out
-  pub once-cut : (a b : ℕ) (j : Bool) → In (s .text) a b → j ≡ isSingle R (clustersOf R (part (s .text) a b)) → changeOut F z C j (delete a (part (s .text) a b)) p s ≡ edited R F z C (once (cutting a b) p) s
+  pub once-cut : (a b : ℕ) (j : Bool) → In (s .text) a b → j ≡ isSingle R (clustersOf R (part (s .text) a b))
+      → changeOut F z C j (delete a (part (s .text) a b)) p s ≡ edited R F z C (once (cutting a b) p) s
   once-cut a b j i e =
       let h = i .0 in
       let k : b ≡ a + length (part (s .text) a b) = omega (arith, part-length R (s .text) a b i) in

@@ -13,8 +13,8 @@ use Rattle.utf8.proofs.Boundary.{boundary-drop}
 use Rattle.unicode.specs.Repertoire.{Repertoire}
 use Rattle.unicode.specs.Text.{isText}
 use Rattle.unicode.proofs.Text.{text-cut}
-use Rattle.journal.specs.Change.{insert}
-use Rattle.changeset.specs.Calls.{Numbered}
+use Rattle.log_model.specs.Change.{insert}
+use Rattle.log_state.specs.Calls.{Numbered}
 
 -- nothing lies between a place and itself
 pub part-none : (t : List ℕ) (a : ℕ) → part t a a ≡ []

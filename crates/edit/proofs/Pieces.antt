@@ -17,17 +17,17 @@ use Rattle.unicode.specs.Text.{isText}
 use Rattle.unicode.proofs.Typed.{char-text}
 use Rattle.unicode.proofs.Text.{text-nil}
 use Rattle.cluster.specs.Clusters.{clustersOf}
-use Rattle.journal.specs.Change.{Edit, insert, delete, replace, Change, edit, place, old, new}
+use Rattle.log_model.specs.Change.{Edit, insert, delete, replace, Change, edit, place, old, new}
 use Rattle.numbers.specs.Numbers.{top}
 use Rattle.formats.specs.declared.Format.{Format}
-use Rattle.journal.specs.Layout.{okChange, AllGood}
-use Rattle.journal.specs.Recording.{isSingle, note, recordInsert, recordReplace}
-use Rattle.journal.specs.Undo.{undoRecords, undoTexts}
-use Rattle.records.specs.Records.{kindNumber}
-use Rattle.recording.specs.Tails.{tailOf, noted}
-use Rattle.recording.specs.declared.Tail.{Tail}
-use Rattle.recording.proofs.Numbers.{tail-records, tail-texts, tail-place}
-use Rattle.recording.proofs.Put.{put, put-records, put-texts, put-good}
+use Rattle.log_model.specs.Layout.{okChange, AllGood}
+use Rattle.log_model.specs.Recording.{isSingle, note, recordInsert, recordReplace}
+use Rattle.log_model.specs.UndoBytes.{undoRecords, undoTexts}
+use Rattle.log_records.specs.Records.{kindNumber}
+use Rattle.log_recording.specs.Tails.{tailOf, noted}
+use Rattle.log_recording.specs.declared.Tail.{Tail}
+use Rattle.log_recording.proofs.Numbers.{tail-records, tail-texts, tail-place}
+use Rattle.log_recording.proofs.Put.{put, put-records, put-texts, put-good}
 use Rattle.edit.specs.Plan.{Piece, typed, pasted, cutting, swapping, Suits, splice, made, recorded, blank, notedOr}
 use Rattle.edit.proofs.Parts.{part-text}
 use Rattle.edit.proofs.Once.{noted-insert, noted-delete}
@@ -150,7 +150,8 @@ module _ (F : Format) (j : Bool) (x : Edit) (u : List Change) where
   note-texts : length (undoTexts after) ≡ length (undoTexts u) + length (old x) + length (new x)
   note-texts = sym (tail-texts F after) ∙ ap (λ (t : Tail). t .texts) (sym (put F j x u .tail)) ∙ put-texts F x u after _ (put F j x u)
 
-  note-good : (R : Repertoire) → AllGood R (F .width) u → okChange R (edit x) ≡ true → 0 < top (F .width) → place x < top (F .width) → length (undoTexts after) < top (F .width) → AllGood R (F .width) after
+  note-good : (R : Repertoire) → AllGood R (F .width) u → okChange R (edit x) ≡ true → 0 < top (F .width) → place x < top (F .width)
+      → length (undoTexts after) < top (F .width) → AllGood R (F .width) after
   note-good R g o w p t =
       put-good F x u after _ (put F j x u) R g o
       (noted-place F j (kindNumber x) (place x) (length (old x)) (length (new x)) (tailOf F u) (top (F .width)) (tail-place F R u g w) p)
@@ -174,6 +175,7 @@ module _ (F : Format) (j : Bool) (x : Edit) (u : List Change) where
   pub more-texts : length (undoTexts (notedOr j x u)) ≡ length (undoTexts u) + (length (old x) + length (new x))
   more-texts = by-test _ (blank x) (λ e. rw (e, blank-none x e) (omega arith)) (λ e. rw e (note-texts F j x u ∙ omega arith))
 
-  pub more-good : (R : Repertoire) → AllGood R (F .width) u → okChange R (edit x) ≡ true → 0 < top (F .width) → place x < top (F .width) → length (undoTexts (notedOr j x u)) < top (F .width) → AllGood R (F .width) (notedOr j x u)
+  pub more-good : (R : Repertoire) → AllGood R (F .width) u → okChange R (edit x) ≡ true → 0 < top (F .width) → place x < top (F .width)
+      → length (undoTexts (notedOr j x u)) < top (F .width) → AllGood R (F .width) (notedOr j x u)
   more-good R g o w p t =
       by-test (AllGood R (F .width) (notedOr j x u)) (blank x) (λ e. rw e g) (λ e. rw e (note-good F j x u R g o w p (rw e at t)))

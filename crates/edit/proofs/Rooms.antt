@@ -15,22 +15,22 @@ use Rattle.utf8.specs.Chars.{In}
 use Rattle.unicode.specs.Repertoire.{Repertoire, catalogue}
 use Rattle.unicode.specs.Text.{isText}
 use Rattle.cluster.specs.Clusters.{clustersOf}
-use Rattle.journal.specs.Change.{Edit, insert, delete, Change, place, old, new}
+use Rattle.log_model.specs.Change.{Edit, insert, delete, Change, place, old, new}
 use Rattle.numbers.specs.Numbers.{top}
 use Rattle.formats.specs.declared.Format.{Format}
 use Rattle.formats.specs.Formats.{textMax, recordsMax}
-use Rattle.journal.specs.Layout.{AllGood}
-use Rattle.journal.specs.Recording.{isSingle}
-use Rattle.journal.specs.Undo.{undoRecords, undoTexts, Sizes, fits}
-use Rattle.journal.proofs.Undo.{fits-yes}
-use Rattle.records.specs.Records.{kindNumber}
-use Rattle.recording.specs.Tails.{tailOf, TailAt, noted, InRange}
-use Rattle.recording.specs.declared.Tail.{Tail}
-use Rattle.recording.specs.declared.Noted.{Noted}
-use Rattle.recording.proofs.Numbers.{tail-records, tail-texts, tail-within, tail-place}
-use Rattle.recording.proofs.Put.{put}
-use Rattle.changeset.specs.Calls as log
-use Rattle.changeset.proofs.Recorded.{lays, good, fits-now}
+use Rattle.log_model.specs.Layout.{AllGood}
+use Rattle.log_model.specs.Recording.{isSingle}
+use Rattle.log_model.specs.UndoBytes.{undoRecords, undoTexts, Sizes, fits}
+use Rattle.log_model.proofs.UndoBytes.{fits-yes}
+use Rattle.log_records.specs.Records.{kindNumber}
+use Rattle.log_recording.specs.Tails.{tailOf, TailAt, noted, InRange}
+use Rattle.log_recording.specs.declared.Tail.{Tail}
+use Rattle.log_recording.specs.declared.Noted.{Noted}
+use Rattle.log_recording.proofs.Numbers.{tail-records, tail-texts, tail-within, tail-place}
+use Rattle.log_recording.proofs.Put.{put}
+use Rattle.log_state.specs.Calls as log
+use Rattle.log_state.proofs.Recorded.{lays, good, fits-now}
 use Rattle.edit.specs.declared.Room.{Room}
 use Rattle.edit.specs.Plan.{cutting, pasted, Piece, Suits, recorded, blank, notedOr}
 use Rattle.edit.specs.Calls.{Lent, logLent, sizesOf, stateOf, Ready}
@@ -77,16 +77,19 @@ module _ (F : Format) (z : Sizes) (r : Room) where
 
 -- ---- the tail after a change
 module _ (F : Format) where
-  tail-noted : (j : Bool) (x : Edit) (u : List Change) → blank x ≡ false → noted F j (kindNumber x) (place x) (length (old x)) (length (new x)) (tailOf F u) .tail ≡ tailOf F (notedOr j x u)
+  tail-noted : (j : Bool) (x : Edit) (u : List Change) → blank x ≡ false
+      → noted F j (kindNumber x) (place x) (length (old x)) (length (new x)) (tailOf F u) .tail ≡ tailOf F (notedOr j x u)
   tail-noted j x u e = put F j x u .tail ∙ ap (tailOf F) (sym (rw e))
 
-  pub tail-cut : (R : Repertoire) (t : List ℕ) (a b : ℕ) (j : Bool) (u : List Change) → In t a b → j ≡ isSingle R (clustersOf R (part t a b)) → tailCut F j a b (tailOf F u) ≡ tailOf F (recorded R (cutting a b) t u)
+  pub tail-cut : (R : Repertoire) (t : List ℕ) (a b : ℕ) (j : Bool) (u : List Change) → In t a b → j ≡ isSingle R (clustersOf R (part t a b))
+      → tailCut F j a b (tailOf F u) ≡ tailOf F (recorded R (cutting a b) t u)
   unfolding tailCut
   tail-cut R t a b j u i e =
       let n = part-length R t a b i in
       let h = i .0 in
       ap (λ (c : Bool). cond (eqb a b) (tailOf F u) (noted F c 4 a (b - a) 0 (tailOf F u) .tail)) e
-      ∙ by-test (cond (eqb a b) (tailOf F u) (noted F (isSingle R (clustersOf R (part t a b))) 4 a (b - a) 0 (tailOf F u) .tail) ≡ tailOf F (recorded R (cutting a b) t u)) (eqb a b)
+      ∙ by-test (cond (eqb a b) (tailOf F u) (noted F (isSingle R (clustersOf R (part t a b))) 4 a (b - a) 0 (tailOf F u) .tail) ≡ tailOf F
+      (recorded R (cutting a b) t u)) (eqb a b)
       (λ f.
       let g = eqb-true a b f in
       let none : part t a b ≡ [] = none-left (part t a b) (omega arith) in
@@ -115,7 +118,8 @@ pub record Roomy (R : Repertoire) (F : Format) (z : Sizes) (u : List Change) (r 
 
 module _ (R : Repertoire) (F : Format) (z : Sizes) (w : z .texts < top (F .width)) where
   -- the dry run's numbers are small
-  pub roomy-in-range : (u : List Change) (r : Room) (o n : ℕ) → Roomy R F z u r → 0 < top (F .width) → top (F .width) ≤ 4294967296 → z .records ≤ recordsMax → o ≤ textMax → n ≤ textMax → r .fits ≡ true → InRange (r .tail) o n
+  pub roomy-in-range : (u : List Change) (r : Room) (o n : ℕ) → Roomy R F z u r → 0 < top (F .width) → top (F .width) ≤ 4294967296
+      → z .records ≤ recordsMax → o ≤ textMax → n ≤ textMax → r .fits ≡ true → InRange (r .tail) o n
   roomy-in-range u r o n q a b c d e f =
       let g = and-both (leb (length (undoRecords F u)) (z .records)) (leb (length (undoTexts u)) (z .texts)) (sym (fits-lengths R F z w u (q .good)) ∙ sym (q .fit) ∙ f) in
       let h = leb-true (length (undoRecords F u)) (z .records) (g .0) in
@@ -131,7 +135,8 @@ module _ (R : Repertoire) (F : Format) (z : Sizes) (w : z .texts < top (F .width
       })
 
   -- one change more
-  module _ (C : ℕ) (v : C < top (F .width)) (x : Piece) (t : List ℕ) (u : List Change) (s : Suits R x t) (is : isText R t ≡ true) (h : length t ≤ C) (r : Room) (q : Roomy R F z u r) where
+  module _ (C : ℕ) (v : C < top (F .width)) (x : Piece) (t : List ℕ) (u : List Change) (s : Suits R x t) (is : isText R t ≡ true) (h : length t ≤ C)
+      (r : Room) (q : Roomy R F z u r) where
     abbrev y : List Change
     y = recorded R x t u
 
@@ -203,8 +208,10 @@ module _ (F : Format) (l : Lent) (h : Ready F l) where
     dry-in-range o n w a b e = roomy-in-range catalogue F (sizesOf l) wide u r o n q (omega (arith, wide)) w (omega (arith, h .log .records, h .log .fit .records)) a b e
 
     module _ (t : List ℕ) (is : isText catalogue t ≡ true) (m : length t ≤ length (l .text)) where
-      pub dry-cut : (a b : ℕ) (j : Bool) → Suits catalogue (cutting a b) t → j ≡ isSingle catalogue (clustersOf catalogue (part t a b)) → Roomy catalogue F (sizesOf l) (recorded catalogue (cutting a b) t u) (roomCut F (sizesOf l) j a b r)
+      pub dry-cut : (a b : ℕ) (j : Bool) → Suits catalogue (cutting a b) t → j ≡ isSingle catalogue (clustersOf catalogue (part t a b))
+          → Roomy catalogue F (sizesOf l) (recorded catalogue (cutting a b) t u) (roomCut F (sizesOf l) j a b r)
       dry-cut a b j s e = roomy-cut catalogue F (sizesOf l) wide (length (l .text)) high t u is m r q a b j s e
 
-      pub dry-put : (p : ℕ) (x : List ℕ) → Suits catalogue (pasted p x) t → Roomy catalogue F (sizesOf l) (recorded catalogue (pasted p x) t u) (roomPut F (sizesOf l) p (length x) r)
+      pub dry-put : (p : ℕ) (x : List ℕ) → Suits catalogue (pasted p x) t
+          → Roomy catalogue F (sizesOf l) (recorded catalogue (pasted p x) t u) (roomPut F (sizesOf l) p (length x) r)
       dry-put p x s = roomy-put catalogue F (sizesOf l) wide (length (l .text)) high t u is m r q p x s

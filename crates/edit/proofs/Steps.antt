@@ -10,12 +10,12 @@ use borrow.Author.Tests.{ltb-false, leb-true, leb-false}
 use Rattle.lists.proofs.Bools.{and-both, or-none, by-test}
 use Rattle.unicode.specs.Repertoire.{Repertoire}
 use Rattle.unicode.specs.Text.{isText}
-use Rattle.journal.specs.Change.{Change, old, new}
+use Rattle.log_model.specs.Change.{Change, old, new}
 use Rattle.numbers.specs.Numbers.{top}
 use Rattle.formats.specs.declared.Format.{Format}
-use Rattle.journal.specs.Layout.{AllGood}
-use Rattle.journal.specs.Undo.{undoRecords, undoTexts, allSmall, Sizes, fits}
-use Rattle.journal.proofs.Undo.{fits-yes, full-records, full-texts}
+use Rattle.log_model.specs.Layout.{AllGood}
+use Rattle.log_model.specs.UndoBytes.{undoRecords, undoTexts, allSmall, Sizes, fits}
+use Rattle.log_model.proofs.UndoBytes.{fits-yes, full-records, full-texts}
 use Rattle.edit.specs.Plan.{Piece, Suits, AllSuit, made, recorded, textAfter, listAfter, tooLong}
 use Rattle.edit.proofs.Pieces.{editAt, joinsAt, place-at, recorded-as, ok-at, suits-in, made-text, more-records, more-texts, more-good}
 
@@ -41,7 +41,8 @@ module _ (R : Repertoire) where
     pub records-grow : (x : Piece) (t : List ℕ) (u : List Change) → length (undoRecords F u) ≤ length (undoRecords F (recorded R x t u))
     records-grow x t u = omega (arith, more-records F (joinsAt R x t) (editAt x t) u, ap (λ (v : List Change). length (undoRecords F v)) (recorded-as R x t u))
 
-    pub texts-grow : (x : Piece) (t : List ℕ) (u : List Change) → length (undoTexts (recorded R x t u)) ≡ length (undoTexts u) + (length (old (editAt x t)) + length (new (editAt x t)))
+    pub texts-grow : (x : Piece) (t : List ℕ) (u : List Change) → length (undoTexts (recorded R x t u)) ≡ length (undoTexts u) +
+        (length (old (editAt x t)) + length (new (editAt x t)))
     texts-grow x t u = ap (λ (v : List Change). length (undoTexts v)) (recorded-as R x t u) ∙ more-texts F (joinsAt R x t) (editAt x t) u
 
     pub records-after : (xs : List Piece) (t : List ℕ) (u : List Change) → length (undoRecords F u) ≤ length (undoRecords F (listAfter R xs t u))
@@ -56,16 +57,19 @@ module _ (R : Repertoire) where
 
     -- its numbers fit their bytes, where places are within C and the texts are not too long
     module _ (C : ℕ) (w : C < top (F .width)) where
-      pub good-step : (x : Piece) (t : List ℕ) (u : List Change) → Suits R x t → isText R t ≡ true → length t ≤ C → AllGood R (F .width) u → length (undoTexts (recorded R x t u)) < top (F .width) → AllGood R (F .width) (recorded R x t u)
+      pub good-step : (x : Piece) (t : List ℕ) (u : List Change) → Suits R x t → isText R t ≡ true → length t ≤ C → AllGood R (F .width) u
+          → length (undoTexts (recorded R x t u)) < top (F .width) → AllGood R (F .width) (recorded R x t u)
       good-step x t u h v c g l =
           let e = recorded-as R x t u in
           let i = suits-in R x t h in
           let a = i .0 in
           let b = i .1 in
           subst (AllGood R (F .width)) (sym e)
-          (more-good F (joinsAt R x t) (editAt x t) u R g (ok-at R x t v h) (omega arith) (omega (arith, place-at x t)) (omega (arith, ap (λ (y : List Change). length (undoTexts y)) e)))
+          (more-good F (joinsAt R x t) (editAt x t) u R g (ok-at R x t v h) (omega arith) (omega (arith, place-at x t))
+          (omega (arith, ap (λ (y : List Change). length (undoTexts y)) e)))
 
-      pub good-after : (xs : List Piece) (t : List ℕ) (u : List Change) → AllSuit R xs t → isText R t ≡ true → length t ≤ C → tooLong C xs t ≡ false → AllGood R (F .width) u → length (undoTexts (listAfter R xs t u)) < top (F .width)
+      pub good-after : (xs : List Piece) (t : List ℕ) (u : List Change) → AllSuit R xs t → isText R t ≡ true → length t ≤ C → tooLong C xs t ≡ false
+          → AllGood R (F .width) u → length (undoTexts (listAfter R xs t u)) < top (F .width)
           → AllGood R (F .width) (listAfter R xs t u)
       unfolding listAfter AllSuit tooLong
       good-after [] t u h v c n g l = g

@@ -13,7 +13,7 @@ use Rattle.unicode.proofs.Text.{text-valid}
 use Rattle.checks.specs.Checks.{Tests, withSplit, both, laterNumber, refusal, lineTests, ownTests}
 use Rattle.checks.proofs.Fit.{Passed, fit}
 use Rattle.formats.specs.declared.Format.{Format}
-use Rattle.changeset.specs.Logs.{logTests}
+use Rattle.log_state.specs.Logs.{logTests}
 use Rattle.edit.specs.declared.EditAnswer.{EditAnswer}
 use Rattle.edit.specs.Plan.{Plan}
 use Rattle.edit.specs.Calls.{Lent, textOf, says, Edited, checked, editCall}
@@ -54,10 +54,12 @@ module _ (F : Format) (l : Lent) (t : Tests) where
   skip false false false false false y d k a b e = ap (chain false false false false false y d k) (e refl refl refl refl)
 
   -- the call's own 6 is looked at only where the text and its cursor pass 2, 4, 5 and 6
-  pub split-within : (a b : Bool) → (T .sizes ≡ false → T .foreign ≡ false → T .place ≡ false → T .split ≡ false → a ≡ b) → checked catalogue F l (withSplit a t) ≡ checked catalogue F l (withSplit b t)
+  pub split-within : (a b : Bool) → (T .sizes ≡ false → T .foreign ≡ false → T .place ≡ false → T .split ≡ false → a ≡ b)
+      → checked catalogue F l (withSplit a t) ≡ checked catalogue F l (withSplit b t)
   unfolding refusal
   split-within a b e =
-      skip (T .sizes || (L .sizes || t .sizes)) (false || (false || t .code)) (T .foreign || (false || t .foreign)) (T .place || (false || t .place)) (T .split) (false || (false || t .prompt)) (false || (L .damaged || t .damaged)) (laterNumber (t .later)) a b
+      skip (T .sizes || (L .sizes || t .sizes)) (false || (false || t .code)) (T .foreign || (false || t .foreign)) (T .place || (false || t .place))
+      (T .split) (false || (false || t .prompt)) (false || (L .damaged || t .damaged)) (laterNumber (t .later)) a b
       (λ p q r s. e (or-none (T .sizes) (L .sizes || t .sizes) p .0) (or-none (T .foreign) (false || t .foreign) q .0) (or-none (T .place) (false || t .place) r .0) s)
 
   pub split-as : (a b : Bool) → (T .sizes ≡ false → T .foreign ≡ false → a ≡ b) → checked catalogue F l (withSplit a t) ≡ checked catalogue F l (withSplit b t)
@@ -67,12 +69,18 @@ module _ (F : Format) (l : Lent) (t : Tests) where
   pub own-split-as : (a b : Bool) → (t .foreign ≡ false → a ≡ b) → checked catalogue F l (withSplit a t) ≡ checked catalogue F l (withSplit b t)
   unfolding refusal
   own-split-as a b e =
-      skip (T .sizes || (L .sizes || t .sizes)) (false || (false || t .code)) (T .foreign || (false || t .foreign)) (T .place || (false || t .place)) (T .split) (false || (false || t .prompt)) (false || (L .damaged || t .damaged)) (laterNumber (t .later)) a b
+      skip (T .sizes || (L .sizes || t .sizes)) (false || (false || t .code)) (T .foreign || (false || t .foreign)) (T .place || (false || t .place))
+      (T .split) (false || (false || t .prompt)) (false || (L .damaged || t .damaged)) (laterNumber (t .later)) a b
       (λ p q r s. e (or-none (T .foreign) (false || t .foreign) q .1))
 
 -- a text that 2 and 4 pass
-pub text-lent : (F : Format) (l : Lent) → lineTests catalogue F (l .text) (l .line) .sizes ≡ false → lineTests catalogue F (l .text) (l .line) .foreign ≡ false → (l .line .len ≤ length (l .text)) × (valid (textOf l) ≡ true)
-text-lent F l s f = (ltb-false _ _ (or-none (ltb (F .text) (length (l .text))) (ltb (length (l .text)) (l .line .len)) s .1), text-valid catalogue (textOf l) (not-false (isText catalogue (textOf l)) f))
+pub text-lent : (F : Format) (l : Lent) → lineTests catalogue F (l .text) (l .line) .sizes ≡ false
+    → lineTests catalogue F (l .text) (l .line) .foreign ≡ false → (l .line .len ≤ length (l .text)) × (valid (textOf l) ≡ true)
+text-lent F l s f = (
+  ltb-false _ _ (or-none (ltb (F .text) (length (l .text))) (ltb (length (l .text)) (l .line .len)) s .1),
+  text-valid catalogue
+      (textOf l) (not-false (isText catalogue (textOf l)) f),
+)
 
 -- a code that names nothing
 pub unnamed : (F : Format) (l : Lent) (p : Plan) (k : ℕ) (r : EditAnswer) → k ≡ checked catalogue F l (ownTests true false false) → r ≡ says k (l .line) (l .log)

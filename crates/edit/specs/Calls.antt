@@ -10,13 +10,13 @@ use Rattle.utf8.specs.Chars.{boundary}
 use Rattle.checks.specs.Checks.{Tests, noTests, withSizes, withCode, withForeign, withPlace, withSplit, both, refusal, lineTests}
 use Rattle.checks.specs.declared.Line.{Line}
 use Rattle.checks.specs.Outcome.{Outcome, refused, answered, called}
-use Rattle.journal.specs.Change.{place}
+use Rattle.log_model.specs.Change.{place}
 use Rattle.formats.specs.declared.Format.{Format}
 use Rattle.formats.specs.Formats.{formatFor}
-use Rattle.journal.specs.Undo.{Sizes}
-use Rattle.changeset.specs.declared.Log.{Log}
-use Rattle.changeset.specs.Logs.{logTests}
-use Rattle.changeset.specs.Calls as log
+use Rattle.log_model.specs.UndoBytes.{Sizes}
+use Rattle.log_state.specs.declared.Log.{Log}
+use Rattle.log_state.specs.Logs.{logTests}
+use Rattle.log_state.specs.Calls as log
 use Rattle.edit.specs.declared.EditAnswer.{EditAnswer}
 use Rattle.edit.specs.declared.Own.{Own}
 use Rattle.edit.specs.Plan.{State, Plan, edited}
@@ -78,6 +78,14 @@ Bytes F l (answered k a b s) t rb tb = Stored F s t rb tb
 pub record Edited (F : Format) (l : Lent) (o : Outcome State) (r : EditAnswer) (t rb tb : List ℕ) : Type 0 where
   pub answer : r ≡ answerOf F l o
   pub bytes : Bytes F l o t rb tb
+
+-- of a call, in the format that goes with the text buffer that it is lent
+abbrev pub Answers : Lent → (Format → Lent → Outcome State) → EditAnswer → List ℕ → List ℕ → List ℕ → Type 0
+Answers l call r t rb tb = Edited (formatOf l) l (call (formatOf l) l) r t rb tb
+
+-- of a plan that is made
+abbrev pub Makes : Format → Lent → Plan → EditAnswer → List ℕ → List ℕ → List ℕ → Type 0
+Makes F l p r t rb tb = Edited F l (edited catalogue F (sizesOf l) (length (l .text)) p (stateOf catalogue F l)) r t rb tb
 
 -- ---- the checks 2 to 8, with the tests of the call's own
 abbrev pub own : Own → Tests

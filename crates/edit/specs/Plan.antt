@@ -11,11 +11,11 @@ use Rattle.utf8.specs.Encode.{encode}
 use Rattle.unicode.specs.Repertoire.{Repertoire}
 use Rattle.unicode.specs.Text.{isText, isChar}
 use Rattle.checks.specs.Outcome.{Outcome, refused, answered}
-use Rattle.journal.specs.Change.{Edit, insert, delete, replace, Change, place, old, new}
+use Rattle.log_model.specs.Change.{Edit, insert, delete, replace, Change, place, old, new}
 use Rattle.formats.specs.declared.Format.{Format}
-use Rattle.journal.specs.Recording.{note, recordInsert, recordInsertStr, recordDelete, recordReplace}
-use Rattle.journal.specs.Groups.{Log}
-use Rattle.journal.specs.Undo.{Sizes, fits}
+use Rattle.log_model.specs.Recording.{note, recordInsert, recordInsertStr, recordDelete, recordReplace}
+use Rattle.log_model.specs.Groups.{Log}
+use Rattle.log_model.specs.UndoBytes.{Sizes, fits}
 
 -- t with s in the place of its bytes from a up to b
 unfoldable pub splice : List ℕ → ℕ → ℕ → List ℕ → List ℕ

@@ -5,9 +5,9 @@ use mathlib.Core.List.{List}
 use lib.Dec.{eqb, leb}
 use lib.ListN.{length}
 use Rattle.formats.specs.declared.Format.{Format}
-use Rattle.journal.specs.Undo.{Sizes}
-use Rattle.recording.specs.Tails.{noted}
-use Rattle.recording.specs.declared.Tail.{Tail}
+use Rattle.log_model.specs.UndoBytes.{Sizes}
+use Rattle.log_recording.specs.Tails.{noted}
+use Rattle.log_recording.specs.declared.Tail.{Tail}
 use Rattle.edit.specs.declared.Room.{Room}
 
 -- the lengths of the log's two buffers

@@ -1,4 +1,5 @@
-// What edits share: the checks of a lent text and log together, and one change made in the text and recorded in the log.
+// What edits share: the checks of a lent text and log together, one change made in the text and recorded in the log, and an edit of
+// two changes, a cut and then a text put in, of which it is decided before the first whether both fit.
 ghost use mathlib.Core.Path.{_≡_};
 ghost use mathlib.Core.Bool.{true, false, not};
 ghost use Prim.Native.Nat.{_≤_, _<_, _+_, _-_};
@@ -8,30 +9,32 @@ ghost use Rattle.utf8.specs.Chars.{valid, boundary, In};
 ghost use Rattle.unicode.specs.Repertoire.{catalogue};
 ghost use Rattle.unicode.specs.Text.{isText};
 ghost use Rattle.cluster.specs.Clusters.{clustersOf};
-ghost use Rattle.journal.specs.Change.{edit};
-ghost use Rattle.journal.specs.Recording.{isSingle};
+ghost use Rattle.log_model.specs.Change.{edit};
+ghost use Rattle.log_model.specs.Recording.{isSingle};
 ghost use Rattle.numbers.specs.Numbers.{top};
-ghost use Rattle.journal.specs.Layout.{okChange};
-ghost use Rattle.formats.specs.Formats.{Fit};
-ghost use Rattle.changeset.specs.Calls.{editOf, Numbered, lent as Log·lent, valueOf, Ready as Log·Ready};
-ghost use Rattle.records.specs.Walks.{LastAt, NewestAt};
-ghost use Rattle.recording.specs.Tails.{InRange, tailOf};
-ghost use Rattle.edit.specs.Plan.{cutting, pasted, once, edited, changeOut};
+ghost use Rattle.log_model.specs.Layout.{okChange};
+ghost use Rattle.formats.specs.Formats.{Fit, textMax};
+ghost use Rattle.log_state.specs.Calls.{editOf, Numbered, lent as Log·lent, valueOf, Ready as Log·Ready};
+ghost use Rattle.log_records.specs.Walks.{LastAt, NewestAt};
+ghost use Rattle.log_recording.specs.Tails.{InRange, tailOf};
+ghost use Rattle.edit.specs.Plan.{cutting, pasted, once, changeOut, AllSuit, listAfter};
 ghost use Rattle.edit.specs.Room.{sizesBy, tailCut, tailPut, roomCut, roomPut};
-ghost use Rattle.edit.specs.Calls.{lent, sizesOf, stateOf, says as Calls·says, checked, own, Edited, Ready};
+ghost use Rattle.edit.specs.Calls.{lent, sizesOf, stateOf, says as Calls·says, checked, own, Edited, Ready, Makes};
+ghost use mathlib.Core.List.{[], _∷_};
+ghost use Rattle.log_model.specs.UndoBytes.{fits};
 use buffer::cut_bytes;
 use buffer::insert_bytes;
-use changeset::Checked;
-use changeset::Log;
-use changeset::is_single;
-use changeset::look;
-use changeset::over_sizes;
-use changeset::refused;
 use checks::Line;
 use checks::refusal_in;
 use formats::Format;
-use recording::Tail;
-use recording::tail_at;
+use log_recording::Tail;
+use log_recording::tail_at;
+use log_state::Checked;
+use log_state::Log;
+use log_state::is_single;
+use log_state::look;
+use log_state::over_sizes;
+use log_state::refused;
 use utf8::is_boundary;
 
 #[repr(C)]
@@ -230,10 +233,10 @@ pub fn cut_out(
     requires { ⌜ Fit f ⌝ }
     requires { ⌜ Ready f (lent (now text) (now records) (now texts) line log) ⌝ }
     requires { ⌜ In (take (line .len) (now text)) from to ⌝ }
-    requires { ⌜ (isSingle catalogue (clustersOf catalogue (part (take (line .len) (now text)) from to)) ≡ true → LastAt catalogue f (take (log .undo .records) (now records)) last) ⌝ }
-    ensures { λ r. ⌜ Edited f (lent (now (text .entry)) (now (records .entry)) (now (texts .entry)) line log)
-        (edited catalogue f (sizesOf (lent (now (text .entry)) (now (records .entry)) (now (texts .entry)) line log)) (length (now (text .entry))) (once (cutting from to) from)
-        (stateOf catalogue f (lent (now (text .entry)) (now (records .entry)) (now (texts .entry)) line log)))
+    requires { ⌜ (isSingle catalogue (clustersOf catalogue (part (take (line .len) (now text)) from to)) ≡ true
+        → LastAt catalogue f (take (log .undo .records) (now records)) last) ⌝ }
+    ensures { λ r. ⌜ Makes f (lent (now (text .entry)) (now (records .entry)) (now (texts .entry)) line log)
+        (once (cutting from to) from)
         r (now (text .exit)) (now (records .exit)) (now (texts .exit)) ⌝ }
 {
     let joins = is_single(&text[from..to]);
@@ -271,9 +274,8 @@ pub fn put_in(
     requires { ⌜ Ready f (lent (now text) (now records) (now texts) line log) ⌝ }
     requires { ⌜ In (take (line .len) (now text)) at at ⌝ }
     requires { ⌜ isText catalogue (now new) ≡ true ⌝ }
-    ensures { λ r. ⌜ Edited f (lent (now (text .entry)) (now (records .entry)) (now (texts .entry)) line log)
-        (edited catalogue f (sizesOf (lent (now (text .entry)) (now (records .entry)) (now (texts .entry)) line log)) (length (now (text .entry))) (once (pasted at (now (new .entry))) cursor)
-        (stateOf catalogue f (lent (now (text .entry)) (now (records .entry)) (now (texts .entry)) line log)))
+    ensures { λ r. ⌜ Makes f (lent (now (text .entry)) (now (records .entry)) (now (texts .entry)) line log)
+        (once (pasted at (now (new .entry))) cursor)
         r (now (text .exit)) (now (records .exit)) (now (texts .exit)) ⌝ }
 {
     change(
@@ -375,5 +377,86 @@ pub fn room_put(f: Format, records: &[u8], texts: &[u8], r: Room, at: usize, siz
     Room {
         fits: (tail.records <= records.len()) & (tail.texts <= texts.len()),
         tail,
+    }
+}
+
+// Has the log room for a cut and then a text put in?
+fn pair_fits(
+    f: Format,
+    text: &[u8],
+    records: &[u8],
+    texts: &[u8],
+    line: Line,
+    log: Log,
+    last: usize,
+    from: usize,
+    to: usize,
+    at: usize,
+    new: &[u8],
+) -> bool
+    requires { ⌜ Fit f ⌝ }
+    requires { ⌜ Ready f (lent (now text) (now records) (now texts) line log) ⌝ }
+    requires { ⌜ LastAt catalogue f (take (log .undo .records) (now records)) last ⌝ }
+    requires { ⌜ AllSuit catalogue (cutting from to ∷ pasted at (now new) ∷ []) (take (line .len) (now text)) ⌝ }
+    requires { ⌜ length (now new) ≤ textMax ⌝ }
+    ensures { λ r. ⌜ r ≡ fits f (sizesOf (lent (now (text .entry)) (now (records .entry)) (now (texts .entry)) line log))
+        (listAfter catalogue (cutting from to ∷ pasted at (now (new .entry)) ∷ []) (take (line .len) (now (text .entry)))
+        (stateOf catalogue f (lent (now (text .entry)) (now (records .entry)) (now (texts .entry)) line log) .log .undo)) ⌝ }
+{
+    let joins = is_single(&text[from..to]);
+    let a = room_now(f, records, texts, log, last);
+    let b = room_cut(f, records, texts, a, joins, from, to);
+    let c = room_put(f, records, texts, b, at, new.len());
+    c.fits
+}
+
+// The bytes from a place up to another cut out, then a text put in at a place of what is left. 9 and 10 are decided over both
+// before a byte changes. The newest record begins at last.
+pub fn cut_and_put(
+    f: Format,
+    text: &mut [u8],
+    records: &mut [u8],
+    texts: &mut [u8],
+    line: Line,
+    log: Log,
+    last: usize,
+    from: usize,
+    to: usize,
+    at: usize,
+    new: &[u8],
+    cursor: usize,
+    number: u32,
+) -> EditAnswer
+    requires { ⌜ Fit f ⌝ }
+    requires { ⌜ Ready f (lent (now text) (now records) (now texts) line log) ⌝ }
+    requires { ⌜ LastAt catalogue f (take (log .undo .records) (now records)) last ⌝ }
+    requires { ⌜ AllSuit catalogue (cutting from to ∷ pasted at (now new) ∷ []) (take (line .len) (now text)) ⌝ }
+    ensures { λ r. ⌜ Makes f (lent (now (text .entry)) (now (records .entry)) (now (texts .entry)) line log)
+        (record { pieces = cutting from to ∷ pasted at (now (new .entry)) ∷ []; cursor = cursor; number = number; from = 0; to = 0 })
+        r (now (text .exit)) (now (records .exit)) (now (texts .exit)) ⌝ }
+{
+    let left = line.len - (to - from);
+    if text.len() - left < new.len() {
+        return says(9, line, log);
+    }
+    if !pair_fits(f, text, records, texts, line, log, last, from, to, at, new) {
+        return says(10, line, log);
+    }
+    let a = cut_out(f, text, records, texts, line, log, last, from, to);
+    let cut = a.line;
+    let cut_log = a.log;
+    let b = put_in(f, text, records, texts, cut, cut_log, at, new, at);
+    let put = b.line;
+    let log = b.log;
+    let line = Line {
+        len: put.len,
+        cursor,
+    };
+    EditAnswer {
+        number,
+        from: 0,
+        to: 0,
+        line,
+        log,
     }
 }

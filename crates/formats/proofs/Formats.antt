@@ -7,7 +7,15 @@ use Rattle.formats.specs.Formats.{formatFor, Fit}
 
 pub format-fit : (C : ℕ) → Fit (formatFor C)
 unfolding formatFor
-format-fit C = record { width = record { least = omega arith; most = omega arith; even = refl }; offset = omega arith; places = omega arith; lengths = omega arith; text = omega arith; records = omega arith }
+format-fit C = record {
+  width = record { least = omega arith; most = omega arith; even = refl };
+  offset = omega arith;
+  places = omega arith;
+  lengths
+      = omega arith;
+  text = omega arith;
+  records = omega arith;
+}
 
 -- the same of a format that is found to be it
 pub fit-for : {F : Format} (C : ℕ) → F ≡ formatFor C → Fit F

@@ -38,12 +38,14 @@ module _ (l : Lent) where
   -- an action that is no yank changes nothing else
   pub reset-left : alone 0 (numbers (l .ring) (l .ring .index) 2 0) ≡ leftOf (l .ring) (resetOut (valueOf l))
   reset-left =
-      ap (λ (n : ℕ). alone 0 (record { size = l .ring .size; count = n; index = l .ring .index; action = 2; yanked = 0 })) (sym (slots-length (l .slots) (l .lens) 0 (l .ring .count)))
+      ap (λ (n : ℕ). alone 0 (record { size = l .ring .size; count = n; index = l .ring .index; action = 2; yanked = 0 }))
+      (sym (slots-length (l .slots) (l .lens) 0 (l .ring .count)))
 
   -- a kill on a ring of size 0
   pub kill-left : alone 0 (numbers (l .ring) (l .ring .index) 0 0) ≡ leftOf (l .ring) (answered 0 0 0 (withAction (valueOf l) Kill))
   kill-left =
-      ap (λ (n : ℕ). alone 0 (record { size = l .ring .size; count = n; index = l .ring .index; action = 0; yanked = 0 })) (sym (slots-length (l .slots) (l .lens) 0 (l .ring .count)))
+      ap (λ (n : ℕ). alone 0 (record { size = l .ring .size; count = n; index = l .ring .index; action = 0; yanked = 0 }))
+      (sym (slots-length (l .slots) (l .lens) 0 (l .ring .count)))
 
 module _ (R : Repertoire) (l : Lent) (p : Ready R l) where
   -- the answer 1 leaves the record as it was
@@ -51,7 +53,8 @@ module _ (R : Repertoire) (l : Lent) (p : Ready R l) where
   same-left = ap (alone 1) (sym (ring-back R l p))
 
   -- a slot yanked: its number, a size, and the slot's own length for the record
-  pub yanked-left : (i n : ℕ) → i < l .ring .count → record { answer = says 0 i n; ring = numbers (l .ring) i 1 (lenAt (l .lens) i) } ≡ leftOf (l .ring) (answered 0 i n (yanked i (valueOf l)))
+  pub yanked-left : (i n : ℕ) → i < l .ring .count → record { answer = says 0 i n; ring = numbers (l .ring) i 1 (lenAt (l .lens) i) } ≡ leftOf
+      (l .ring) (answered 0 i n (yanked i (valueOf l)))
   yanked-left i n h =
       ap₂ (λ (m k : ℕ). record { answer = says 0 i n; ring = record { size = l .ring .size; count = m; index = i; action = 1; yanked = k } })
       (sym (slots-length (l .slots) (l .lens) 0 (l .ring .count))) (sym (slot-length R l p i h))
@@ -60,7 +63,8 @@ module _ (R : Repertoire) (l : Lent) (p : Ready R l) where
   pub yank-none : l .ring .count ≡ 0 → alone 1 (l .ring) ≡ leftOf (l .ring) (yankOut (valueOf l))
   unfolding yankOut
   yank-none e =
-      same-left ∙ ap (λ (b : Bool). leftOf (l .ring) (cond b (answered 1 0 0 (valueOf l)) (answered 0 (l .ring .index) 0 (yanked (l .ring .index) (valueOf l))))) (sym (slots-none (l .slots) (l .lens) 0 (l .ring .count) e))
+      same-left ∙ ap (λ (b : Bool). leftOf (l .ring) (cond b (answered 1 0 0 (valueOf l))
+      (answered 0 (l .ring .index) 0 (yanked (l .ring .index) (valueOf l))))) (sym (slots-none (l .slots) (l .lens) 0 (l .ring .count) e))
 
   -- yank answers the slot where we are
   pub yank-some : 0 < l .ring .count → l .ring .index < l .ring .count
@@ -68,7 +72,8 @@ module _ (R : Repertoire) (l : Lent) (p : Ready R l) where
   unfolding yankOut
   yank-some h k =
       yanked-left (l .ring .index) 0 k
-      ∙ ap (λ (b : Bool). leftOf (l .ring) (cond b (answered 1 0 0 (valueOf l)) (answered 0 (l .ring .index) 0 (yanked (l .ring .index) (valueOf l))))) (sym (slots-some (l .slots) (l .lens) 0 (l .ring .count) h))
+      ∙ ap (λ (b : Bool). leftOf (l .ring) (cond b (answered 1 0 0 (valueOf l))
+      (answered 0 (l .ring .index) 0 (yanked (l .ring .index) (valueOf l))))) (sym (slots-some (l .slots) (l .lens) 0 (l .ring .count) h))
 
   -- ---- yank_pop
   -- the slot before, round to the last
@@ -92,7 +97,8 @@ module _ (R : Repertoire) (l : Lent) (p : Ready R l) where
   unfolding yankPopOut
   pop-none n a e =
       same-left
-      ∙ ap (λ (b : Bool). leftOf (l .ring) (cond b (answered 1 0 0 (valueOf l)) (answered 0 (previousIndex (valueOf l)) n (yanked (previousIndex (valueOf l)) (valueOf l))))) (sym (slots-none (l .slots) (l .lens) 0 (l .ring .count) e))
+      ∙ ap (λ (b : Bool). leftOf (l .ring) (cond b (answered 1 0 0 (valueOf l))
+      (answered 0 (previousIndex (valueOf l)) n (yanked (previousIndex (valueOf l)) (valueOf l))))) (sym (slots-none (l .slots) (l .lens) 0 (l .ring .count) e))
       ∙ ap (λ (x : Action). leftOf (l .ring) (popOut x (valueOf l))) (sym a)
 
   -- slots, and a yank before: the slot before it, with the size of that yank
@@ -102,7 +108,8 @@ module _ (R : Repertoire) (l : Lent) (p : Ready R l) where
   pop-some n i a h k q =
       yanked-left i n k
       ∙ ap (λ (j : ℕ). leftOf (l .ring) (answered 0 j n (yanked j (valueOf l)))) (q ∙ sym previous-is)
-      ∙ ap (λ (b : Bool). leftOf (l .ring) (cond b (answered 1 0 0 (valueOf l)) (answered 0 (previousIndex (valueOf l)) n (yanked (previousIndex (valueOf l)) (valueOf l))))) (sym (slots-some (l .slots) (l .lens) 0 (l .ring .count) h))
+      ∙ ap (λ (b : Bool). leftOf (l .ring) (cond b (answered 1 0 0 (valueOf l))
+      (answered 0 (previousIndex (valueOf l)) n (yanked (previousIndex (valueOf l)) (valueOf l))))) (sym (slots-some (l .slots) (l .lens) 0 (l .ring .count) h))
       ∙ ap (λ (x : Action). leftOf (l .ring) (popOut x (valueOf l))) (sym a)
 
   -- after anything but a yank

@@ -29,7 +29,8 @@ new-other : (g : Ring) → leftOf g (newCall 2) ≡ record { answer = says 0 0 0
 new-other g = refl
 
 -- reset: the slots and the index stay, and the yank's size goes
-reset-stays : (g : Ring) → leftOf g (resetOut (two (a ∷ bb ∷ []) 1 (Yank 2))) ≡ record { answer = says 0 0 0; ring = record { size = 2; count = 2; index = 1; action = 2; yanked = 0 } }
+reset-stays : (g : Ring) → leftOf g (resetOut (two (a ∷ bb ∷ []) 1 (Yank 2))) ≡ record
+    { answer = says 0 0 0; ring = record { size = 2; count = 2; index = 1; action = 2; yanked = 0 } }
 reset-stays g = refl
 
 -- yank: 1 where there are no slots, and no size in its answer
@@ -55,6 +56,7 @@ kill-joins : killOut Prepend bb (two (a ∷ []) 0 Kill) ≡ answered 0 0 0 (two 
 unfolding killOut putAt
 kill-joins = refl
 
-kill-full : (killOut Append (replicate 4097 0x61) (empty 2) ≡ refused 11) × (killOut Append (replicate 4097 0x61) (empty 0) ≡ answered 0 0 0 (record { size = 0; slots = []; index = 0; action = Kill }))
+kill-full : (killOut Append (replicate 4097 0x61) (empty 2) ≡ refused 11)
+    × (killOut Append (replicate 4097 0x61) (empty 0) ≡ answered 0 0 0 (record { size = 0; slots = []; index = 0; action = Kill }))
 unfolding killOut
 kill-full = (refl, refl)

@@ -13,7 +13,8 @@ use Rattle.unicode.specs.Text.{isText}
 use Rattle.kill_ring.specs.declared.Action.{Action}
 use Rattle.kill_ring.specs.declared.Action.the-variants.{Kill, Yank, Other}
 use Rattle.kill_ring.specs.Ring.{KillRing}
-use Rattle.kill_ring.specs.Calls.{Lent, lent, lenAt, slotsFrom, actionOf, valueOf, anyOver, overSizes, actionBreaks, indexBreaks, anyForeign, damaged, checked, actionNumber, yankSize, ringOf, Held}
+use Rattle.kill_ring.specs.Calls.{Lent, lent, lenAt, slotsFrom, actionOf, valueOf, anyOver, overSizes, actionBreaks, indexBreaks}
+use Rattle.kill_ring.specs.Calls.{anyForeign, damaged, checked, actionNumber, yankSize, ringOf, Held}
 use Rattle.kill_ring.specs.Sound.{SoundIndex, SoundAction, SoundSlots, Sound}
 use Rattle.kill_ring.proofs.Slots.{slots-length}
 use Rattle.kill_ring.proofs.Passed.{Ready, ready, in-use-all, says-passed}
@@ -69,7 +70,8 @@ texts-pass R (s ∷ ss) h = rw (h .0) (texts-pass R ss (h .2))
 held-slots : (slots lens : List ℕ) (i : ℕ) (ss : List (List ℕ)) → Held slots lens i ss → slotsFrom slots lens i (length ss) ≡ ss
 unfolding Held slotsFrom
 held-slots slots lens i [] h = refl
-held-slots slots lens i (s ∷ ss) h = ap₂ (λ (x : List ℕ) (y : List (List ℕ)). x ∷ y) (ap (λ (n : ℕ). take n (drop (4096 * i) slots)) (h .0) ∙ h .1) (held-slots slots lens (suc i) ss (h .2))
+held-slots slots lens i (s ∷ ss) h = ap₂ (λ (x : List ℕ) (y : List (List ℕ)). x ∷ y) (ap (λ (n : ℕ). take n (drop (4096 * i) slots)) (h .0) ∙ h .1)
+    (held-slots slots lens (suc i) ss (h .2))
 
 -- and their lengths
 lengths-pass : (slots lens : List ℕ) (i : ℕ) (ss : List (List ℕ)) → Held slots lens i ss → Short ss → anyOver lens i (length ss) ≡ false
@@ -89,7 +91,8 @@ index-passes v h = go (v .slots) h
 
 -- a sound last action meets none of the tests
 action-breaks : (a : Action) (size : ℕ) (ss : List (List ℕ)) → SoundAction a size ss
-    → (ltb 2 (actionNumber a) || (cond (eqb (actionNumber a) 1) (ltb 4096 (yankSize a)) (not (eqb (yankSize a) 0)) || (eqb (actionNumber a) 0 && (eqb (length ss) 0 && not (eqb size 0))))) ≡ false
+    → (ltb 2 (actionNumber a) || (cond (eqb (actionNumber a) 1) (ltb 4096 (yankSize a)) (not (eqb (yankSize a) 0)) ||
+    (eqb (actionNumber a) 0 && (eqb (length ss) 0 && not (eqb size 0))))) ≡ false
 action-breaks Kill size [] e = ap not (eq-eqb size 0 e)
 action-breaks Kill size (s ∷ ss) h = ap (λ (b : Bool). b && not (eqb size 0)) (eqb·suc-zero (length ss))
 action-breaks (Yank n) size ss h = ap (λ (b : Bool). b || false) (le-ltb 4096 n h)
@@ -107,7 +110,8 @@ action-found (Yank n) = refl
 action-found Other = refl
 
 -- a sound ring in buffers that are long enough
-module _ (R : Repertoire) (slots lens : List ℕ) (v : KillRing) (sound : Sound R v) (bytes : 4096 * v .size ≤ length slots) (numbers : 2 * v .size ≤ length lens) (held : Held slots lens 0 (v .slots)) where
+module _ (R : Repertoire) (slots lens : List ℕ) (v : KillRing) (sound : Sound R v) (bytes : 4096 * v .size ≤ length slots)
+    (numbers : 2 * v .size ≤ length lens) (held : Held slots lens 0 (v .slots)) where
   -- its record with these buffers
   abbrev there : Lent
   there = lent slots lens (ringOf v)
@@ -137,4 +141,5 @@ module _ (R : Repertoire) (slots lens : List ℕ) (v : KillRing) (sound : Sound 
   -- and it is what the next call finds
   pub found : valueOf there ≡ v
   found =
-      ap₂ (λ (ss : List (List ℕ)) (a : Action). record { size = v .size; slots = ss; index = v .index; action = a }) (held-slots slots lens 0 (v .slots) held) (action-found (v .action))
+      ap₂ (λ (ss : List (List ℕ)) (a : Action). record { size = v .size; slots = ss; index = v .index; action = a })
+      (held-slots slots lens 0 (v .slots) held) (action-found (v .action))

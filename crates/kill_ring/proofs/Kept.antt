@@ -18,7 +18,8 @@ use Rattle.kill_ring.specs.declared.Action.the-variants.{Kill, Yank, Oth
 use Rattle.kill_ring.specs.declared.Mode.{Mode}
 use Rattle.kill_ring.specs.declared.Mode.the-variants.{Append, Prepend}
 use Rattle.kill_ring.specs.declared.ModeCode.the-variants as code
-use Rattle.kill_ring.specs.Ring.{KillRing, isEmpty, slotAt, putAt, empty, withAction, resetOut, joined, nextIndex, killIndex, killText, stored, killOut, yankOut, previousIndex, yanked, popOut, yankPopOut}
+use Rattle.kill_ring.specs.Ring.{KillRing, isEmpty, slotAt, putAt, empty, withAction, resetOut, joined, nextIndex, killIndex}
+use Rattle.kill_ring.specs.Ring.{killText, stored, killOut, yankOut, previousIndex, yanked, popOut, yankPopOut}
 use Rattle.kill_ring.specs.Calls.{Lent, valueOf, checked, resetCall, killBy, yankCall, yankPopCall}
 use Rattle.kill_ring.specs.Sound.{SoundIndex, SoundAction, SoundSlots, Sound}
 use Rattle.kill_ring.proofs.Passed.{passed, own-passed}
@@ -172,8 +173,19 @@ disabled-kill size (s ∷ ss) e = tt
 pub kill-kept : (R : Repertoire) (m : Mode) (text : List ℕ) (v : KillRing) → isText R text ≡ true → Sound R v → Kept R v (leaves (killOut m text v) v)
 unfolding killOut
 kill-kept R m text v t s =
-    cond-ind (λ (o : Outcome KillRing). Kept R v (leaves o v)) (eqb (v .size) 0) (answered 0 0 0 (withAction v Kill)) (cond (ltb 4096 (length after)) (refused 11) (answered 0 0 0 (stored i after v)))
-    (λ e. record { size = refl; sound = record { size = s .size; count = s .count; index = s .index; slots = s .slots; action = disabled-kill (v .size) (v .slots) (eqb-true _ _ e) } })
+    cond-ind (λ (o : Outcome KillRing). Kept R v (leaves o v)) (eqb (v .size) 0) (answered 0 0 0 (withAction v Kill))
+    (cond (ltb 4096 (length after)) (refused 11) (answered 0 0 0 (stored i after v)))
+    (λ e. record {
+      size = refl;
+      sound = record {
+        size = s .size;
+        count = s .count;
+        index = s .index;
+        slots = s .slots;
+        action = disabled-kill
+            (v .size) (v .slots) (eqb-true _ _ e);
+      };
+    })
     (λ e.
     cond-ind (λ (o : Outcome KillRing). Kept R v (leaves o v)) (ltb 4096 (length after)) (refused 11) (answered 0 0 0 (stored i after v))
     (λ f. same-kept R v s)

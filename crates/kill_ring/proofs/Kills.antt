@@ -100,7 +100,8 @@ slot-other g e = ap (λ (b : Bool). cond b (g .index) (nextOf g)) (ne-eqb (g .ac
 
 -- the next slot is that of the ring on values
 next-is : (l : Lent) → nextOf (l .ring) ≡ nextIndex (valueOf l)
-next-is l = ap (λ (b : Bool). cond (eqb (l .ring .index) (l .ring .size - 1)) 0 (cond b (l .ring .index) (l .ring .index + 1))) (sym (slots-empty (l .slots) (l .lens) 0 (l .ring .count)))
+next-is l = ap (λ (b : Bool). cond (eqb (l .ring .index) (l .ring .size - 1)) 0 (cond b (l .ring .index) (l .ring .index + 1)))
+    (sym (slots-empty (l .slots) (l .lens) 0 (l .ring .count)))
 
 -- the slot is that of the ring on values
 slot-of : (l : Lent) → slotOf (l .ring) ≡ killIndex (valueOf l .action) (valueOf l)
@@ -161,7 +162,8 @@ module _ (R : Repertoire) (l : Lent) (p : Ready R l) where
         cond-ind (λ (i : ℕ). (i < l .ring .size) × (i ≤ l .ring .count)) (eqb (l .ring .action) 0) (l .ring .index) (nextOf (l .ring))
         (λ a. let k = index-in R l p (kill-some h (eqb-true _ _ a)) in (omega (arith, p .count), omega arith))
         (λ a.
-        cond-ind (λ (i : ℕ). (i < l .ring .size) × (i ≤ l .ring .count)) (eqb (l .ring .index) (l .ring .size - 1)) 0 (cond (eqb (l .ring .count) 0) (l .ring .index) (l .ring .index + 1))
+        cond-ind (λ (i : ℕ). (i < l .ring .size) × (i ≤ l .ring .count)) (eqb (l .ring .index) (l .ring .size - 1)) 0
+        (cond (eqb (l .ring .count) 0) (l .ring .index) (l .ring .index + 1))
         (λ b. (h, omega arith))
         (λ b.
         cond-ind (λ (i : ℕ). (i < l .ring .size) × (i ≤ l .ring .count)) (eqb (l .ring .count) 0) (l .ring .index) (l .ring .index + 1)
@@ -215,7 +217,8 @@ module _ (R : Repertoire) (l : Lent) (p : Ready R l) where
     pub kill-disabled : (r : Left) → l .ring .size ≡ 0 → r ≡ alone 0 (numbers (l .ring) (l .ring .index) 0 0) → Ringed l (killOut m text (valueOf l)) r (l .slots) (l .lens)
     unfolding killOut
     kill-disabled r e q =
-        subst (λ (b : Bool). Ringed l (cond b (answered 0 0 0 (withAction (valueOf l) Kill)) (cond (ltb 4096 (length after)) (refused 11) (answered 0 0 0 (stored (killIndex (valueOf l .action) (valueOf l)) after (valueOf l))))) r (l .slots) (l .lens))
+        subst (λ (b : Bool). Ringed l (cond b (answered 0 0 0 (withAction (valueOf l) Kill))
+        (cond (ltb 4096 (length after)) (refused 11) (answered 0 0 0 (stored (killIndex (valueOf l .action) (valueOf l)) after (valueOf l))))) r (l .slots) (l .lens))
         (sym (eq-eqb (l .ring .size) 0 e)) (record { left = q ∙ kill-left l; bytes = ready-held })
 
     module _ (h : 0 < l .ring .size) where
@@ -229,11 +232,14 @@ module _ (R : Repertoire) (l : Lent) (p : Ready R l) where
       out-with : (b : Bool) → ltb 4096 (length after) ≡ b → killOut m text (valueOf l) ≡ cond b (refused 11) (answered 0 0 0 (stored (slotOf (l .ring)) after (valueOf l)))
       unfolding killOut
       out-with b e =
-          ap (λ (t : Bool). cond t (answered 0 0 0 (withAction (valueOf l) Kill)) (cond (ltb 4096 (length after)) (refused 11) (answered 0 0 0 (stored (killIndex (valueOf l .action) (valueOf l)) after (valueOf l))))) (ne-eqb (l .ring .size) 0 (λ z. omega arith))
+          ap (λ (t : Bool). cond t (answered 0 0 0 (withAction (valueOf l) Kill))
+          (cond (ltb 4096 (length after)) (refused 11) (answered 0 0 0 (stored (killIndex (valueOf l .action) (valueOf l)) after (valueOf l)))))
+          (ne-eqb (l .ring .size) 0 (λ z. omega arith))
           ∙ ap₂ (λ (t : Bool) (i : ℕ). cond t (refused 11) (answered 0 0 0 (stored i after (valueOf l)))) e (sym (slot-of l))
 
       -- 11: the slot would pass 4,096 bytes
-      pub kill-full : (r : Left) (u : ℕ) → u ≡ usedOf (l .lens) (l .ring) → 4096 - u < length text → r ≡ alone 11 (l .ring) → Ringed l (killOut m text (valueOf l)) r (l .slots) (l .lens)
+      pub kill-full : (r : Left) (u : ℕ) → u ≡ usedOf (l .lens) (l .ring) → 4096 - u < length text → r ≡ alone 11 (l .ring)
+          → Ringed l (killOut m text (valueOf l)) r (l .slots) (l .lens)
       kill-full r u e k q =
           let z = used-most h in
           let f : ltb 4096 (length after) ≡ true = lt-ltb 4096 (length after) (omega (arith, after-length)) in
@@ -241,7 +247,8 @@ module _ (R : Repertoire) (l : Lent) (p : Ready R l) where
 
       -- the text in its slot, and its length beside it
       pub kill-done : (r : Left) (g : Ring) (u i at : ℕ) (s t : List ℕ) → u ≡ usedOf (l .lens) (l .ring) → length text ≤ 4096 - u → i ≡ slotOf (l .ring) → at ≡ placeOf m u
-          → Put (l .slots) i (inserted (take u (drop (4096 * i) (l .slots))) at text) s → t ≡ sets (l .lens) (2 * i) (le 2 (u + length text)) → g ≡ killedInto (l .ring) i → r ≡ alone 0 g
+          → Put (l .slots) i (inserted (take u (drop (4096 * i) (l .slots))) at text) s → t ≡ sets (l .lens) (2 * i) (le 2 (u + length text))
+          → g ≡ killedInto (l .ring) i → r ≡ alone 0 g
           → Ringed l (killOut m text (valueOf l)) r s t
       unfolding killedInto
       kill-done r g u i at s t eu fit ei ea put et eg er =
@@ -264,7 +271,8 @@ module _ (R : Repertoire) (l : Lent) (p : Ready R l) where
           (record {
             left =
                 er ∙ ap (alone 0) eg
-                ∙ ap (λ (n : ℕ). alone 0 (record { size = l .ring .size; count = n; index = i; action = 0; yanked = 0 })) (put-length (valueOf l .slots) i (l .ring .count) after count le-count);
+                ∙ ap (λ (n : ℕ). alone 0 (record { size = l .ring .size; count = n; index = i; action = 0; yanked = 0 }))
+                (put-length (valueOf l .slots) i (l .ring .count) after count le-count);
             bytes =
                 held-put (l .slots) (l .lens) s t i (others (l .slots) (l .lens) s t i (u + length text) after room there et) 0 i (valueOf l .slots) after
                 (put-at (l .slots) (l .lens) s t i (u + length text) after room small size there et) (omega arith) (omega arith) ready-short ready-held;
@@ -277,7 +285,8 @@ module _ (R : Repertoire) (l : Lent) (text : List ℕ) (mode : ℕ) where
   named m r s t e q = subst (λ (x : ModeCode). Ringed l (killBy R l text x) r s t) (sym e) q
 
   -- a number that names none is refused
-  pub unnamed : (k : ℕ) (r : Left) → modeOf mode ≡ code.Unknown → k ≡ checked R l true (not (isText R text)) → r ≡ alone k (l .ring) → Ringed l (killCall R l text mode) r (l .slots) (l .lens)
+  pub unnamed : (k : ℕ) (r : Left) → modeOf mode ≡ code.Unknown → k ≡ checked R l true (not (isText R text)) → r ≡ alone k (l .ring)
+      → Ringed l (killCall R l text mode) r (l .slots) (l .lens)
   unnamed k r e q f =
       subst (λ (x : ModeCode). Ringed l (killBy R l text x) r (l .slots) (l .lens)) (sym e)
       (ringed-refused l k (checked R l true (not (isText R text))) (resetOut (valueOf l)) r q (λ z. code-refused R l (not (isText R text)) (sym q ∙ z)) f)

@@ -30,17 +30,20 @@ pub record Next (R : Repertoire) (v : KillRing) (g : Ring) (slots lens : List �
   pub value : valueOf (lent slots lens g) ≡ v
 
 -- a sound ring that the buffers hold
-held-next : (R : Repertoire) (v : KillRing) (g : Ring) (slots lens : List ℕ) → Sound R v → 4096 * v .size ≤ length slots → 2 * v .size ≤ length lens → Held slots lens 0 (v .slots) → g ≡ ringOf v
+held-next : (R : Repertoire) (v : KillRing) (g : Ring) (slots lens : List ℕ) → Sound R v → 4096 * v .size ≤ length slots → 2 * v .size ≤ length lens
+    → Held slots lens 0 (v .slots) → g ≡ ringOf v
     → Next R v g slots lens
 held-next R v g slots lens sound bytes numbers held e =
     subst (λ (x : Ring). Next R v x slots lens) (sym e)
     (record { ready = passes-ready R slots lens v sound bytes numbers held; value = found R slots lens v sound bytes numbers held })
 
 -- after any call that the checks pass
-pub next : (R : Repertoire) (l : Lent) (o : Outcome KillRing) (r : Left) (s t : List ℕ) → Ready R l → Kept R (valueOf l) (leaves o (valueOf l)) → Ringed l o r s t → length s ≡ length (l .slots)
+pub next : (R : Repertoire) (l : Lent) (o : Outcome KillRing) (r : Left) (s t : List ℕ) → Ready R l → Kept R (valueOf l) (leaves o (valueOf l))
+    → Ringed l o r s t → length s ≡ length (l .slots)
     → length t ≡ length (l .lens) → Next R (leaves o (valueOf l)) (r .ring) s t
 next R l (refused k) r s t p kept done a b =
-    let same : lent s t (r .ring) ≡ l = ap₂ (λ (x y : List ℕ). lent x y (r .ring)) (done .bytes .0) (done .bytes .1) ∙ ap (λ (x : Left). lent (l .slots) (l .lens) (x .ring)) (done .left) in
+    let same : lent s t (r .ring) ≡ l = ap₂ (λ (x y : List ℕ). lent x y (r .ring)) (done .bytes .0) (done .bytes .1)
+    ∙ ap (λ (x : Left). lent (l .slots) (l .lens) (x .ring)) (done .left) in
     record { ready = subst (Ready R) (sym same) p; value = ap valueOf same }
 next R l (answered k i n v) r s t p kept done a b =
     held-next R v (r .ring) s t (kept .sound) (omega (arith, kept .size, p .slots)) (omega (arith, kept .size, p .lens)) (done .bytes) (ap (λ (x : Left). x .ring) (done .left))
@@ -77,7 +80,8 @@ pop-same v = go (v .action)
 
 module _ (R : Repertoire) (l : Lent) (r : Left) where
   -- what such a call leaves
-  quiet-next : (o : Outcome KillRing) → checked R l false false ≡ 0 → Same (valueOf l) o → Kept R (valueOf l) (leaves o (valueOf l)) → r ≡ leftOf (l .ring) o → Next R (leaves o (valueOf l)) (r .ring) (l .slots) (l .lens)
+  quiet-next : (o : Outcome KillRing) → checked R l false false ≡ 0 → Same (valueOf l) o → Kept R (valueOf l) (leaves o (valueOf l))
+      → r ≡ leftOf (l .ring) o → Next R (leaves o (valueOf l)) (r .ring) (l .slots) (l .lens)
   quiet-next o e h kept q = let p = passed R l false false e in next R l o r (l .slots) (l .lens) p kept (quiet R l o r p h q) refl refl
 
   -- reset
@@ -93,12 +97,14 @@ module _ (R : Repertoire) (l : Lent) (r : Left) where
   pop-next e q = quiet-next (yankPopCall R l) e (called-same (valueOf l) (checked R l false false) (yankPopOut (valueOf l)) (pop-same (valueOf l))) (pop-leaves R l e) q
 
   -- ---- kill
-  pub kill-next : (text : List ℕ) (m : Mode) (s t : List ℕ) → checked R l false (not (isText R text)) ≡ 0 → Ringed l (killBy R l text (code.Is m)) r s t → length s ≡ length (l .slots)
+  pub kill-next : (text : List ℕ) (m : Mode) (s t : List ℕ) → checked R l false (not (isText R text)) ≡ 0
+      → Ringed l (killBy R l text (code.Is m)) r s t → length s ≡ length (l .slots)
       → length t ≡ length (l .lens) → Next R (leaves (killBy R l text (code.Is m)) (valueOf l)) (r .ring) s t
   kill-next text m s t e done a b = next R l (killBy R l text (code.Is m)) r s t (passed R l false (not (isText R text)) e) (kill-leaves R l text m e) done a b
 
 -- ---- new: with any buffers that are long enough
-pub new-next : (R : Repertoire) (g : Ring) (size : ℕ) (r : Left) (slots lens : List ℕ) → size ≤ 16 → 4096 * size ≤ length slots → 2 * size ≤ length lens → r ≡ leftOf g (newCall size)
+pub new-next : (R : Repertoire) (g : Ring) (size : ℕ) (r : Left) (slots lens : List ℕ) → size ≤ 16 → 4096 * size ≤ length slots
+    → 2 * size ≤ length lens → r ≡ leftOf g (newCall size)
     → Next R (empty size) (r .ring) slots lens
 unfolding Held
 new-next R g size r slots lens h bytes numbers e =

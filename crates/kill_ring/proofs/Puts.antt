@@ -107,12 +107,14 @@ pub others : (slots lens slots′ lens′ : List ℕ) (i n : ℕ) (text : List �
 others slots lens slots′ lens′ i n text room put e j s apart short at =
     by-less (At slots′ lens′ j s) j i
     (λ h. (
-      ap (λ (l : List ℕ). lenAt l j) e ∙ num-before lens (lens-after lens i n) (2 * i) (2 * i + 2) (len-before lens i n room) (len-behind lens i n room) 2 (2 * j) (omega arith) ∙ at .0,
+      ap (λ (l : List ℕ). lenAt l j) e ∙ num-before lens (lens-after lens i n) (2 * i) (2 * i + 2) (len-before lens i n room)
+          (len-behind lens i n room) 2 (2 * j) (omega arith) ∙ at .0,
       part-before slots slots′ (4096 * i) (4096 * i + 4096) (put .before) (put .behind) (4096 * j) (length s) (omega arith) ∙ at .1,
     ))
     (λ h.
     let k : i < j = above h in (
-      ap (λ (l : List ℕ). lenAt l j) e ∙ num-behind lens (lens-after lens i n) (2 * i) (2 * i + 2) (len-before lens i n room) (len-behind lens i n room) 2 (2 * j) (omega arith) ∙ at .0,
+      ap (λ (l : List ℕ). lenAt l j) e ∙ num-behind lens (lens-after lens i n) (2 * i) (2 * i + 2) (len-before lens i n room)
+          (len-behind lens i n room) 2 (2 * j) (omega arith) ∙ at .0,
       ap (take (length s)) (drop-behind slots slots′ (4096 * i) (4096 * i + 4096) (put .before) (put .behind) (4096 * j) (omega arith)) ∙ at .1,
     ))
   where
@@ -120,7 +122,8 @@ others slots lens slots′ lens′ i n text room put e j s apart short at =
     above h = omega (arith, apart)
 
 -- the slot that was written
-pub put-at : (slots lens slots′ lens′ : List ℕ) (i n : ℕ) (text : List ℕ) → 2 * i + 2 ≤ length lens → n < 65536 → n ≡ length text → Put slots i text slots′ → lens′ ≡ sets lens (2 * i) (le 2 n)
+pub put-at : (slots lens slots′ lens′ : List ℕ) (i n : ℕ) (text : List ℕ) → 2 * i + 2 ≤ length lens → n < 65536 → n ≡ length text
+    → Put slots i text slots′ → lens′ ≡ sets lens (2 * i) (le 2 n)
     → At slots′ lens′ i text
 put-at slots lens slots′ lens′ i n text room small size put e = (ap (λ (l : List ℕ). lenAt l i) e ∙ len-here lens i n room small ∙ size, put .held)
 
@@ -139,7 +142,8 @@ module _ (slots lens slots′ lens′ : List ℕ) (i : ℕ) (other : Others slot
       (x .0, x .1, held-behind (suc j) ss (omega arith) (short .1) (held .2))
 
   -- all of them: a text in the place of one, or one more
-  pub held-put : (j k : ℕ) (ss : List (List ℕ)) (s : List ℕ) → At slots′ lens′ i s → j + k ≡ i → k ≤ length ss → Short ss → Held slots lens j ss → Held slots′ lens′ j (putAt ss k s)
+  pub held-put : (j k : ℕ) (ss : List (List ℕ)) (s : List ℕ) → At slots′ lens′ i s → j + k ≡ i → k ≤ length ss → Short ss → Held slots lens j ss
+      → Held slots′ lens′ j (putAt ss k s)
   unfolding Held putAt
   held-put j zero [] s here e h short held = let q : i ≡ j = omega arith in let x = subst (λ (m : ℕ). At slots′ lens′ m s) q here in (x .0, x .1, tt)
   held-put j (suc k) [] s here e h short held = absurd (omega arith)

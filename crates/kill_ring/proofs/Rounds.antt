@@ -36,7 +36,8 @@ kill-answers m text v h k = rw (ne-eqb (v .size) 0 (λ e. omega arith), le-ltb 4
 
 -- yank after a kill: the text killed, after a kill joined with what was there
 pub yank-after-kill : (R : Repertoire) (m : Mode) (text : List ℕ) (v : KillRing) → Sound R v → 0 < v .size → length (joined m (joins (v .action) v) text) ≤ 4096
-    → (w : KillRing) × (killOut m text v ≡ answered 0 0 0 w) × (yankOut w ≡ answered 0 (w .index) 0 (yanked (w .index) w)) × (slotAt w (w .index) ≡ joined m (joins (v .action) v) text)
+    → (w : KillRing) × (killOut m text v ≡ answered 0 0 0 w) × (yankOut w ≡ answered 0 (w .index) 0 (yanked (w .index) w))
+    × (slotAt w (w .index) ≡ joined m (joins (v .action) v) text)
 yank-after-kill R m text v s h k =
     let b = target-below R v s h in
     let t = killText (v .action) m text v in
@@ -97,7 +98,8 @@ least : (f s b : List ℕ) → length (f ++ (s ++ b)) ≤ 4096 → length s ≤ 
 least f s b h = omega (arith, length-append f (s ++ b), length-append s b)
 
 -- a slot written by a kill, and kills after it: they all go into that slot
-more : (ks : List Cut) (i : ℕ) (t : List ℕ) (v : KillRing) → i ≤ length (v .slots) → 0 < v .size → length (gathered ks t) ≤ 4096 → Killed (stored i t v) ks (stored i (gathered ks t) v)
+more : (ks : List Cut) (i : ℕ) (t : List ℕ) (v : KillRing) → i ≤ length (v .slots) → 0 < v .size → length (gathered ks t) ≤ 4096
+    → Killed (stored i t v) ks (stored i (gathered ks t) v)
 more [] i t v h z k = ap (λ (x : List ℕ). stored i x v) (append-nil t)
 more (c ∷ ks) i t v h z k =
     let u = stored i t v in

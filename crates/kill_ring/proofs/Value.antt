@@ -63,7 +63,8 @@ acted r e =
     record {
       most = ltb-false 2 (r .action) (a .0);
       size = pick-left (eqb (r .action) 1) (r .yanked) (b .0);
-      none = λ k. eqb-true (r .yanked) 0 (not-false (eqb (r .yanked) 0) (ap (λ (t : Bool). cond t (ltb 4096 (r .yanked)) (not (eqb (r .yanked) 0))) (sym (ne-eqb (r .action) 1 k)) ∙ b .0));
+      none = λ k. eqb-true (r .yanked) 0 (not-false (eqb (r .yanked) 0)
+          (ap (λ (t : Bool). cond t (ltb 4096 (r .yanked)) (not (eqb (r .yanked) 0))) (sym (ne-eqb (r .action) 1 k)) ∙ b .0));
       kill = λ k n. eqb-true (r .size) 0 (and-false (eqb (r .action) 0) (eqb (r .count) 0) (eqb (r .size) 0) (b .1) (eq-eqb (r .action) 0 k) (eq-eqb (r .count) 0 n));
     }
 
@@ -99,7 +100,8 @@ module _ (R : Repertoire) (l : Lent) (p : Ready R l) where
       let g = l .ring in
       let v = valueOf l in
       let a = action-back g (acted g (p .action)) in
-      ap (λ (n : ℕ). record { size = g .size; count = n; index = g .index; action = actionNumber (v .action); yanked = yankSize (v .action) }) (slots-length (l .slots) (l .lens) 0 (g .count))
+      ap (λ (n : ℕ). record { size = g .size; count = n; index = g .index; action = actionNumber (v .action); yanked = yankSize (v .action) })
+      (slots-length (l .slots) (l .lens) 0 (g .count))
       ∙ ap₂ (λ (x y : ℕ). record { size = g .size; count = g .count; index = g .index; action = x; yanked = y }) (a .0) (a .1)
 
   -- ---- the index

@@ -6,7 +6,9 @@ ghost use lib.Dec.{eqb};
 ghost use lib.ListN.{length, take, drop};
 ghost use Rattle.unicode.specs.Repertoire.{catalogue};
 ghost use Rattle.buffer.specs.Edit.{inserted};
-ghost use Rattle.kill_ring.specs.Calls.{lent, lenAt, slotsFrom, actionOf, anyOver, inUse, overSizes, indexBreaks, actionBreaks, anyForeign, damaged, checked, modeOf, says as Calls·says, leftOf, newCall, resetCall, yankCall, yankPopCall, killBy, killCall, Ringed};
+ghost use Rattle.kill_ring.specs.Calls.{lent, lenAt, slotsFrom, actionOf, anyOver, inUse, overSizes, indexBreaks, actionBreaks};
+ghost use Rattle.kill_ring.specs.Calls.{anyForeign, damaged, checked, modeOf, says as Calls·says, leftOf, newCall, resetCall};
+ghost use Rattle.kill_ring.specs.Calls.{yankCall, yankPopCall, killBy, killCall, Ringed};
 ghost use Rattle.kill_ring.specs.Killed.{placeOf, slotOf, usedOf, killedInto, Put};
 use buffer::insert_bytes;
 use numbers::read_num;
@@ -251,7 +253,11 @@ fn with_action(ring: Ring, action: usize) -> Ring
 // The answer of a slot and a size, and the ring after that slot was yanked.
 fn yanked(lens: &[u8], ring: Ring, i: usize, size: usize) -> Left
     requires { ⌜ 2 * i + 2 ≤ length (now lens) ⌝ }
-    ensures { λ r. ⌜ r ≡ record { answer = Calls·says 0 i size; ring = record { size = ring .size; count = ring .count; index = i; action = 1; yanked = lenAt (now (lens .entry)) i } } ⌝ }
+    ensures { λ r. ⌜ r ≡ record {
+      answer = Calls·says 0 i size;
+      ring = record
+          { size = ring .size; count = ring .count; index = i; action = 1; yanked = lenAt (now (lens .entry)) i };
+    } ⌝ }
 {
     let answer = RingAnswer {
         number: 0,

@@ -6,9 +6,9 @@ use Prim.Native.Nat.{ℕ}
 use Rattle.lists.proofs.Bools.{never}
 use Rattle.utf8.specs.Encode.{encode}
 use Rattle.unicode.specs.Repertoire.{catalogue}
-use Rattle.journal.specs.Change.{insert, replace, Change}
-use Rattle.journal.specs.Recording.{note, recordInsert, recordReplace}
-use Rattle.changeset.specs.Calls.{editOf, Numbered}
+use Rattle.log_model.specs.Change.{insert, replace, Change}
+use Rattle.log_model.specs.Recording.{note, recordInsert, recordReplace}
+use Rattle.log_state.specs.Calls.{editOf, Numbered}
 
 pub an-insert : (p : ℕ) (s : List ℕ) → Numbered (editOf 3 p [] s) 3 p [] s
 an-insert p s = record { kind = refl; place = refl; old = refl; new = refl }

@@ -3,13 +3,13 @@
 ghost use mathlib.Core.Path.{_≡_};
 ghost use Rattle.unicode.specs.Repertoire.{catalogue};
 ghost use Rattle.formats.specs.Formats.{logFormat};
-ghost use Rattle.changeset.specs.Calls.{lent, Logged, answerOf, beginCall, endCall, insertCall, insertStrCall, deleteCall, replaceCall, truncateCall, lastInsertCall};
-use changeset::Log;
-use changeset::LogAnswer;
-use changeset::check;
-use changeset::is_single;
-use changeset::says;
+ghost use Rattle.log_state.specs.Calls.{lent, Logged, answerOf, beginCall, endCall, insertCall, insertStrCall, deleteCall, replaceCall, truncateCall, lastInsertCall};
 use formats::format_for;
+use log_state::Log;
+use log_state::LogAnswer;
+use log_state::check;
+use log_state::is_single;
+use log_state::says;
 use unicode::check_char;
 use unicode::check_text;
 use unicode::is_alnum;
@@ -129,7 +129,8 @@ pub fn replace(
     new: &[u8],
 ) -> LogAnswer
     ensures { λ r. ⌜ Logged logFormat (lent (now (records .entry)) (now (texts .entry)) log)
-        (replaceCall catalogue logFormat (lent (now (records .entry)) (now (texts .entry)) log) idx (now (old .entry)) (now (new .entry))) r (now (records .exit)) (now (texts .exit)) ⌝ }
+        (replaceCall catalogue logFormat (lent (now (records .entry)) (now (texts .entry)) log) idx (now (old .entry)) (now (new .entry))) r
+        (now (records .exit)) (now (texts .exit)) ⌝ }
 {
     let f = format_for(0);
     let c = check(f, records, texts, log, !check_text(old) | !check_text(new));

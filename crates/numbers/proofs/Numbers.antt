@@ -21,7 +21,8 @@ pub num-le : (w v at : ℕ) (p q : List ℕ) → length p ≡ at → v < top w �
 num-le zero v at p q e h = omega arith
 num-le (suc w) v at p q e h =
     let here : getD (p ++ (v % 256 ∷ (le w (v / 256) ++ q))) at 0 ≡ v % 256 = getD-at p (v % 256) (le w (v / 256) ++ q) 0 at e in
-    let rest : numAt w ((p ++ (v % 256 ∷ [])) ++ (le w (v / 256) ++ q)) (at + 1) ≡ v / 256 = num-le w (v / 256) (at + 1) (p ++ (v % 256 ∷ [])) q (simp length-append (omega arith)) (omega arith) in
+    let rest : numAt w ((p ++ (v % 256 ∷ [])) ++ (le w (v / 256) ++ q)) (at + 1) ≡ v / 256 = num-le w (v / 256) (at + 1) (p ++ (v % 256 ∷ [])) q
+    (simp length-append (omega arith)) (omega arith) in
     let rest' : numAt w (p ++ (v % 256 ∷ (le w (v / 256) ++ q))) (at + 1) ≡ v / 256 = rw append-assoc at rest in
     omega arith
 

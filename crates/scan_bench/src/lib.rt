@@ -4,9 +4,9 @@ ghost use mathlib.Core.Bool.{false};
 ghost use Rattle.unicode.specs.Repertoire.{catalogue};
 ghost use Rattle.unicode.specs.Text.{isText};
 ghost use Rattle.formats.specs.Formats.{logFormat};
-ghost use Rattle.changeset.specs.Calls.{lent, checked};
-use changeset::Log;
+ghost use Rattle.log_state.specs.Calls.{lent, checked};
 use formats::format_for;
+use log_state::Log;
 
 #[no_mangle]
 pub extern "C" fn tlf_bench_check_text(s: &[u8]) -> bool
@@ -20,5 +20,5 @@ pub extern "C" fn tlf_bench_check_text(s: &[u8]) -> bool
 pub extern "C" fn tlf_bench_check_log(records: &[u8], texts: &[u8], log: Log) -> u32
     ensures { λ r. ⌜ r ≡ checked catalogue logFormat (lent (now (records .entry)) (now (texts .entry)) log) false ⌝ }
 {
-    changeset::check(format_for(0), records, texts, log, false).number
+    log_state::check(format_for(0), records, texts, log, false).number
 }

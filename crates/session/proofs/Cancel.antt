@@ -12,14 +12,14 @@ use Rattle.utf8.specs.Chars.{In}
 use Rattle.unicode.specs.Repertoire.{Repertoire}
 use Rattle.unicode.specs.Text.{isText}
 use Rattle.checks.specs.Outcome.{leaves}
-use Rattle.journal.specs.Change.{Change, begin, end, edit, place, old, turn}
+use Rattle.log_model.specs.Change.{Change, begin, end, edit, place, old, turn}
 use Rattle.formats.specs.declared.Format.{Format}
-use Rattle.journal.specs.Undo.{allSmall}
+use Rattle.log_model.specs.UndoBytes.{allSmall}
 use Rattle.edit.specs.Plan.{State}
-use Rattle.retrace.specs.Retrace.{Trail, undoing}
+use Rattle.undo_step.specs.Retrace.{Trail, undoing}
 use Rattle.undo.specs.Undo.{Walked, trailOf}
-use Rattle.cancel.specs.Cancel.{opens, walkTo, beginsDown, cancelOut}
-use Rattle.cancel.proofs.Cancels.{opens-within}
+use Rattle.undo_cancel.specs.Cancel.{opens, walkTo, beginsDown, cancelOut}
+use Rattle.undo_cancel.proofs.Cancels.{opens-within}
 use Rattle.calls.specs.Calls.{cancel}
 use Rattle.session.specs.Runs.{below}
 use Rattle.session.proofs.Values.{openAfter}
@@ -58,7 +58,8 @@ module _ (R : Repertoire) (F : Format) (Q : List ℕ → Type 0) (t₀ : List �
     left : From k g (w .from) (w .trail)
 
   -- down to the mark, the level is lowered by the Begins, and the groups below the mark stay open
-  down : (C : ℕ) → Bound Q C → (m : ℕ) (u r : List Change) (k : ℕ) (g : List ℕ) (s : Trail) → opens m u ≡ true → From k g u s → Down (k - beginsDown m u) (below m g) (walkTo C m u r s)
+  down : (C : ℕ) → Bound Q C → (m : ℕ) (u r : List Change) (k : ℕ) (g : List ℕ) (s : Trail) → opens m u ≡ true → From k g u s
+      → Down (k - beginsDown m u) (below m g) (walkTo C m u r s)
   unfolding walkTo opens undoing beginsDown
   down C h m [] r k g s o z = absurd (false≢true o)
   down C h m (begin ∷ u) r zero g s o z = absurd (z .groups .opened)

@@ -5,7 +5,7 @@ use Prim.Native.Nat.{ℕ}
 use Rattle.utf8.specs.Utf8.{within, one, two, lead3, three, lead4, four, firstOf, first}
 use Rattle.utf8.specs.Chars.{charsFrom, validFrom, startBefore}
 use Rattle.utf8.specs.Encode.{scalar, size, encode, encodeAll}
-use Rattle.unicode.specs.Repertoire.{catalogue, isMember, isControl, isMark, isAlnum, isWhite, isSmall, isCapital, upperOf, lowerOf, widthOf}
+use Rattle.unicode.specs.Repertoire.{catalogue, isMember, isControl, isMark, isAlnum, isWhite, isLowercase, isUppercase, upperOf, lowerOf, widthOf}
 use Rattle.unicode.specs.Text.{isText, isChar}
 use Rattle.unicode.specs.Case.{caseAll, cased}
 use Rattle.cluster.specs.Clusters.{joined, clusters}
@@ -14,31 +14,32 @@ use Rattle.layout.specs.Width.{advance, columnAfter, columnsAfter, width}
 use Rattle.motion.specs.Steps.{sizes, nextPos, prevPos}
 use Rattle.motion.specs.Search.{matches, nthMatch, afterCluster, matchForward, matchBackward}
 use Rattle.motion.specs.Trim.{firstAlnum, skipWhitespace}
-use Rattle.words.specs.Rules.{isStartOfWord, landsBehind}
-use Rattle.words.specs.Walk.{marks, graphemeIndices, scan, walk}
-use Rattle.words.specs.Words.{landsOn, nextWord, noWord, landed, nextWordPos, prevWord, prevWordPos}
-use Rattle.lines.specs.Lines.{startOfLine, beforeNewline, endOfLine, linesDown, nLinesDown}
-use Rattle.lines.specs.Columns.{nthCluster, lineAbove, lineBelow, lineUp, lineDown}
+use Rattle.motion_words.specs.Rules.{isStartOfWord, landsBehind}
+use Rattle.motion_words.specs.Walk.{indicesFrom, graphemeIndices, scan, walk}
+use Rattle.motion_words.specs.Words.{landsOn, nextWord, noWord, landed, nextWordPos, prevWord, prevWordPos}
+use Rattle.motion_lines.specs.Lines.{startOfLine, beforeNewline, endOfLine, linesDown, nLinesDown}
+use Rattle.motion_lines.specs.Columns.{nthCluster, lineAbove, lineBelow, lineUp, lineDown}
 use Rattle.checks.specs.Checks.{refusal}
 use Rattle.checks.specs.Outcome.{answered}
-use Rattle.copies.specs.Copy.{copied, startsAfter, copyCall}
-use Rattle.movement.specs.Moves.{moveCall, moveForward, moveToPrevWord, moveToNextWord, moveTo, moveToLineUp}
-use Rattle.journal.specs.Change.{edit, insert, delete}
+use Rattle.motion_ranges.specs.Ranges.{copied, startsAfter}
+use Rattle.motion_calls.specs.Copy.{copyCall}
+use Rattle.motion_calls.specs.Moves.{moveCall, moveForward, moveToPrevWord, moveToNextWord, moveTo, moveToLineUp}
+use Rattle.log_model.specs.Change.{edit, insert, delete}
 use Rattle.formats.specs.Formats.{formatFor, logFormat}
-use Rattle.journal.specs.Layout.{sizeOf, textsAt, changeAt, wholeAt, decodeAt}
-use Rattle.journal.specs.Recording.{note, recordInsert, recordInsertStr, recordDelete}
-use Rattle.journal.specs.Undo.{undoRecords, undoTexts, allSmall, fits}
-use Rattle.journal.specs.Groups.{endAll, endsAny}
-use Rattle.changeset.specs.Logs.{overSizes, damaged}
-use Rattle.changeset.specs.Calls.{undos, redos}
-use Rattle.changeset.specs.Outcomes.{beginOut, endOut}
+use Rattle.log_model.specs.Layout.{sizeOf, textsAt, changeAt, wholeAt, decodeAt}
+use Rattle.log_model.specs.Recording.{note, recordInsert, recordInsertStr, recordDelete}
+use Rattle.log_model.specs.UndoBytes.{undoRecords, undoTexts, allSmall, fits}
+use Rattle.log_model.specs.Groups.{endAll, endsAny}
+use Rattle.log_state.specs.Logs.{overSizes, damaged}
+use Rattle.log_state.specs.Calls.{undos, redos}
+use Rattle.log_state.specs.Outcomes.{beginOut, endOut}
 use Rattle.edit.specs.Plan.{splice, textAfter, listAfter, tooLong, edited}
 use Rattle.buffer.specs.Edit.{copies}
-use Rattle.edit_word.specs.EditWord.{actionList, editWordCall}
-use Rattle.transpose_words.specs.TransposeWords.{transposeWordsCall}
-use Rattle.retrace.specs.Retrace.{misfit, exchanging, undoing as Retrace·undoing}
+use Rattle.edit_case.specs.EditWord.{actionList, editWordCall}
+use Rattle.edit_transpose.specs.TransposeWords.{transposeWordsCall}
+use Rattle.undo_step.specs.Retrace.{misfit, exchanging, undoing as Retrace·undoing}
 use Rattle.undo.specs.Undo as undos
-use Rattle.cancel.specs.Cancel as cancels
+use Rattle.undo_cancel.specs.Cancel as cancels
 use Rattle.kill_ring.specs.declared.Action.the-variants.{Yank}
 use Rattle.kill_ring.specs.Ring as ring
 use Rattle.kill_ring.specs.Calls as ringCalls
@@ -125,7 +126,8 @@ pub record Cases : Type 0 where
       ≡ answered 0 0 0 (state parish 10 (edit (insert 0 firstWord) ∷ edit (delete 0 box) ∷ edit (insert 4 box) ∷ edit (delete 4 firstWord) ∷ []))
   -- type a, b, space, c: two records, "ab" and " c"; undo 1 leaves "ab"
   pub p11 :
-      (after (typing 0x61 ∷ typing 0x62 ∷ typing 0x20 ∷ typing 0x63 ∷ []) ≡ state (0x61 ∷ 0x62 ∷ 0x20 ∷ 0x63 ∷ []) 4 (edit (insert 2 (0x20 ∷ 0x63 ∷ [])) ∷ edit (insert 0 (0x61 ∷ 0x62 ∷ [])) ∷ []))
+      (after (typing 0x61 ∷ typing 0x62 ∷ typing 0x20 ∷ typing 0x63 ∷ []) ≡ state (0x61 ∷ 0x62 ∷ 0x20 ∷ 0x63 ∷ []) 4
+      (edit (insert 2 (0x20 ∷ 0x63 ∷ [])) ∷ edit (insert 0 (0x61 ∷ 0x62 ∷ [])) ∷ []))
       × (after (typing 0x61 ∷ typing 0x62 ∷ typing 0x20 ∷ typing 0x63 ∷ undoing 1 ∷ []) .text ≡ 0x61 ∷ 0x62 ∷ [])
   -- type q; begin; truncate to the mark that it answered; begin; type r; end; undo 1: empty text. With cancel for truncate: "q"
   pub p12 :
@@ -133,11 +135,22 @@ pub record Cases : Type 0 where
       × (after (typing 0x71 ∷ beginning ∷ cancelling ∷ beginning ∷ typing 0x72 ∷ ending ∷ undoing 1 ∷ []) .text ≡ 0x71 ∷ [])
   -- ring of 2, kills a, b, c with resets: yank c, pops b, c
   pub p13 :
-      (ringCalls.yankCall catalogue (playedRing.lending (playedRing.after 2 (playedRing.killing (0x61 ∷ []) ∷ playedRing.resetting ∷ playedRing.killing (0x62 ∷ []) ∷ playedRing.resetting ∷ playedRing.killing (0x63 ∷ []) ∷ []))) ≡ answered 0 0 0 (cb 0))
-      × (ringCalls.yankPopCall catalogue (playedRing.lending (cb 0)) ≡ answered 0 1 1 (cb 1)) × (ringCalls.yankPopCall catalogue (playedRing.lending (cb 1)) ≡ answered 0 0 1 (cb 0))
+      (ringCalls.yankCall catalogue (playedRing.lending (playedRing.after 2
+      (playedRing.killing (0x61 ∷ []) ∷ playedRing.resetting ∷ playedRing.killing (0x62 ∷ []) ∷ playedRing.resetting ∷ playedRing.killing
+      (0x63 ∷ []) ∷ []))) ≡ answered 0 0 0 (cb 0))
+      × (ringCalls.yankPopCall catalogue (playedRing.lending (cb 0)) ≡ answered 0 1 1 (cb 1))
+      × (ringCalls.yankPopCall catalogue (playedRing.lending (cb 1)) ≡ answered 0 0 1 (cb 0))
 
 pub cases : Cases
-unfolding within one two lead3 three lead4 four firstOf first charsFrom validFrom startBefore scalar size isMember isControl isMark isAlnum isWhite widthOf isText isChar joined clusters wordList atList searchList columnAfter columnsAfter width sizes nextPos prevPos matches nthMatch afterCluster matchForward matchBackward isStartOfWord landsBehind marks graphemeIndices scan walk landsOn nextWord noWord landed nextWordPos prevWord prevWordPos startOfLine beforeNewline endOfLine nthCluster lineAbove lineBelow lineUp lineDown linesDown nLinesDown movements copied startsAfter refusal moveCall isSmall isCapital upperOf lowerOf encode encodeAll caseAll cased firstAlnum skipWhitespace sizeOf textsAt changeAt wholeAt decodeAt note recordInsert recordInsertStr recordDelete undoRecords undoTexts allSmall fits overSizes damaged undos redos splice textAfter listAfter tooLong edited copies actionList beginOut endOut endAll endsAny misfit exchanging Retrace·undoing undos.walk undos.undoOut cancels.opens cancels.walkTo cancels.beginsDown cancels.cancelOut ring.putAt ring.killOut ring.yankOut ring.yankPopOut ringCalls.slotsFrom ringCalls.anyOver ringCalls.overSizes ringCalls.actionBreaks ringCalls.anyForeign ringCalls.damaged ringCalls.modeList formatFor advance
+unfolding within one two lead3 three lead4 four firstOf first charsFrom validFrom startBefore scalar size isMember isControl isMark isAlnum isWhite
+    widthOf isText isChar joined clusters wordList atList searchList columnAfter columnsAfter width sizes nextPos prevPos matches nthMatch
+    afterCluster matchForward matchBackward isStartOfWord landsBehind indicesFrom graphemeIndices scan walk landsOn nextWord noWord landed nextWordPos
+    prevWord prevWordPos startOfLine beforeNewline endOfLine nthCluster lineAbove lineBelow lineUp lineDown linesDown nLinesDown movements copied
+    startsAfter refusal moveCall isLowercase isUppercase upperOf lowerOf encode encodeAll caseAll cased firstAlnum skipWhitespace sizeOf textsAt changeAt
+    wholeAt decodeAt note recordInsert recordInsertStr recordDelete undoRecords undoTexts allSmall fits overSizes damaged undos redos splice
+    textAfter listAfter tooLong edited copies actionList beginOut endOut endAll endsAny misfit exchanging Retrace·undoing undos.walk undos.undoOut
+    cancels.opens cancels.walkTo cancels.beginsDown cancels.cancelOut ring.putAt ring.killOut ring.yankOut ring.yankPopOut ringCalls.slotsFrom
+    ringCalls.anyOver ringCalls.overSizes ringCalls.actionBreaks ringCalls.anyForeign ringCalls.damaged ringCalls.modeList formatFor advance
 cases =
     record {
       p1 = (refl, refl);

@@ -12,15 +12,16 @@ use Rattle.unicode.proofs.Catalogue.{catalogue-lawful}
 use Rattle.checks.specs.Checks.{ownTests}
 use Rattle.checks.specs.Outcome.{Outcome, called, numberIn, leaves}
 use Rattle.checks.specs.declared.Line.{Line}
-use Rattle.journal.specs.Change.{Change}
-use Rattle.journal.specs.Groups as groups
+use Rattle.log_model.specs.Change.{Change}
+use Rattle.log_model.specs.Groups as groups
 use Rattle.formats.specs.declared.Format.{Format}
 use Rattle.formats.specs.Formats.{logFormat}
 use Rattle.formats.proofs.Formats.{format-fit}
 use Rattle.edit.specs.Plan.{State}
 use Rattle.edit.specs.Calls.{Lent, formatOf, textOf, checked, stateOf}
 use Rattle.edit.specs.declared.EditAnswer.{EditAnswer}
-use Rattle.undo.specs.Undo.{undoCall, redoCall, undoOut, redoOut}
+use Rattle.undo.specs.Undo.{undoCall, undoOut}
+use Rattle.undo_redo.specs.Redo.{redoCall, redoOut}
 use Rattle.calls.specs.Calls.{Asked, undo, redo, outcomeOf}
 use Rattle.calls.specs.Contracts.{Buffers, MeetsIn}
 use Rattle.session.specs.Runs.{Sized, buffersOf, Step, AnyStep, left, SameText, SameLog, HandedOn, Run, leftBy, openAfter, Allowed, Closed}
@@ -34,7 +35,8 @@ use Rattle.session.proofs.Units.{no-marks, undo-keeps, redo-keeps, undo
 use Rattle.session.proofs.Moves.{move-keeps}
 use Rattle.session.proofs.Steps.{Short, inv-more, short-keeps}
 use Rattle.session.proofs.Starts.{start-keeps, start-sized, start-stands}
-use Rattle.session.proofs.HandOver.{Stands, text-is, none-emptied, emptied-none, same-text, same-log, handed-stands, handed-is, handed-on, step-leaves, walked-leaves, edit-number, opened}
+use Rattle.session.proofs.HandOver.{Stands, text-is, none-emptied, emptied-none, same-text, same-log, handed-stands, handed-is}
+use Rattle.session.proofs.HandOver.{handed-on, step-leaves, walked-leaves, edit-number, opened}
 
 -- ---- from the start to the end of a run
 module _ (R : Repertoire) (law : Lawful R) (F : Format) (one : (l : Lent) → formatOf l ≡ F) (t₀ : List ℕ) where
@@ -61,7 +63,8 @@ module _ (R : Repertoire) (law : Lawful R) (F : Format) (one : (l : Lent) → fo
       )
 
   -- and so does a run
-  run-kept : (xs : List AnyStep) (l : Lent) (s : State) (g : List ℕ) → Stands F s l → Inv R F (Short (length (l .text))) t₀ s g → Sized F (buffersOf l) → RunIn R F l xs → Closed xs g
+  run-kept : (xs : List AnyStep) (l : Lent) (s : State) (g : List ℕ) → Stands F s l → Inv R F (Short (length (l .text))) t₀ s g
+      → Sized F (buffersOf l) → RunIn R F l xs → Closed xs g
       → (s′ : State) × Stands F s′ (leftBy l xs) × Inv R F (Short (length (leftBy l xs .text))) t₀ s′ [] × Sized F (buffersOf (leftBy l xs))
   unfolding RunIn leftBy Closed
   run-kept [] l s g h v z r c = (s, h, subst (Inv R F (Short (length (l .text))) t₀ s) c v, z)
@@ -75,7 +78,8 @@ module _ (R : Repertoire) (law : Lawful R) (F : Format) (one : (l : Lent) → fo
 -- ---- at the end: undo and redo, from what was left
 module _ (R : Repertoire) (F : Format) (Q : List ℕ → Type 0) (t₀ : List ℕ) where
   -- a call that is handed such a state passes its checks and finds the state
-  called-on : (before : Buffers) (s : State) (b : Buffers) → Handed F before s b → Inv R F Q t₀ s [] → (f : State → Outcome State) → called (checked R F (lentFor F s b) (ownTests false false false)) (f (stateOf R F (lentFor F s b))) ≡ f s
+  called-on : (before : Buffers) (s : State) (b : Buffers) → Handed F before s b → Inv R F Q t₀ s [] → (f : State → Outcome State)
+      → called (checked R F (lentFor F s b) (ownTests false false false)) (f (stateOf R F (lentFor F s b))) ≡ f s
   called-on before s b h v f =
       rw (passes R F Q t₀ before s [] v b h (omega (arith, no-marks (s .log .level) (s .log .undo) (v .here .groups)))) (ap f (found R F Q t₀ before s [] v b h))
 
@@ -106,7 +110,8 @@ module _ (R : Repertoire) (F : Format) (one : (l : Lent) → formatOf l ≡ F) (
     fits-next b k t q = omega (arith, h .fits t q, k .noSmaller .text)
 
     -- an undo call is answered by 0 or 1, and leaves what undo leaves on values
-    undone : (n : ℕ) (x : Step (undo n)) → HandedOn l (x .lent) → MeetsIn R F (undo n) (x .lent) (x .answer) (x .after) → (x .answer .number ≤ 1) × Kept (left (undo n) x) (afterUndo n s)
+    undone : (n : ℕ) (x : Step (undo n)) → HandedOn l (x .lent) → MeetsIn R F (undo n) (x .lent) (x .answer) (x .after) → (x .answer .number ≤ 1)
+        × Kept (left (undo n) x) (afterUndo n s)
     undone n x k m =
         let b = x .lent in
         let top′ = fits-next b k in
@@ -126,7 +131,8 @@ module _ (R : Repertoire) (F : Format) (one : (l : Lent) → formatOf l ≡ F) (
         )
 
     -- and so is a redo call
-    redone : (n : ℕ) (x : Step (redo n)) → HandedOn l (x .lent) → MeetsIn R F (redo n) (x .lent) (x .answer) (x .after) → (x .answer .number ≤ 1) × Stands F (afterRedo n s) (left (redo n) x)
+    redone : (n : ℕ) (x : Step (redo n)) → HandedOn l (x .lent) → MeetsIn R F (redo n) (x .lent) (x .answer) (x .after) → (x .answer .number ≤ 1)
+        × Stands F (afterRedo n s) (left (redo n) x)
     redone n x k m =
         let b = x .lent in
         let top′ = fits-next b k in
@@ -171,14 +177,21 @@ module _ (R : Repertoire) (F : Format) (one : (l : Lent) → formatOf l ≡ F) (
     round k n u x y i j r =
         let p = undone l s h n x (r .0) (r .1) in
         let q = redone (left (undo n) x) (afterUndo n s) (p .1) n y (r .2 .0) (r .2 .1) in
-        let e = undo-redo R F Q t₀ C C k n s top top (h .inv) u i j in
-        (p .0, q .0, same-text F s _ l _ (h .stands) (q .1) (e .text), same-log F s _ l _ (h .stands) (q .1) (log-back (afterRedo n (afterUndo n s) .log) (s .log) (e .undo) (e .redo) (e .level)))
+        let e = undo-redo R F Q t₀ C C k n s top top (h .inv) u i j in (
+          p .0,
+          q .0,
+          same-text F s _ l _ (h .stands) (q .1) (e .text),
+          same-log F s _ l _ (h .stands) (q .1)
+              (log-back (afterRedo n (afterUndo n s) .log) (s .log) (e .undo) (e .redo) (e .level)),
+        )
       where
         log-back : (a b : groups.Log) → a .undo ≡ b .undo → a .redo ≡ b .redo → a .level ≡ b .level → a ≡ b
-        log-back a b p q r = ap₂ (λ (u v : List Change). record { undo = u; redo = v; level = a .level }) p q ∙ ap (λ (i : ℕ). record { undo = b .undo; redo = b .redo; level = i }) r
+        log-back a b p q r = ap₂ (λ (u v : List Change). record { undo = u; redo = v; level = a .level }) p q
+            ∙ ap (λ (i : ℕ). record { undo = b .undo; redo = b .redo; level = i }) r
 
     -- undo n then m
-    sum : (n m : ℕ) (x : Step (undo n)) (y : Step (undo m)) (z : Step (undo (n + m))) → 1 ≤ n → 1 ≤ m → RunIn R F l ((undo n, x) ∷ (undo m, y) ∷ []) → RunIn R F l ((undo (n + m), z) ∷ [])
+    sum : (n m : ℕ) (x : Step (undo n)) (y : Step (undo m)) (z : Step (undo (n + m))) → 1 ≤ n → 1 ≤ m → RunIn R F l ((undo n, x) ∷ (undo m, y) ∷ [])
+        → RunIn R F l ((undo (n + m), z) ∷ [])
         → (x .answer .number ≤ 1) × (y .answer .number ≤ 1) × (z .answer .number ≤ 1)
         × SameText (left (undo m) y) (left (undo (n + m)) z) × (z .answer .line ≡ y .answer .line) × SameLog (left (undo m) y) (left (undo (n + m)) z)
     unfolding RunIn
@@ -206,8 +219,11 @@ module _ (R : Repertoire) (F : Format) (one : (l : Lent) → formatOf l ≡ F) (
         record {
           toEnd = λ xs r.
               let e = to-end xs l s h (in-one-format (undos xs) l r) in
-              let d = e .1 .1 in
-              (e .0, (λ z. same-text F s₀ (e .1 .0) l₀ (leftBy l (undos xs)) h₀ (d .stands) (first-text R F Q t₀ (e .1 .0) (d .inv) (emptied-none F (e .1 .0) (leftBy l (undos xs)) (d .stands) z) ∙ sym first)));
+              let d = e .1 .1 in (
+                e .0,
+                (λ z. same-text F s₀ (e .1 .0) l₀ (leftBy l (undos xs)) h₀ (d .stands)
+                    (first-text R F Q t₀ (e .1 .0) (d .inv) (emptied-none F (e .1 .0) (leftBy l (undos xs)) (d .stands) z) ∙ sym first)),
+              );
           units = k;
           counted = λ xs r. counted xs l s k h (u .2) (in-one-format (ones xs) l r);
           few = omega (arith, u .1);
@@ -231,7 +247,8 @@ demand-3 R law l z xs r c =
     let on : Handed F (buffersOf b) s (buffersOf b) =
     record { stored = e .1 .stored; noSmaller = record { text = omega arith; records = omega arith; texts = omega arith }; sized = e .3 } in
     demanded R F one-format (Short C) (textOf l) C (λ t k. k) l b (stateOf R F l) s (start-stands R F l z p) refl
-    (record { stands = e .1; inv = e .2; fits = λ t k. k }) (run-in R) (omega (arith, few R F (Short C) (textOf l) (buffersOf b) s [] (e .2) (buffersOf b) on (format-fit 0 .records)))
+    (record { stands = e .1; inv = e .2; fits = λ t k. k }) (run-in R)
+    (omega (arith, few R F (Short C) (textOf l) (buffersOf b) s [] (e .2) (buffersOf b) on (format-fit 0 .records)))
 
 -- 01's repertoire
 pub demand-3-catalogue : (l : Lent) → Starts catalogue l → (xs : List AnyStep) → Run catalogue l xs → Closed xs [] → Demand3 catalogue l (leftBy l xs)

@@ -11,22 +11,22 @@ use Rattle.unicode.specs.Repertoire.{catalogue, isMember, isControl, isMark, is
 use Rattle.unicode.specs.Text.{isText, isChar}
 use Rattle.checks.specs.Outcome.{answered}
 use Rattle.checks.specs.Checks.{refusal}
-use Rattle.journal.specs.Change.{Change, begin, end, edit, insert, delete}
+use Rattle.log_model.specs.Change.{Change, begin, end, edit, insert, delete}
 use Rattle.formats.specs.Formats.{formatFor, logFormat}
-use Rattle.journal.specs.Layout.{sizeOf, textsAt, changeAt, wholeAt, decodeAt}
-use Rattle.journal.specs.Recording.{note, recordInsert}
-use Rattle.journal.specs.Undo.{undoRecords, undoTexts, allSmall, fits}
-use Rattle.journal.specs.Groups.{endAll, endsAny}
-use Rattle.changeset.specs.Logs.{overSizes, damaged}
-use Rattle.changeset.specs.Calls as logs
-use Rattle.changeset.specs.Calls.{undos, redos}
-use Rattle.changeset.specs.Outcomes.{beginOut, endOut}
-use Rattle.changeset.specs.declared.Used.{Used}
+use Rattle.log_model.specs.Layout.{sizeOf, textsAt, changeAt, wholeAt, decodeAt}
+use Rattle.log_model.specs.Recording.{note, recordInsert}
+use Rattle.log_model.specs.UndoBytes.{undoRecords, undoTexts, allSmall, fits}
+use Rattle.log_model.specs.Groups.{endAll, endsAny}
+use Rattle.log_state.specs.Logs.{overSizes, damaged}
+use Rattle.log_state.specs.Calls as logs
+use Rattle.log_state.specs.Calls.{undos, redos}
+use Rattle.log_state.specs.Outcomes.{beginOut, endOut}
+use Rattle.log_state.specs.declared.Used.{Used}
 use Rattle.edit.specs.Plan.{State, splice, textAfter, listAfter, tooLong, edited}
 use Rattle.edit.specs.Calls.{Lent, logLent, answerOf}
-use Rattle.retrace.specs.Retrace.{misfit, exchanging, undoing}
+use Rattle.undo_step.specs.Retrace.{misfit, exchanging, undoing}
 use Rattle.undo.specs.Undo.{walk, undoOut}
-use Rattle.cancel.specs.Cancel.{opens, walkTo, beginsDown, cancelOut}
+use Rattle.undo_cancel.specs.Cancel.{opens, walkTo, beginsDown, cancelOut}
 use Rattle.calls.specs.Calls as calls
 use Rattle.session.specs.Runs.{buffersOf, Step, AnyStep, left, SameText, SameLog, HandedOn, Run, leftBy, below, Closed}
 use Rattle.session.specs.Demand3.{Starts, ones, Demand3}
@@ -65,24 +65,54 @@ s7 = at (0x71 ∷ []) (q ∷ []) (end ∷ edit (delete 1 (0x72 ∷ [])) ∷ begi
 -- ---- the calls: each is lent the bytes of its state in buffers of 16, 32 and 32 bytes
 unfoldable pub typeQ : Step (calls.edit (calls.insert 0x71 1))
 unfolding formatFor
-typeQ = record { lent = lending s0; answer = answerOf logFormat (lending s0) (answered 0 0 0 s1); after = buffersOf (lending s1); lengths = record { text = refl; records = refl; texts = refl } }
+typeQ = record {
+  lent = lending s0;
+  answer = answerOf logFormat (lending s0) (answered 0 0 0 s1);
+  after = buffersOf (lending s1);
+  lengths = record
+      { text = refl; records = refl; texts = refl };
+}
 
 unfoldable pub begins : Step (calls.log calls.begin)
 unfolding formatFor
-begins = record { lent = lending s1; answer = logs.answerOf logFormat (logLent (lending s1)) (answered 0 1 0 (s2 .log)); after = buffersOf (lending s2); lengths = record { text = refl; records = refl; texts = refl } }
+begins = record {
+  lent = lending s1;
+  answer = logs.answerOf logFormat (logLent (lending s1)) (answered 0 1 0 (s2 .log));
+  after = buffersOf
+      (lending s2);
+  lengths = record { text = refl; records = refl; texts = refl };
+}
 
 -- with the mark that begin answered; the log's buffers are lent to read
 unfoldable pub cancels : Step (calls.cancel (begins .answer .from))
 unfolding formatFor
-cancels = record { lent = lending s2; answer = answerOf logFormat (lending s2) (answered 0 0 0 s1); after = buffersOf (lending s2); lengths = record { text = refl; records = refl; texts = refl } }
+cancels = record {
+  lent = lending s2;
+  answer = answerOf logFormat (lending s2) (answered 0 0 0 s1);
+  after = buffersOf (lending s2);
+  lengths = record
+      { text = refl; records = refl; texts = refl };
+}
 
 unfoldable pub typeR : Step (calls.edit (calls.insert 0x72 1))
 unfolding formatFor
-typeR = record { lent = lending s2; answer = answerOf logFormat (lending s2) (answered 0 0 0 s5); after = buffersOf (lending s5); lengths = record { text = refl; records = refl; texts = refl } }
+typeR = record {
+  lent = lending s2;
+  answer = answerOf logFormat (lending s2) (answered 0 0 0 s5);
+  after = buffersOf (lending s5);
+  lengths = record
+      { text = refl; records = refl; texts = refl };
+}
 
 unfoldable pub ends : Step (calls.log calls.end)
 unfolding formatFor
-ends = record { lent = lending s5; answer = logs.answerOf logFormat (logLent (lending s5)) (answered 0 0 0 (s6 .log)); after = buffersOf (lending s6); lengths = record { text = refl; records = refl; texts = refl } }
+ends = record {
+  lent = lending s5;
+  answer = logs.answerOf logFormat (logLent (lending s5)) (answered 0 0 0 (s6 .log));
+  after = buffersOf
+      (lending s6);
+  lengths = record { text = refl; records = refl; texts = refl };
+}
 
 unfoldable pub undoes : Step (calls.undo 1)
 unfolding formatFor
@@ -96,11 +126,13 @@ undoes =
 
 abbrev story : List AnyStep
 story =
-    (calls.edit (calls.insert 0x71 1), typeQ) ∷ (calls.log calls.begin, begins) ∷ (calls.cancel (begins .answer .from), cancels) ∷ (calls.log calls.begin, begins) ∷ (calls.edit (calls.insert 0x72 1), typeR)
+    (calls.edit (calls.insert 0x71 1), typeQ) ∷ (calls.log calls.begin, begins) ∷ (calls.cancel (begins .answer .from), cancels) ∷
+    (calls.log calls.begin, begins) ∷ (calls.edit (calls.insert 0x72 1), typeR)
     ∷ (calls.log calls.end, ends) ∷ (calls.undo 1, undoes) ∷ []
 
 -- what is handed on in buffers of the same lengths
-handed : (a b : Lent) → b .line ≡ a .line → SameText a b → SameLog a b → length (a .text) ≡ 16 → length (a .records) ≡ 32 → length (a .texts) ≡ 32 → length (b .text) ≡ 16 → length (b .records) ≡ 32
+handed : (a b : Lent) → b .line ≡ a .line → SameText a b → SameLog a b → length (a .text) ≡ 16 → length (a .records) ≡ 32 → length (a .texts) ≡ 32
+    → length (b .text) ≡ 16 → length (b .records) ≡ 32
     → length (b .texts) ≡ 32 → HandedOn a b
 unfolding formatFor
 handed a b x y z i j k l m n =
@@ -114,27 +146,36 @@ handed a b x y z i j k l m n =
 
 -- the story meets the conditions
 ran : Run catalogue (lending s0) story
-unfolding typeQ begins cancels typeR ends undoes formatFor Run within one two lead3 three lead4 four firstOf first charsFrom validFrom startBefore scalar size encode isMember isControl isMark isAlnum isText isChar refusal sizeOf textsAt changeAt wholeAt decodeAt note recordInsert undoRecords undoTexts allSmall fits endAll endsAny overSizes damaged undos redos beginOut endOut splice textAfter listAfter tooLong edited misfit exchanging undoing walk undoOut opens walkTo beginsDown cancelOut below
+unfolding typeQ begins cancels typeR ends undoes formatFor Run within one two lead3 three lead4 four firstOf first charsFrom validFrom startBefore
+    scalar size encode isMember isControl isMark isAlnum isText isChar refusal sizeOf textsAt changeAt wholeAt decodeAt note recordInsert undoRecords
+    undoTexts allSmall fits endAll endsAny overSizes damaged undos redos beginOut endOut splice textAfter listAfter tooLong edited misfit exchanging
+    undoing walk undoOut opens walkTo beginsDown cancelOut below
 ran = (
   handed (lending s0) (typeQ .lent) refl (record { len = refl; bytes = refl }) (record { state = refl; records = refl; texts = refl }) refl refl refl refl refl refl,
   record { answer = refl; bytes = record { text = refl; log = record { records = refl; texts = refl } } },
   (
-    handed (left (calls.edit (calls.insert 0x71 1)) typeQ) (begins .lent) refl (record { len = refl; bytes = refl }) (record { state = refl; records = refl; texts = refl }) refl refl refl refl refl refl,
+    handed (left (calls.edit (calls.insert 0x71 1)) typeQ) (begins .lent) refl (record { len = refl; bytes = refl })
+        (record { state = refl; records = refl; texts = refl }) refl refl refl refl refl refl,
     (record { answer = refl; bytes = record { records = refl; texts = refl } }, refl),
     (
-      handed (left (calls.log calls.begin) begins) (cancels .lent) refl (record { len = refl; bytes = refl }) (record { state = refl; records = refl; texts = refl }) refl refl refl refl refl refl,
+      handed (left (calls.log calls.begin) begins) (cancels .lent) refl (record { len = refl; bytes = refl })
+          (record { state = refl; records = refl; texts = refl }) refl refl refl refl refl refl,
       (record { answer = refl; bytes = record { text = refl; log = record { records = refl; texts = refl } } }, refl, refl),
       (
-        handed (left (calls.cancel 1) cancels) (begins .lent) refl (record { len = refl; bytes = refl }) (record { state = refl; records = refl; texts = refl }) refl refl refl refl refl refl,
+        handed (left (calls.cancel 1) cancels) (begins .lent) refl (record { len = refl; bytes = refl })
+            (record { state = refl; records = refl; texts = refl }) refl refl refl refl refl refl,
         (record { answer = refl; bytes = record { records = refl; texts = refl } }, refl),
         (
-          handed (left (calls.log calls.begin) begins) (typeR .lent) refl (record { len = refl; bytes = refl }) (record { state = refl; records = refl; texts = refl }) refl refl refl refl refl refl,
+          handed (left (calls.log calls.begin) begins) (typeR .lent) refl (record { len = refl; bytes = refl })
+              (record { state = refl; records = refl; texts = refl }) refl refl refl refl refl refl,
           record { answer = refl; bytes = record { text = refl; log = record { records = refl; texts = refl } } },
           (
-            handed (left (calls.edit (calls.insert 0x72 1)) typeR) (ends .lent) refl (record { len = refl; bytes = refl }) (record { state = refl; records = refl; texts = refl }) refl refl refl refl refl refl,
+            handed (left (calls.edit (calls.insert 0x72 1)) typeR) (ends .lent) refl (record { len = refl; bytes = refl })
+                (record { state = refl; records = refl; texts = refl }) refl refl refl refl refl refl,
             (record { answer = refl; bytes = record { records = refl; texts = refl } }, refl),
             (
-              handed (left (calls.log calls.end) ends) (undoes .lent) refl (record { len = refl; bytes = refl }) (record { state = refl; records = refl; texts = refl }) refl refl refl refl refl refl,
+              handed (left (calls.log calls.end) ends) (undoes .lent) refl (record { len = refl; bytes = refl })
+                  (record { state = refl; records = refl; texts = refl }) refl refl refl refl refl refl,
               (record { answer = refl; bytes = record { text = refl; log = record { records = refl; texts = refl } } }, refl, refl),
               tt,
             ),
@@ -173,8 +214,16 @@ last =
     }
 
 last-ran : Run catalogue (leftBy (lending s0) story) (ones (last ∷ []))
-unfolding typeQ begins cancels typeR ends undoes last formatFor Run leftBy within one two lead3 three lead4 four firstOf first charsFrom validFrom startBefore scalar size encode isMember isControl isMark isAlnum isText isChar refusal sizeOf textsAt changeAt wholeAt decodeAt note recordInsert undoRecords undoTexts allSmall fits endAll endsAny overSizes damaged undos redos beginOut endOut splice textAfter listAfter tooLong edited misfit exchanging undoing walk undoOut opens walkTo beginsDown cancelOut below
-last-ran = (handed (left (calls.undo 1) undoes) (last .lent) refl (record { len = refl; bytes = refl }) (record { state = refl; records = refl; texts = refl }) refl refl refl refl refl refl, (record { answer = refl; bytes = record { text = refl; log = record { records = refl; texts = refl } } }, refl, refl), tt)
+unfolding typeQ begins cancels typeR ends undoes last formatFor Run leftBy within one two lead3 three lead4 four firstOf first charsFrom validFrom
+    startBefore scalar size encode isMember isControl isMark isAlnum isText isChar refusal sizeOf textsAt changeAt wholeAt decodeAt note recordInsert
+    undoRecords undoTexts allSmall fits endAll endsAny overSizes damaged undos redos beginOut endOut splice textAfter listAfter tooLong edited misfit
+    exchanging undoing walk undoOut opens walkTo beginsDown cancelOut below
+last-ran = (
+  handed (left (calls.undo 1) undoes) (last .lent) refl (record { len = refl; bytes = refl })
+      (record { state = refl; records = refl; texts = refl }) refl refl refl refl refl refl,
+  (record { answer = refl; bytes = record { text = refl; log = record { records = refl; texts = refl } } }, refl, refl),
+  tt,
+)
 
 pub one-unit : story-demand .units ≡ 1
 unfolding typeQ begins cancels typeR ends undoes last formatFor Run leftBy

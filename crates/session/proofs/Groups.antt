@@ -12,13 +12,13 @@ use Rattle.lists.proofs.Bools.{and-both, by-test}
 use Rattle.unicode.specs.Repertoire.{Repertoire}
 use Rattle.checks.specs.Checks.{Tests, laterNumber, refusal, both, ownTests}
 use Rattle.checks.specs.Outcome.{Outcome, refused, called, leaves}
-use Rattle.journal.specs.Change.{Change, begin, end, edit}
+use Rattle.log_model.specs.Change.{Change, begin, end, edit}
 use Rattle.formats.specs.declared.Format.{Format}
-use Rattle.journal.specs.Groups.{Log, endAll, endsAny, ended}
-use Rattle.journal.specs.Undo.{Places, allSmall, fits, lastInsertAt}
-use Rattle.changeset.specs.Logs.{logTests}
-use Rattle.changeset.specs.Outcomes.{beginOut, endOut, placesOut, lastInsertOut}
-use Rattle.changeset.specs.Calls as logs
+use Rattle.log_model.specs.Groups.{Log, endAll, endsAny, ended}
+use Rattle.log_model.specs.UndoBytes.{Places, allSmall, fits, lastInsertAt}
+use Rattle.log_state.specs.Logs.{logTests}
+use Rattle.log_state.specs.Outcomes.{beginOut, endOut, placesOut, lastInsertOut}
+use Rattle.log_state.specs.Calls as logs
 use Rattle.edit.specs.Plan.{State}
 use Rattle.edit.specs.Calls.{Lent, logLent, sizesOf, stateOf}
 use Rattle.calls.specs.Calls.{Asked, loggedBy, outcomeOf}
@@ -130,7 +130,13 @@ module _ (R : Repertoire) (F : Format) (Q : List ℕ → Type 0) (t₀ : List �
     begin-made =
         by-test (Keeps (asked.log asked.begin) (loggedBy R F l (beginOut F (sizesOf l) (s .log))) s g) (ltb level 255 && fits F (sizesOf l) (begin ∷ u))
         (λ e. rw e
-        (no-redo R F Q t₀ _ _ _ _ _ (record { chain = v .here .chain; text = v .here .text; allowed = v .here .allowed; groups = opened (v .here .groups) }) (v .cursor) (v .undo-small)))
+        (no-redo R F Q t₀ _ _ _ _ _ (record {
+          chain = v .here .chain;
+          text = v .here .text;
+          allowed = v .here .allowed;
+          groups = opened
+              (v .here .groups);
+        }) (v .cursor) (v .undo-small)))
         (λ e. rw e v)
 
     -- the Ends: check 10, then no group open, whether one was put or not
@@ -178,7 +184,8 @@ module _ (R : Repertoire) (F : Format) (Q : List ℕ → Type 0) (t₀ : List �
     checked-keeps : (a : Asked) (o : Outcome Log) → Keeps a (loggedBy R F l o) (stateOf R F l) g → Keeps a (loggedBy R F l (called (logs.checked R F (logLent l) false) o)) s g
     checked-keeps a o k =
         let n = logs.checked R F (logLent l) false in
-        subst (λ (x : Outcome State). Keeps a x s g) (logged n o) (by-checks a n (loggedBy R F l o) (not-one (both (logTests R F (l .log) (l .records) (l .texts)) (ownTests false false false))) (λ e. k))
+        subst (λ (x : Outcome State). Keeps a x s g) (logged n o) (by-checks a n (loggedBy R F l o)
+        (not-one (both (logTests R F (l .log) (l .records) (l .texts)) (ownTests false false false))) (λ e. k))
 
     -- begin opens a group with the mark that it answers
     pub begin-keeps : Keeps (asked.log asked.begin) (outcomeOf R F l (asked.log asked.begin)) s g

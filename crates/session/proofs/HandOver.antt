@@ -13,18 +13,18 @@ use Rattle.checks.specs.declared.Line.{Line}
 use Rattle.checks.specs.declared.LineAnswer.{LineAnswer}
 use Rattle.checks.specs.Answers.{lineAnswer}
 use Rattle.checks.specs.Outcome.{Outcome, refused, answered, called, numberIn, leaves}
-use Rattle.journal.specs.Change.{Change, turn}
+use Rattle.log_model.specs.Change.{Change, turn}
 use Rattle.formats.specs.declared.Format.{Format}
-use Rattle.journal.specs.Layout.{encodeRecords, encodeTexts}
-use Rattle.journal.specs.Groups as groups
-use Rattle.journal.specs.Undo.{Places, lastInsertAt}
-use Rattle.journal.proofs.Decode.{records-many}
-use Rattle.journal.proofs.Holds.{records-append, texts-append}
-use Rattle.changeset.specs.Calls as logs
-use Rattle.changeset.specs.Outcomes.{placesOut}
-use Rattle.changeset.specs.declared.Log.{Log}
-use Rattle.changeset.specs.declared.LogAnswer.{LogAnswer}
-use Rattle.changeset.specs.declared.Used.{Used}
+use Rattle.log_model.specs.Layout.{encodeRecords, encodeTexts}
+use Rattle.log_model.specs.Groups as groups
+use Rattle.log_model.specs.UndoBytes.{Places, lastInsertAt}
+use Rattle.log_model.proofs.Decode.{records-many}
+use Rattle.log_model.proofs.Holds.{records-append, texts-append}
+use Rattle.log_state.specs.Calls as logs
+use Rattle.log_state.specs.Outcomes.{placesOut}
+use Rattle.log_state.specs.declared.Log.{Log}
+use Rattle.log_state.specs.declared.LogAnswer.{LogAnswer}
+use Rattle.log_state.specs.declared.Used.{Used}
 use Rattle.edit.specs.Plan.{State}
 use Rattle.edit.specs.Calls.{Lent, lent, formatOf, logLent, textOf, stateOf, answerOf, Stored, Edited}
 use Rattle.edit.specs.declared.EditAnswer.{EditAnswer}
@@ -141,7 +141,8 @@ module _ (R : Repertoire) (F : Format) (s : State) (l : Lent) (h : Stands F s l)
       record { stored = e .bytes; line = ap (λ (a : EditAnswer). a .line) (e .answer); log = ap (λ (a : EditAnswer). a .log) (e .answer) }
 
   -- begin, end: the text's buffer is not lent
-  logged-leaves : (o : Outcome groups.Log) (r : LogAnswer) (rb tb : List ℕ) → logs.Logged F (logLent l) o r rb tb → Stands F (leaves (loggedBy R F l o) s) (lent (l .text) rb tb (l .line) (r .log))
+  logged-leaves : (o : Outcome groups.Log) (r : LogAnswer) (rb tb : List ℕ) → logs.Logged F (logLent l) o r rb tb
+      → Stands F (leaves (loggedBy R F l o) s) (lent (l .text) rb tb (l .line) (r .log))
   logged-leaves (refused k) r rb tb e =
       record {
         stored = rw (e .bytes .records, e .bytes .texts) (h .stored);
@@ -181,7 +182,8 @@ inserted-leaves (suc n) p g = refl
 
 module _ (R : Repertoire) (F : Format) where
   -- in buffers that are as they were
-  same-stands : (s : State) (l : Lent) (t rb tb : List ℕ) (x : Line) (g : Log) → t ≡ l .text → rb ≡ l .records → tb ≡ l .texts → Stands F s (lent (l .text) (l .records) (l .texts) x g) → Stands F s (lent t rb tb x g)
+  same-stands : (s : State) (l : Lent) (t rb tb : List ℕ) (x : Line) (g : Log) → t ≡ l .text → rb ≡ l .records → tb ≡ l .texts
+      → Stands F s (lent (l .text) (l .records) (l .texts) x g) → Stands F s (lent t rb tb x g)
   same-stands s l t rb tb x g p q r h = rw (p, q, r) h
 
   text-same : (s : State) (l : Lent) (t rb tb : List ℕ) (x : Line) (g : Log) → t ≡ l .text → Stands F s (lent (l .text) rb tb x g) → Stands F s (lent t rb tb x g)
@@ -191,7 +193,8 @@ module _ (R : Repertoire) (F : Format) where
   pub walked-leaves : (s s′ : State) (l : Lent) (o : Outcome State) (r : EditAnswer) (b : Buffers) → Stands F s l
       → Edited F l o r (b .text) (l .records) (l .texts) × (b .records ≡ l .records) × (b .texts ≡ l .texts) → leaves o s ≡ s′
       → Stands F s′ (lent (b .text) (b .records) (b .texts) (r .line) (r .log))
-  walked-leaves s s′ l o r b h m e = rw (m .1, m .2) (subst (λ (x : State). Stands F x (lent (b .text) (l .records) (l .texts) (r .line) (r .log))) e (edited-leaves R F s l h o r (b .text) (l .records) (l .texts) (m .0)))
+  walked-leaves s s′ l o r b h m e = rw (m .1, m .2) (subst (λ (x : State). Stands F x (lent (b .text) (l .records) (l .texts) (r .line) (r .log))) e
+      (edited-leaves R F s l h o r (b .text) (l .records) (l .texts) (m .0)))
 
   -- every call: what its outcome leaves stands in what it left
   pub step-leaves : (s : State) (a : Asked) (x : Step a) → Stands F s (x .lent) → stateOf R F (x .lent) ≡ s
@@ -210,7 +213,11 @@ module _ (R : Repertoire) (F : Format) where
       let n = logs.checked R F (logLent l) false in
       same-stands _ l _ _ _ _ _ (m .1 .text) (m .1 .records) (m .1 .texts)
       (logged-leaves R F s l h (logOutcome R F (logLent l) asked.lastInsert) (x .answer) (l .records) (l .texts)
-      (record { answer = m .0; bytes = read-leaves R F s l h is (logOutcome R F (logLent l) asked.lastInsert) (inserted-leaves n (lastInsertAt (stateOf R F l .log .undo)) (stateOf R F l .log)) }))
+      (record {
+        answer = m .0;
+        bytes = read-leaves R F s l h is (logOutcome R F (logLent l) asked.lastInsert)
+            (inserted-leaves n (lastInsertAt (stateOf R F l .log .undo)) (stateOf R F l .log));
+      }))
   step-leaves s (asked.undo n) x h is w m = walked-leaves s _ (x .lent) _ (x .answer) (x .after) h m refl
   step-leaves s (asked.redo n) x h is w m = walked-leaves s _ (x .lent) _ (x .answer) (x .after) h m refl
   step-leaves s (asked.cancel n) x h is w m = walked-leaves s _ (x .lent) _ (x .answer) (x .after) h m refl
@@ -233,7 +240,8 @@ module _ (R : Repertoire) (F : Format) where
   opened (asked.move y) x g m = refl
   opened (asked.log asked.begin) x g m =
       let o = logOutcome R F (logLent (x .lent)) asked.begin in
-      ap₂ (λ (k i : ℕ). cond (leb k 1) (i ∷ g) g) (ap (λ (r : LogAnswer). r .number) (m .0 .answer) ∙ log-number (x .lent) o) (ap (λ (r : LogAnswer). r .from) (m .0 .answer) ∙ log-mark (x .lent) o)
+      ap₂ (λ (k i : ℕ). cond (leb k 1) (i ∷ g) g) (ap (λ (r : LogAnswer). r .number) (m .0 .answer) ∙ log-number (x .lent) o)
+      (ap (λ (r : LogAnswer). r .from) (m .0 .answer) ∙ log-mark (x .lent) o)
   opened (asked.log asked.end) x g m =
       let o = logOutcome R F (logLent (x .lent)) asked.end in
       ap (λ (k : ℕ). cond (leb k 1) [] g) (ap (λ (r : LogAnswer). r .number) (m .0 .answer) ∙ log-number (x .lent) o)

@@ -11,13 +11,13 @@ use Rattle.lists.proofs.Bools.{and-both}
 use Rattle.unicode.specs.Repertoire.{Repertoire}
 use Rattle.unicode.specs.Text.{isText}
 use Rattle.checks.specs.Checks.{ownTests}
-use Rattle.journal.specs.Change.{Edit, insert, delete, replace, Change, begin, end, edit, old, new, turn}
+use Rattle.log_model.specs.Change.{Edit, insert, delete, replace, Change, begin, end, edit, old, new, turn}
 use Rattle.numbers.specs.Numbers.{top}
 use Rattle.formats.specs.declared.Format.{Format}
 use Rattle.formats.specs.Formats.{recordsMax}
-use Rattle.journal.specs.Layout.{Good, AllGood, encodeRecords}
-use Rattle.journal.specs.Undo.{small, allSmall}
-use Rattle.journal.proofs.Decode.{records-many}
+use Rattle.log_model.specs.Layout.{Good, AllGood, encodeRecords}
+use Rattle.log_model.specs.UndoBytes.{small, allSmall}
+use Rattle.log_model.proofs.Decode.{records-many}
 use Rattle.edit.specs.Plan.{State}
 use Rattle.edit.specs.Calls.{checked, stateOf}
 use Rattle.edit.proofs.Held.{take-within, state-held, state-passes}
@@ -80,4 +80,12 @@ module _ (R : Repertoire) where
     few m =
         let u = s .log .undo in
         let r = map turn (s .log .redo) in
-        omega (arith, length-reverse u, length-append (reverse u) r, records-many F (reverse u ++ r), take-within (length (encodeRecords F (reverse u ++ r))) (b .records) (ap length (h .stored .log .records)), h .sized .records)
+        omega (
+          arith,
+          length-reverse u,
+          length-append (reverse u) r,
+          records-many F (reverse u ++ r),
+          take-within
+              (length (encodeRecords F (reverse u ++ r))) (b .records) (ap length (h .stored .log .records)),
+          h .sized .records,
+        )

@@ -8,9 +8,9 @@ use lib.ListN.{length}
 use Rattle.utf8.specs.Chars.{In}
 use Rattle.unicode.specs.Repertoire.{Repertoire}
 use Rattle.unicode.specs.Text.{isText}
-use Rattle.journal.specs.Change.{Change, begin, end, edit, place, old, new}
+use Rattle.log_model.specs.Change.{Change, begin, end, edit, place, old, new}
 use Rattle.formats.specs.declared.Format.{Format}
-use Rattle.journal.specs.Undo.{allSmall}
+use Rattle.log_model.specs.UndoBytes.{allSmall}
 use Rattle.edit.specs.Plan.{State}
 
 -- d Ends wait for their Begin, and each Begin down the list has its End

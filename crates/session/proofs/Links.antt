@@ -11,10 +11,10 @@ use Rattle.utf8.proofs.Append.{valid-append}
 use Rattle.unicode.specs.Repertoire.{Repertoire}
 use Rattle.unicode.specs.Text.{isText}
 use Rattle.unicode.proofs.Text.{text-append, text-valid}
-use Rattle.journal.specs.Change.{Edit, insert, delete, replace, edit, place, old, new, flipped}
+use Rattle.log_model.specs.Change.{Edit, insert, delete, replace, edit, place, old, new, flipped}
 use Rattle.edit.specs.Plan.{splice}
-use Rattle.retrace.specs.Retrace.{Trail, done, exchanging, undoing}
-use Rattle.retrace.proofs.Exchanges.{swaps}
+use Rattle.undo_step.specs.Retrace.{Trail, done, exchanging, undoing}
+use Rattle.undo_step.proofs.Exchanges.{swaps}
 use Rattle.session.proofs.Invariant.{Bound, Link}
 
 -- ---- a text n between two others, a and b

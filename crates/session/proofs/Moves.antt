@@ -27,22 +27,23 @@ use Rattle.motion.specs.Trim.{trimEnd}
 use Rattle.motion.specs.declared.Found.{Found}
 use Rattle.motion.specs.declared.Found.the-variants.{At, Nothing}
 use Rattle.motion.proofs.Places.{next-pos-place, prev-pos-place, search-place}
-use Rattle.words.specs.Words.{prevWordPos, nextWordPos}
-use Rattle.words.proofs.Places.{prev-word-place, next-word-place}
-use Rattle.lines.specs.Lines.{startOfLine, endOfLine}
-use Rattle.lines.specs.Columns.{lineUp, lineDown}
-use Rattle.lines.specs.declared.Range.{Range}
-use Rattle.lines.specs.declared.Range.the-variants.{Places, Nowhere}
-use Rattle.lines.proofs.Places.{start-of-line-place, end-of-line-place, line-up-place, line-down-place}
+use Rattle.motion_words.specs.Words.{prevWordPos, nextWordPos}
+use Rattle.motion_words.proofs.Places.{prev-word-place, next-word-place}
+use Rattle.motion_lines.specs.Lines.{startOfLine, endOfLine}
+use Rattle.motion_lines.specs.Columns.{lineUp, lineDown}
+use Rattle.motion_lines.specs.declared.Range.{Range}
+use Rattle.motion_lines.specs.declared.Range.the-variants.{Places, Nowhere}
+use Rattle.motion_lines.proofs.Places.{start-of-line-place, end-of-line-place, line-up-place, line-down-place}
 use Rattle.checks.specs.Outcome.{Outcome, refused, answered, called, leaves}
 use Rattle.checks.specs.Checks.{Tests, noTests, both, refusal, ownTests}
 use Rattle.checks.specs.Answers.{movedTo, placeOf}
 use Rattle.checks.specs.declared.Line.{Line}
 use Rattle.checks.proofs.Fit.{fit}
-use Rattle.movement.specs.Moves as moves
-use Rattle.movement.specs.Moves.{moveCall, elsewhere, placeTests, promptTests}
-use Rattle.movement.proofs.Called.{lent}
-use Rattle.copies.specs.Copy.{ranged, copied, copyBy, copyTests}
+use Rattle.motion_calls.specs.Moves as moves
+use Rattle.motion_calls.specs.Moves.{moveCall, elsewhere, placeTests, promptTests}
+use Rattle.motion_calls.proofs.Called.{lent}
+use Rattle.motion_ranges.specs.Ranges.{copied}
+use Rattle.motion_calls.specs.Copy.{ranged, copyBy, copyTests}
 use Rattle.formats.specs.declared.Format.{Format}
 use Rattle.formats.specs.Formats.{formatFor}
 use Rattle.edit.specs.Plan.{State}
@@ -56,7 +57,8 @@ pub record Within (l : Lent) (o : Outcome Line) : Type 0 where
   pub place : In (textOf l) (leaves o (l .line) .cursor) (leaves o (l .line) .cursor)
   pub len : leaves o (l .line) .len ≡ l .line .len
 
-module _ (R : Repertoire) (F : Format) (l : Lent) (is : isText R (textOf l) ≡ true) (i : In (textOf l) (l .line .cursor) (l .line .cursor)) (len : l .line .len ≡ length (textOf l)) where
+module _ (R : Repertoire) (F : Format) (l : Lent) (is : isText R (textOf l) ≡ true) (i : In (textOf l) (l .line .cursor) (l .line .cursor))
+    (len : l .line .len ≡ length (textOf l)) where
   abbrev t : List ℕ
   t = textOf l
 

@@ -9,21 +9,22 @@ use Rattle.unicode.specs.Repertoire.{isMember, isControl, isMark, isAlnum}
 use Rattle.unicode.specs.Text.{isText, isChar}
 use Rattle.cluster.specs.Clusters.{joined, clusters}
 use Rattle.motion.specs.Steps.{sizes, prevPos}
-use Rattle.copies.specs.Copy.{copied}
+use Rattle.motion_ranges.specs.Ranges.{copied}
 use Rattle.checks.specs.Checks.{refusal}
 use Rattle.checks.specs.Outcome.{answered}
 use Rattle.formats.specs.Formats.{formatFor}
-use Rattle.journal.specs.Change.{begin, end, edit, insert, delete}
-use Rattle.journal.specs.Layout.{sizeOf, textsAt, changeAt, wholeAt, decodeAt}
-use Rattle.journal.specs.Recording.{note, recordInsert, recordDelete}
-use Rattle.journal.specs.Undo.{undoRecords, undoTexts, allSmall, fits}
-use Rattle.journal.specs.Groups.{endAll, endsAny}
-use Rattle.changeset.specs.Logs.{overSizes, damaged}
-use Rattle.changeset.specs.Calls.{undos, redos}
-use Rattle.changeset.specs.Outcomes.{beginOut, endOut}
+use Rattle.log_model.specs.Change.{begin, end, edit, insert, delete}
+use Rattle.log_model.specs.Layout.{sizeOf, textsAt, changeAt, wholeAt, decodeAt}
+use Rattle.log_model.specs.Recording.{note, recordInsert, recordDelete}
+use Rattle.log_model.specs.UndoBytes.{undoRecords, undoTexts, allSmall, fits}
+use Rattle.log_model.specs.Groups.{endAll, endsAny}
+use Rattle.log_state.specs.Logs.{overSizes, damaged}
+use Rattle.log_state.specs.Calls.{undos, redos}
+use Rattle.log_state.specs.Outcomes.{beginOut, endOut}
 use Rattle.edit.specs.Plan.{splice, textAfter, listAfter, tooLong, edited}
-use Rattle.retrace.specs.Retrace.{misfit, exchanging, undoing as Retrace·undoing}
-use Rattle.undo.specs.Undo.{walk, undoOut, redoOut}
+use Rattle.undo_step.specs.Retrace.{misfit, exchanging, undoing as Retrace·undoing}
+use Rattle.undo.specs.Undo.{walk, undoOut}
+use Rattle.undo_redo.specs.Redo.{redoOut}
 use Rattle.calls.specs.Calls as calls
 use Rattle.session.proofs.Played.{state, lendingIn, asking, typing, beginning, ending, undoing, redoing, played, after}
 
@@ -55,5 +56,8 @@ pub record Needed : Type 0 where
   pub zero : (after (typing a ∷ undoing 0 ∷ redoing 0 ∷ []) .text ≡ [])
 
 pub needed : Needed
-unfolding formatFor within one two lead3 three lead4 four firstOf first charsFrom validFrom startBefore scalar size encode isMember isControl isMark isAlnum isText isChar joined clusters sizes prevPos copied refusal sizeOf textsAt changeAt wholeAt decodeAt note recordInsert recordDelete undoRecords undoTexts allSmall fits endAll endsAny overSizes damaged undos redos beginOut endOut splice textAfter listAfter tooLong edited misfit exchanging Retrace·undoing walk undoOut redoOut
+unfolding formatFor within one two lead3 three lead4 four firstOf first charsFrom validFrom startBefore scalar size encode isMember isControl isMark
+    isAlnum isText isChar joined clusters sizes prevPos copied refusal sizeOf textsAt changeAt wholeAt decodeAt note recordInsert recordDelete
+    undoRecords undoTexts allSmall fits endAll endsAny overSizes damaged undos redos beginOut endOut splice textAfter listAfter tooLong edited misfit
+    exchanging Retrace·undoing walk undoOut redoOut
 needed = record { in-group = (refl, refl); group-open = (refl, refl); smaller = refl; above-units = (refl, refl); zero = refl }

@@ -6,11 +6,12 @@ use lib.Dec.{eqb}
 use lib.ListN.{length}
 use Rattle.lists.proofs.Every.{Every, every-append}
 use Rattle.unicode.specs.Repertoire.{Repertoire}
-use Rattle.journal.specs.Change.{Change, begin, end, edit, place, old, turn}
+use Rattle.log_model.specs.Change.{Change, begin, end, edit, place, old, turn}
 use Rattle.formats.specs.declared.Format.{Format}
 use Rattle.edit.specs.Plan.{State}
-use Rattle.retrace.specs.Retrace.{Trail, Tried, done, stops, undoing}
-use Rattle.undo.specs.Undo.{Waiting, owed, passing, settled, trailOf, redoWalk, redoneState}
+use Rattle.undo_step.specs.Retrace.{Trail, Tried, done, stops, undoing}
+use Rattle.undo.specs.Undo.{Waiting, owed, passing, settled, trailOf}
+use Rattle.undo_redo.specs.Redo.{redoWalk, redoneState}
 use Rattle.session.proofs.Invariant.{Bound, Chain, Inv}
 use Rattle.session.proofs.Links.{undo-link}
 use Rattle.session.proofs.Walks.{At, at-turned, move}

@@ -18,31 +18,31 @@ use Rattle.keymap.specs.declared.MovementCode.the-variants as code
 use Rattle.checks.specs.Checks.{Tests, ownTests}
 use Rattle.checks.specs.Outcome.{Outcome}
 use Rattle.checks.proofs.Fit.{Passed}
-use Rattle.copies.specs.Copy.{isForeign}
+use Rattle.motion_ranges.specs.Ranges.{isForeign}
 use Rattle.formats.specs.declared.Format.{Format}
 use Rattle.edit.specs.Plan.{State, Plan, once, nothing, cutting, swapping}
 use Rattle.edit.specs.Calls.{Lent, textOf, checked, editCall}
 use Rattle.edit.proofs.Tests.{own-passed}
 use Rattle.edit.proofs.Suits.{PlanSuits, nothing-plan, cutting-suits, cutting-cursor, swapping-suits, swapping-cursor}
-use Rattle.kills.specs.Kills.{killRange, cutPlan, killOf, killBy, placesPlan}
-use Rattle.kills.proofs.Suits.{kill-suits, kill-cursor, delete-suits, delete-cursor}
-use Rattle.ranges.specs.Ranges.{rangeTests, replaceTests}
-use Rattle.ranges.proofs.Tests.{range-in}
-use Rattle.inserts.specs.Inserts.{textTests, insertPlan, yankPlan, yankPopPlan, updatePlan}
-use Rattle.inserts.proofs.Suits.{insert-suits, insert-cursor, yank-suits, yank-cursor, yank-pop-suits, yank-pop-cursor, update-suits, update-cursor}
-use Rattle.transpose_chars.specs.TransposeChars.{transposeCharsPlan}
-use Rattle.edit_word.specs.EditWord.{editWordPlan, actionOf, editWordBy}
-use Rattle.edit_word.specs.declared.ActionCode.{ActionCode}
-use Rattle.edit_word.specs.declared.ActionCode.the-variants as action
-use Rattle.transpose_chars.proofs.Plans.{transpose-chars-suits}
-use Rattle.edit_word.proofs.Plans.{edit-word-suits}
-use Rattle.transpose_words.specs.TransposeWords.{transposeWordsPlan}
-use Rattle.transpose_words.proofs.Plans.{transpose-words-suits}
-use Rattle.touched_lines.specs.Touched.{touched, splits}
-use Rattle.indent_plans.specs.IndentPlans.{indentPlan, linesIn}
-use Rattle.indents.specs.Indents.{indentTests, indentOf, indentBy}
-use Rattle.indent_plans.proofs.Suits.{indent-suits}
-use Rattle.indent_plans.proofs.Cursors.{plan-cursor}
+use Rattle.edit_kill.specs.Kills.{killRange, cutPlan, killOf, killBy, placesPlan}
+use Rattle.edit_kill.proofs.Suits.{kill-suits, kill-cursor, delete-suits, delete-cursor}
+use Rattle.edit_range.specs.Ranges.{rangeTests, replaceTests}
+use Rattle.edit_range.proofs.Tests.{range-in}
+use Rattle.edit_insert.specs.Inserts.{textTests, insertPlan, yankPlan, yankPopPlan, updatePlan}
+use Rattle.edit_insert.proofs.Suits.{insert-suits, insert-cursor, yank-suits, yank-cursor, yank-pop-suits, yank-pop-cursor, update-suits, update-cursor}
+use Rattle.edit_transpose.specs.TransposeChars.{transposeCharsPlan}
+use Rattle.edit_case.specs.EditWord.{editWordPlan, actionOf, editWordBy}
+use Rattle.edit_case.specs.declared.ActionCode.{ActionCode}
+use Rattle.edit_case.specs.declared.ActionCode.the-variants as action
+use Rattle.edit_transpose.proofs.CharPlans.{transpose-chars-suits}
+use Rattle.edit_case.proofs.Plans.{edit-word-suits}
+use Rattle.edit_transpose.specs.TransposeWords.{transposeWordsPlan}
+use Rattle.edit_transpose.proofs.WordPlans.{transpose-words-suits}
+use Rattle.edit_indent_plans.specs.Touched.{touched, splits}
+use Rattle.edit_indent_plans.specs.IndentPlans.{indentPlan, linesIn}
+use Rattle.edit_indent.specs.Indents.{indentTests, indentOf, indentBy}
+use Rattle.edit_indent_plans.proofs.Suits.{indent-suits}
+use Rattle.edit_indent_plans.proofs.Cursors.{plan-cursor}
 use Rattle.calls.specs.Calls.{EditCall, editOutcome}
 use Rattle.calls.specs.Calls as asked
 
@@ -53,7 +53,8 @@ pub record Planned (R : Repertoire) (F : Format) (l : Lent) (o : Outcome State) 
   pub is : o ≡ editCall R F l own plan
   pub suits : checked R F l own ≡ 0 → PlanSuits R (textOf l) plan
 
-module _ (R : Repertoire) (law : Lawful R) (F : Format) (l : Lent) (v : isText R (textOf l) ≡ true) (i : In (textOf l) (l .line .cursor) (l .line .cursor)) (len : l .line .len ≡ length (textOf l)) where
+module _ (R : Repertoire) (law : Lawful R) (F : Format) (l : Lent) (v : isText R (textOf l) ≡ true)
+    (i : In (textOf l) (l .line .cursor) (l .line .cursor)) (len : l .line .len ≡ length (textOf l)) where
   abbrev t : List ℕ
   t = textOf l
 

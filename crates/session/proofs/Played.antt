@@ -5,10 +5,10 @@ use lib.ListN.{length, replicate}
 use Rattle.unicode.specs.Repertoire.{catalogue}
 use Rattle.checks.specs.declared.Line.{Line}
 use Rattle.checks.specs.Outcome.{Outcome, refused, answered}
-use Rattle.journal.specs.Change.{Change}
+use Rattle.log_model.specs.Change.{Change}
 use Rattle.formats.specs.Formats.{formatFor, logFormat}
-use Rattle.journal.specs.Layout.{encodeRecords, encodeTexts}
-use Rattle.changeset.specs.Calls.{row, logOf, truncateCall}
+use Rattle.log_model.specs.Layout.{encodeRecords, encodeTexts}
+use Rattle.log_state.specs.Calls.{row, logOf, truncateCall}
 use Rattle.edit.specs.Plan.{State}
 use Rattle.edit.specs.Calls.{Lent, lent, logLent}
 use Rattle.calls.specs.Calls as calls

@@ -16,11 +16,12 @@ use Rattle.unicode.specs.Repertoire.{Repertoire}
 use Rattle.unicode.specs.Text.{isText}
 use Rattle.unicode.proofs.Text.{text-append, text-cut, text-nil}
 use Rattle.checks.specs.Outcome.{Outcome, refused, answered, leaves}
-use Rattle.journal.specs.Change.{Edit, insert, delete, replace, Change, begin, end, edit, place, old, new}
+use Rattle.log_model.specs.Change.{Edit, insert, delete, replace, Change, begin, end, edit, place, old, new}
 use Rattle.formats.specs.declared.Format.{Format}
-use Rattle.journal.specs.Recording.{Joined, apart, joined, joinIf, join, onJoined, note}
-use Rattle.journal.specs.Undo.{Sizes, allSmall, fits}
-use Rattle.edit.specs.Plan.{Piece, typed, pasted, cutting, swapping, Plan, State, Suits, AllSuit, splice, made, recorded, blank, notedOr, textAfter, listAfter, redoAfter, tooLong, planned, edited}
+use Rattle.log_model.specs.Recording.{Joined, apart, joined, joinIf, join, onJoined, note}
+use Rattle.log_model.specs.UndoBytes.{Sizes, allSmall, fits}
+use Rattle.edit.specs.Plan.{Piece, typed, pasted, cutting, swapping, Plan, State, Suits, AllSuit, splice, made, recorded, blank, notedOr}
+use Rattle.edit.specs.Plan.{textAfter, listAfter, redoAfter, tooLong, planned, edited}
 use Rattle.edit.proofs.Parts.{part-none, part-between, part-text}
 use Rattle.edit.proofs.Pieces.{editAt, joinsAt, recorded-as, suits-text, made-text, blank-texts}
 use Rattle.session.proofs.Invariant.{Nest, Groups, Link, Chain, Here, Inv}
@@ -58,7 +59,8 @@ module _ (R : Repertoire) where
 
   -- ---- links
   -- a change and one right behind it, as one change
-  link-after : {Q : List ℕ → Type 0} {q p : ℕ} {o′ n′ o n t₀ t₁ t₂ : List ℕ} → Link R Q q o′ n′ t₀ t₁ → Link R Q p o n t₁ t₂ → q + length n′ ≡ p → Link R Q q (o′ ++ o) (n′ ++ n) t₀ t₂
+  link-after : {Q : List ℕ → Type 0} {q p : ℕ} {o′ n′ o n t₀ t₁ t₂ : List ℕ} → Link R Q q o′ n′ t₀ t₁ → Link R Q p o n t₁ t₂ → q + length n′ ≡ p
+      → Link R Q q (o′ ++ o) (n′ ++ n) t₀ t₂
   link-after {Q} {q} {p} {o′} {n′} {o} {n} {t₀} {t₁} {t₂} l m h =
       let x : length (l .before ++ n′) ≡ length (m .before) = rw length-append (omega (arith, l .place, m .place)) in
       let y : (l .before ++ n′) ++ l .behind ≡ m .before ++ (o ++ m .behind) = append-assoc (l .before) n′ (l .behind) ∙ (sym (l .there) ∙ m .here) in
@@ -78,7 +80,8 @@ module _ (R : Repertoire) where
       }
 
   -- a change and one right in front of it, as one change
-  link-before : {Q : List ℕ → Type 0} {q p : ℕ} {o′ n′ o n t₀ t₁ t₂ : List ℕ} → Link R Q q o′ n′ t₀ t₁ → Link R Q p o n t₁ t₂ → q ≡ p + length o → Link R Q p (o ++ o′) (n ++ n′) t₀ t₂
+  link-before : {Q : List ℕ → Type 0} {q p : ℕ} {o′ n′ o n t₀ t₁ t₂ : List ℕ} → Link R Q q o′ n′ t₀ t₁ → Link R Q p o n t₁ t₂ → q ≡ p + length o
+      → Link R Q p (o ++ o′) (n ++ n′) t₀ t₂
   link-before l m h = turned R (link-after (turned R m) (turned R l) (sym h))
 
   -- no text there and none put in: nothing is changed
@@ -116,7 +119,8 @@ module _ (R : Repertoire) where
       join-if Q t₀ t₂ (eqb (q + length n′) p) (replace q (o′ ++ o) (n′ ++ n)) apart (λ h. link-after l m (eqb-true (q + length n′) p h)) tt
 
   -- the chain on behind two changes, joined or apart
-  joined-chain : (Q : List ℕ → Type 0) (e t₀ t₁ t₂ : List ℕ) (j : Joined) (y x : Edit) (u : List Change) → OnJoined Q t₀ t₂ j → Leads Q y t₀ t₁ → Leads Q x t₁ t₂ → Chain R Q e u t₀ → Chain R Q e (onJoined j y x u) t₂
+  joined-chain : (Q : List ℕ → Type 0) (e t₀ t₁ t₂ : List ℕ) (j : Joined) (y x : Edit) (u : List Change) → OnJoined Q t₀ t₂ j → Leads Q y t₀ t₁
+      → Leads Q x t₁ t₂ → Chain R Q e u t₀ → Chain R Q e (onJoined j y x u) t₂
   joined-chain Q e t₀ t₁ t₂ apart y x u h l m c = (t₁, m, (t₀, l, c))
   joined-chain Q e t₀ t₁ t₂ (joined z) y x u h l m c = (t₀, h, c)
 
@@ -131,7 +135,8 @@ module _ (R : Repertoire) where
 
   -- ---- a piece that suits the text
   -- a part replaced is a link
-  splice-link : (Q : List ℕ → Type 0) (t : List ℕ) (a b : ℕ) (s : List ℕ) → isText R t ≡ true → isText R s ≡ true → In t a b → Q t → Q (splice t a b s) → Link R Q a (part t a b) s t (splice t a b s)
+  splice-link : (Q : List ℕ → Type 0) (t : List ℕ) (a b : ℕ) (s : List ℕ) → isText R t ≡ true → isText R s ≡ true → In t a b → Q t
+      → Q (splice t a b s) → Link R Q a (part t a b) s t (splice t a b s)
   unfolding splice
   splice-link Q t a b s v w i q q′ =
       let h = i .0 in
@@ -151,7 +156,8 @@ module _ (R : Repertoire) where
       }
 
   -- so is a text put in at a place
-  put-link : (Q : List ℕ → Type 0) (t : List ℕ) (p : ℕ) (s : List ℕ) → isText R t ≡ true → isText R s ≡ true → In t p p → Q t → Q (splice t p p s) → Link R Q p [] s t (splice t p p s)
+  put-link : (Q : List ℕ → Type 0) (t : List ℕ) (p : ℕ) (s : List ℕ) → isText R t ≡ true → isText R s ≡ true → In t p p → Q t → Q (splice t p p s)
+      → Link R Q p [] s t (splice t p p s)
   put-link Q t p s v w i q q′ = subst (λ (o : List ℕ). Link R Q p o s t (splice t p p s)) (part-none t p) (splice-link Q t p p s v w i q q′)
 
   -- the change that the log notes of a piece leads to the text that the piece makes
@@ -162,7 +168,8 @@ module _ (R : Repertoire) where
   piece-leads Q (swapping a b s) t v h q q′ = splice-link Q t a b s v (h .1) (h .0) q q′
 
   -- the change recorded, or nothing where it changes nothing
-  noted-here : (Q : List ℕ → Type 0) (t₀ : List ℕ) (k : ℕ) (g : List ℕ) (j : Bool) (x : Edit) (t t′ : List ℕ) (u : List Change) → Leads Q x t t′ → isText R t′ ≡ true → Here R Q t₀ k g t u → Here R Q t₀ k g t′ (notedOr j x u)
+  noted-here : (Q : List ℕ → Type 0) (t₀ : List ℕ) (k : ℕ) (g : List ℕ) (j : Bool) (x : Edit) (t t′ : List ℕ) (u : List Change) → Leads Q x t t′
+      → isText R t′ ≡ true → Here R Q t₀ k g t u → Here R Q t₀ k g t′ (notedOr j x u)
   noted-here Q t₀ k g j x t t′ u l v h =
       by-test (Here R Q t₀ k g t′ (notedOr j x u)) (blank x)
       (λ e. let b = blank-texts x e in
@@ -170,7 +177,8 @@ module _ (R : Repertoire) where
       (λ e. rw e (record { chain = note-chain j Q t₀ t t′ x u l (h .chain); text = v; allowed = l .second; groups = groups-note j k g x u (h .groups) }))
 
   -- a piece made and recorded
-  pub piece-here : (Q : List ℕ → Type 0) (t₀ : List ℕ) (k : ℕ) (g : List ℕ) (x : Piece) (t : List ℕ) (u : List Change) → Suits R x t → Q (made x t) → Here R Q t₀ k g t u → Here R Q t₀ k g (made x t) (recorded R x t u)
+  pub piece-here : (Q : List ℕ → Type 0) (t₀ : List ℕ) (k : ℕ) (g : List ℕ) (x : Piece) (t : List ℕ) (u : List Change) → Suits R x t → Q (made x t)
+      → Here R Q t₀ k g t u → Here R Q t₀ k g (made x t) (recorded R x t u)
   piece-here Q t₀ k g x t u s q h =
       subst (Here R Q t₀ k g (made x t)) (sym (recorded-as R x t u))
       (noted-here Q t₀ k g (joinsAt R x t) (editAt x t) t (made x t) u (piece-leads Q x t (h .text) s (h .allowed) q) (made-text R x t s (h .text)) h)
@@ -205,7 +213,8 @@ module _ (R : Repertoire) where
     redo-after (x ∷ xs) t r goal c n e = (textAfter xs (made x t), refl, refl, refl)
 
     -- refused by none
-    planned-keeps : (z : Sizes) (C : ℕ) (p : Plan) (s : State) (g : List ℕ) → New Q C (p .pieces) (s .text) → AllSuit R (p .pieces) (s .text) → In (textAfter (p .pieces) (s .text)) (p .cursor) (p .cursor)
+    planned-keeps : (z : Sizes) (C : ℕ) (p : Plan) (s : State) (g : List ℕ) → New Q C (p .pieces) (s .text) → AllSuit R (p .pieces) (s .text)
+        → In (textAfter (p .pieces) (s .text)) (p .cursor) (p .cursor)
         → Inv R F Q t₀ s g → tooLong C (p .pieces) (s .text) ≡ false → fits F z (listAfter R (p .pieces) (s .text) (s .log .undo)) ≡ true → Inv R F Q t₀ (planned R p s) g
     unfolding fits
     planned-keeps z C p s g n a i v e f =
@@ -221,7 +230,8 @@ module _ (R : Repertoire) where
         }
 
     -- a plan that suits the text, refused by 9, by 10 or by none; where it is refused, nothing is asked of its texts
-    pub plan-keeps : (z : Sizes) (C : ℕ) (p : Plan) (s : State) (g : List ℕ) → (Answered (edited R F z C p s) → New Q C (p .pieces) (s .text)) → AllSuit R (p .pieces) (s .text) → In (textAfter (p .pieces) (s .text)) (p .cursor) (p .cursor)
+    pub plan-keeps : (z : Sizes) (C : ℕ) (p : Plan) (s : State) (g : List ℕ) → (Answered (edited R F z C p s) → New Q C (p .pieces) (s .text))
+        → AllSuit R (p .pieces) (s .text) → In (textAfter (p .pieces) (s .text)) (p .cursor) (p .cursor)
         → Inv R F Q t₀ s g → Inv R F Q t₀ (leaves (edited R F z C p s) s) g
     unfolding edited
     plan-keeps z C p s g n a i v =

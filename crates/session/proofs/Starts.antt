@@ -10,15 +10,15 @@ use Rattle.lists.proofs.Bools.{or-none}
 use Rattle.unicode.specs.Repertoire.{Repertoire}
 use Rattle.checks.specs.Checks.{both, ownTests}
 use Rattle.checks.proofs.Fit.{Fit, Passed, fit}
-use Rattle.journal.specs.Change.{Change, turn}
-use Rattle.journal.specs.Groups as groups
+use Rattle.log_model.specs.Change.{Change, turn}
+use Rattle.log_model.specs.Groups as groups
 use Rattle.formats.specs.declared.Format.{Format}
-use Rattle.journal.specs.Undo.{allSmall}
-use Rattle.journal.proofs.Decode.{decode-encode}
-use Rattle.changeset.specs.Logs.{overSizes, logTests}
-use Rattle.changeset.specs.Calls as logs
-use Rattle.changeset.specs.declared.Log.{Log}
-use Rattle.changeset.proofs.Passed.{sized}
+use Rattle.log_model.specs.UndoBytes.{allSmall}
+use Rattle.log_model.proofs.Decode.{decode-encode}
+use Rattle.log_state.specs.Logs.{overSizes, logTests}
+use Rattle.log_state.specs.Calls as logs
+use Rattle.log_state.specs.declared.Log.{Log}
+use Rattle.log_state.proofs.Passed.{sized}
 use Rattle.edit.specs.Calls.{Lent, textOf, logLent, stateOf, checked}
 use Rattle.session.specs.Runs.{Sized, buffersOf}
 use Rattle.session.specs.Demand3.{Starts}
@@ -69,7 +69,8 @@ module _ (R : Repertoire) (F : Format) (l : Lent) (z : Starts R l) (passes : che
   pub start-stands : Stands F (stateOf R F l) l
   start-stands =
       let f = passed .0 in
-      let e : logs.valueOf R F (logLent l) ≡ groups.empty = ap (λ (g : Log). logs.valueOf R F (logs.lent (l .records) (l .texts) g)) (z .log) ∙ log-none R F (l .records) (l .texts) in
+      let e : logs.valueOf R F (logLent l) ≡ groups.empty = ap (λ (g : Log). logs.valueOf R F (logs.lent (l .records) (l .texts) g)) (z .log)
+      ∙ log-none R F (l .records) (l .texts) in
       let n = length-take-le (l .line .len) (l .text) (f .used) in
       record {
         stored =

@@ -10,13 +10,14 @@ use Rattle.unicode.specs.Repertoire.{Repertoire, Lawful}
 use Rattle.unicode.specs.Text.{isText}
 use Rattle.checks.specs.Checks.{both, lineTests, ownTests}
 use Rattle.checks.specs.Outcome.{Outcome, called, leaves}
-use Rattle.journal.specs.Change.{Change, begin as Change·begin, end as Change·end, edit as Change·edit}
+use Rattle.log_model.specs.Change.{Change, begin as Change·begin, end as Change·end, edit as Change·edit}
 use Rattle.formats.specs.declared.Format.{Format}
-use Rattle.changeset.specs.Logs.{logTests}
+use Rattle.log_state.specs.Logs.{logTests}
 use Rattle.edit.specs.Plan.{Piece, made, State}
 use Rattle.edit.specs.Calls.{Lent, textOf, sizesOf, checked, stateOf}
-use Rattle.undo.specs.Undo.{undoOut, redoOut}
-use Rattle.cancel.specs.Cancel.{cancelOut}
+use Rattle.undo.specs.Undo.{undoOut}
+use Rattle.undo_redo.specs.Redo.{redoOut}
+use Rattle.undo_cancel.specs.Cancel.{cancelOut}
 use Rattle.calls.specs.Calls.{EditCall, editOutcome, Asked, edit, move, log, begin, end, lastInsert, undo, redo, cancel, outcomeOf}
 use Rattle.calls.specs.Contracts.{Buffers}
 use Rattle.session.specs.Runs.{Allowed}
@@ -58,7 +59,13 @@ module _ (R : Repertoire) (Q Q′ : List ℕ → Type 0) (more : (t : List ℕ) 
   pub inv-more : (F : Format) (t₀ : List ℕ) (s : State) (g : List ℕ) → Inv R F Q t₀ s g → Inv R F Q′ t₀ s g
   inv-more F t₀ s g v =
       record {
-        here = record { chain = chain-more t₀ (s .log .undo) (s .text) (v .here .chain); text = v .here .text; allowed = more (s .text) (v .here .allowed); groups = v .here .groups };
+        here = record {
+          chain = chain-more t₀ (s .log .undo) (s .text) (v .here .chain);
+          text = v .here .text;
+          allowed = more (s .text)
+              (v .here .allowed);
+          groups = v .here .groups;
+        };
         goal = v .goal;
         forth = chain-more (v .goal) (s .log .redo) (s .text) (v .forth);
         nested = v .nested;
@@ -89,13 +96,17 @@ module _ (R : Repertoire) (law : Lawful R) (F : Format) (Q : List ℕ → Type 0
     edit-keeps x n =
         let p = planned R law F l (held .here .text) (held .cursor) len x in
         subst (λ (o : Outcome State). Keeps R F Q t₀ (edit x) o s g) (sym (p .is))
-        (by-checks R F Q t₀ l s g is v (edit x) (checked R F l (p .own)) _ (not-one (both (lineTests R F (l .text) (l .line)) (both (logTests R F (l .log) (l .records) (l .texts)) (p .own))))
+        (by-checks R F Q t₀ l s g is v (edit x) (checked R F l (p .own)) _
+        (not-one (both (lineTests R F (l .text) (l .line)) (both (logTests R F (l .log) (l .records) (l .texts)) (p .own))))
         (λ e.
-        plan-keeps R F Q t₀ (sizesOf l) (length (l .text)) (p .plan) (stateOf R F l) g (λ q. n (held .here .text) (held .cursor) len (subst Answered (sym (p .is)) (rw e q))) (p .suits e .0) (p .suits e .1) held))
+        plan-keeps R F Q t₀ (sizesOf l) (length (l .text)) (p .plan) (stateOf R F l) g
+        (λ q. n (held .here .text) (held .cursor) len (subst Answered (sym (p .is)) (rw e q))) (p .suits e .0) (p .suits e .1) held))
 
     -- a call of the log that is lent the text too
-    log-keeps : (a : Asked) (f : State → Outcome State) → Keeps R F Q t₀ a (f (stateOf R F l)) (stateOf R F l) g → Keeps R F Q t₀ a (called (checked R F l (ownTests false false false)) (f (stateOf R F l))) s g
-    log-keeps a f k = by-checks R F Q t₀ l s g is v a (checked R F l (ownTests false false false)) (f (stateOf R F l)) (not-one (both (lineTests R F (l .text) (l .line)) (both (logTests R F (l .log) (l .records) (l .texts)) (ownTests false false false)))) (λ e. k)
+    log-keeps : (a : Asked) (f : State → Outcome State) → Keeps R F Q t₀ a (f (stateOf R F l)) (stateOf R F l) g
+        → Keeps R F Q t₀ a (called (checked R F l (ownTests false false false)) (f (stateOf R F l))) s g
+    log-keeps a f k = by-checks R F Q t₀ l s g is v a (checked R F l (ownTests false false false)) (f (stateOf R F l))
+        (not-one (both (lineTests R F (l .text) (l .line)) (both (logTests R F (l .log) (l .records) (l .texts)) (ownTests false false false)))) (λ e. k)
 
     -- each call, where the texts that it leads to are of Q
     pub keeps : Bound Q (length (l .text)) → (a : Asked) → NewBy R law F Q l a → Allowed a g → Keeps R F Q t₀ a (outcomeOf R F l a) s g
@@ -114,7 +125,8 @@ module _ (R : Repertoire) (law : Lawful R) (F : Format) (Q : List ℕ → Type 0
 
 -- ---- a call of a run
 -- Q is what holds of the texts before it, Q′ of those and of the texts that it leads to
-pub step-keeps : (R : Repertoire) (law : Lawful R) (F : Format) (Q Q′ : List ℕ → Type 0) (t₀ : List ℕ) (b b′ : Buffers) (a : Asked) (s : State) (g : List ℕ) → Handed F b s b′ → Allowed a g
+pub step-keeps : (R : Repertoire) (law : Lawful R) (F : Format) (Q Q′ : List ℕ → Type 0) (t₀ : List ℕ) (b b′ : Buffers) (a : Asked) (s : State)
+    (g : List ℕ) → Handed F b s b′ → Allowed a g
     → ((t : List ℕ) → Q t → Q′ t) → Bound Q′ (length (b′ .text)) → NewBy R law F Q′ (lentFor F s b′) a → Inv R F Q t₀ s g
     → Inv R F Q′ t₀ (leaves (outcomeOf R F (lentFor F s b′) a) s) (openAfter a (outcomeOf R F (lentFor F s b′) a) g)
 step-keeps R law F Q Q′ t₀ b b′ a s g h q more top n v =
@@ -138,7 +150,9 @@ all-short R law F l (redo n) = tt
 all-short R law F l (cancel m) = tt
 
 -- every text fits the buffer that is lent
-pub short-keeps : (R : Repertoire) → Lawful R → (F : Format) (t₀ : List ℕ) (b b′ : Buffers) (a : Asked) (s : State) (g : List ℕ) → Handed F b s b′ → Allowed a g → Inv R F (Short (length (b .text))) t₀ s g
+pub short-keeps : (R : Repertoire) → Lawful R → (F : Format) (t₀ : List ℕ) (b b′ : Buffers) (a : Asked) (s : State) (g : List ℕ) → Handed F b s b′
+    → Allowed a g → Inv R F (Short (length (b .text))) t₀ s g
     → Inv R F (Short (length (b′ .text))) t₀ (leaves (outcomeOf R F (lentFor F s b′) a) s) (openAfter a (outcomeOf R F (lentFor F s b′) a) g)
 short-keeps R law F t₀ b b′ a s g h q v =
-    step-keeps R law F (Short (length (b .text))) (Short (length (b′ .text))) t₀ b b′ a s g h q (λ t k. omega (arith, h .noSmaller .text)) (λ t k. k) (all-short R law F (lentFor F s b′) a) v
+    step-keeps R law F (Short (length (b .text))) (Short (length (b′ .text))) t₀ b b′ a s g h q (λ t k. omega (arith, h .noSmaller .text)) (λ t k. k)
+    (all-short R law F (lentFor F s b′) a) v

@@ -10,10 +10,11 @@ use Rattle.lists.proofs.Bools.{by-test}
 use Rattle.utf8.specs.Chars.{In}
 use Rattle.unicode.specs.Repertoire.{Repertoire}
 use Rattle.checks.specs.Outcome.{Outcome, refused, answered, numberIn, leaves}
-use Rattle.journal.specs.Change.{Change, begin, end, edit}
+use Rattle.log_model.specs.Change.{Change, begin, end, edit}
 use Rattle.formats.specs.declared.Format.{Format}
 use Rattle.edit.specs.Plan.{State}
-use Rattle.undo.specs.Undo.{owed, Walked, walk, numberOf, trailOf, undoneState, undoWalk, undoOut, redoWalk, redoneState, behindNumber, redoOut}
+use Rattle.undo.specs.Undo.{owed, Walked, walk, numberOf, trailOf, undoneState, undoWalk, undoOut}
+use Rattle.undo_redo.specs.Redo.{redoWalk, redoneState, behindNumber, redoOut}
 use Rattle.session.proofs.Values.{Units, SameTextAndLog}
 use Rattle.session.proofs.Invariant.{Nest, Open, Groups, Bound, Chain, Inv}
 use Rattle.session.proofs.Walks.{At, at-turned, Good, good, WalkedBack, walk-back, more, further, walk-cap, walk-lt, forget, walk-undone}

@@ -7,7 +7,7 @@ use lib.Dec.{eqb, leb}
 use lib.ListN.{length}
 use Rattle.checks.specs.Outcome.{Outcome, refused, answered, numberIn, leaves}
 use Rattle.formats.specs.declared.Format.{Format}
-use Rattle.changeset.specs.Calls.{logOf}
+use Rattle.log_state.specs.Calls.{logOf}
 use Rattle.edit.specs.Plan.{State}
 use Rattle.edit.specs.Calls.{Lent, lent, Stored}
 use Rattle.undo.specs.Undo.{undoOut}

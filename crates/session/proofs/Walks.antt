@@ -12,12 +12,12 @@ use Rattle.lists.proofs.Bools.{and-both}
 use Rattle.utf8.specs.Chars.{In}
 use Rattle.unicode.specs.Repertoire.{Repertoire}
 use Rattle.unicode.specs.Text.{isText}
-use Rattle.journal.specs.Change.{insert, delete, replace, Change, begin, end, edit, place, old, flipped, turn}
+use Rattle.log_model.specs.Change.{insert, delete, replace, Change, begin, end, edit, place, old, flipped, turn}
 use Rattle.numbers.specs.Numbers.{top}
 use Rattle.formats.specs.declared.Format.{Format}
-use Rattle.journal.specs.Undo.{small, allSmall}
-use Rattle.journal.proofs.Newest.{turn-turn}
-use Rattle.retrace.specs.Retrace.{Trail, Tried, done, stops, undoing}
+use Rattle.log_model.specs.UndoBytes.{small, allSmall}
+use Rattle.log_model.proofs.Newest.{turn-turn}
+use Rattle.undo_step.specs.Retrace.{Trail, Tried, done, stops, undoing}
 use Rattle.undo.specs.Undo.{Waiting, owed, passing, settled, Walked, onTried, onSettled, walk}
 use Rattle.session.proofs.Invariant.{Nest, Bound, Chain}
 use Rattle.session.proofs.Links.{undo-link, flip-link, cursor-link, text-link}
@@ -94,7 +94,8 @@ more C k w = walk C k (owed 0) (w .from) (w .to) (w .trail)
 
 -- l units more and k + 1 more are l + k + 1 more
 settled-more : (C k d l : ℕ) (u r : List Change) (s : Trail) → ((i : ℕ) → walk C (i + suc k) (owed d) u r s ≡ more C k (walk C i (owed d) u r s))
-    → onSettled (settled (owed d)) (l + suc k) (arrived u r s) (λ i. walk C i (owed d) u r s) ≡ more C k (onSettled (settled (owed d)) l (arrived u r s) (λ i. walk C i (owed d) u r s))
+    → onSettled (settled (owed d)) (l + suc k) (arrived u r s) (λ i. walk C i (owed d) u r s) ≡ more C k
+    (onSettled (settled (owed d)) l (arrived u r s) (λ i. walk C i (owed d) u r s))
 unfolding more
 settled-more C k zero zero u r s g = rw zero-add
 settled-more C k zero (suc l) u r s g = rw suc-add (g l)
@@ -189,8 +190,11 @@ module _ (R : Repertoire) (F : Format) (Q : List ℕ → Type 0) where
         at = at-next (edit x) u r z d t (z .nested) (z .nested′) (z .chain .2) (s .text, flip-link R x l, z .chain′) (text-link R l) (l .first);
         cursor = λ k. cursor-link R l;
         retried =
-            λ c.
-            (record { text = s .text; cursor = place (flipped x) + length (old (flipped x)); undone = true }, undo-link R C (flipped x) (s .text) (withText t c) h (flip-link R x l));
+            λ c. (
+              record { text = s .text; cursor = place (flipped x) + length (old (flipped x)); undone = true },
+              undo-link R C (flipped x) (s .text)
+                  (withText t c) h (flip-link R x l),
+            );
         repassed = refl;
       }
 

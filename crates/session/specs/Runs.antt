@@ -9,7 +9,7 @@ use lib.ListN.{length, take}
 use Rattle.unicode.specs.Repertoire.{Repertoire}
 use Rattle.checks.specs.declared.Line.{Line}
 use Rattle.formats.specs.declared.Format.{Format}
-use Rattle.changeset.specs.declared.Log.{Log}
+use Rattle.log_state.specs.declared.Log.{Log}
 use Rattle.edit.specs.Calls.{Lent, lent, formatOf, textOf}
 use Rattle.calls.specs.Calls.{Asked, edit, move, log, begin, end, lastInsert, undo, redo, cancel}
 use Rattle.calls.specs.Contracts.{Buffers, AnswerTo, Meets}

@@ -1,8 +1,8 @@
 // The calls of `Changeset`.
-use changeset::Log;
-use changeset::LogAnswer;
 use checks::Line;
 use edit::EditAnswer;
+use log_state::Log;
+use log_state::LogAnswer;
 use test_fields::code_of;
 use test_fields::count_of;
 use test_fields::value_at;
@@ -30,7 +30,7 @@ fn log_call(
     let a = value_at(v, 0);
     let ch = code_of(value_at(v, 1));
     match key {
-        1 => changeset::says(0, Log::new()),
+        1 => log_state::says(0, Log::new()),
         2 => log_calls::begin(records, texts, log),
         3 => log_calls::end(records, texts, log),
         4 => log_calls::last_insert(records, texts, log),
@@ -59,8 +59,8 @@ pub fn call(
     match key {
         0 => super::no_call(line, log),
         10 => undo::undo(text, records, texts, line, log, n),
-        11 => redo::redo(text, records, texts, line, log, n),
-        12 => cancel::cancel(text, records, texts, line, log, a),
+        11 => undo_redo::redo(text, records, texts, line, log, n),
+        12 => undo_cancel::cancel(text, records, texts, line, log, a),
         _ => on_line(line, log_call(key, records, texts, log, buf, new, v)),
     }
 }

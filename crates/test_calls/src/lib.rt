@@ -3,10 +3,10 @@
 mod changeset_calls;
 mod line_calls;
 
-use changeset::Log;
 use checks::Line;
 use checks::LineAnswer;
 use edit::EditAnswer;
+use log_state::Log;
 use test_edit_calls::edit_calls;
 use test_edit_calls::kill_calls;
 use test_fields::NO_CALL;

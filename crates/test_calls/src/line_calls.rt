@@ -33,7 +33,7 @@ fn copy_call(text: &[u8], line: Line, v: &[usize]) -> LineAnswer {
     let word = code_of(value_at(v, 3));
     let search = code_of(value_at(v, 4));
     let ch = code_of(value_at(v, 5));
-    copies::copy(text, line, mvt, n, at, word, search, ch)
+    motion_calls::copy(text, line, mvt, n, at, word, search, ch)
 }
 
 // The calls of codes, a character and counts.
@@ -43,9 +43,9 @@ fn found_call(key: usize, text: &[u8], line: Line, v: &[usize]) -> LineAnswer {
     let nb = count_of(value_at(v, 1));
     let nc = count_of(value_at(v, 2));
     match key {
-        13 => movement::move_to_prev_word(text, line, a, nb),
-        14 => movement::move_to_next_word(text, line, a, b, nc),
-        15 => movement::move_to(text, line, a, b, nc),
+        13 => motion_calls::move_to_prev_word(text, line, a, nb),
+        14 => motion_calls::move_to_next_word(text, line, a, b, nc),
+        15 => motion_calls::move_to(text, line, a, b, nc),
         _ => copy_call(text, line, v),
     }
 }
@@ -57,18 +57,18 @@ pub fn call(key: usize, text: &[u8], line: Line, v: &[usize]) -> LineAnswer {
     let n = count_of(a);
     match key {
         0 => no_call(line),
-        1 => movement::is_cursor_at_end(text, line),
-        2 => movement::is_end_of_input(text, line),
-        3 => movement::move_buffer_start(text, line),
-        4 => movement::move_buffer_end(text, line),
-        5 => movement::move_home(text, line),
-        6 => movement::move_end(text, line),
-        7 => movement::set_pos(text, line, a),
-        8 => movement::next_pos(text, line, n),
-        9 => movement::move_forward(text, line, n),
-        10 => movement::move_backward(text, line, n),
-        11 => movement::move_to_line_up(text, line, n, b),
-        12 => movement::move_to_line_down(text, line, n, b),
+        1 => motion_calls::is_cursor_at_end(text, line),
+        2 => motion_calls::is_end_of_input(text, line),
+        3 => motion_calls::move_buffer_start(text, line),
+        4 => motion_calls::move_buffer_end(text, line),
+        5 => motion_calls::move_home(text, line),
+        6 => motion_calls::move_end(text, line),
+        7 => motion_calls::set_pos(text, line, a),
+        8 => motion_calls::next_pos(text, line, n),
+        9 => motion_calls::move_forward(text, line, n),
+        10 => motion_calls::move_backward(text, line, n),
+        11 => motion_calls::move_to_line_up(text, line, n, b),
+        12 => motion_calls::move_to_line_down(text, line, n, b),
         _ => found_call(key, text, line, v),
     }
 }

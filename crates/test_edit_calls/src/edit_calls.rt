@@ -1,7 +1,7 @@
 // The calls of `inserts`, `ranges`, `transpose_chars`, `edit_word`, `transpose_words` and `indents`.
-use changeset::Log;
 use checks::Line;
 use edit::EditAnswer;
+use log_state::Log;
 use test_fields::amount_of;
 use test_fields::code_of;
 use test_fields::count_of;
@@ -33,7 +33,7 @@ fn indent_call(
     let ch = code_of(value_at(v, 5));
     let amount = amount_of(value_at(v, 6));
     let dedent = value_at(v, 7) != 0;
-    indents::indent(
+    edit_indent::indent(
         text,
         records,
         texts,
@@ -67,15 +67,15 @@ pub fn call(
     let n = count_of(a);
     let nb = count_of(b);
     match key {
-        1 => inserts::insert(text, records, texts, line, log, code, nb),
-        2 => inserts::yank(text, records, texts, line, log, buf, n),
-        3 => inserts::yank_pop(text, records, texts, line, log, a, buf),
-        4 => inserts::update(text, records, texts, line, log, buf, a),
-        5 => ranges::delete_range(text, records, texts, line, log, a, b),
-        6 => ranges::replace(text, records, texts, line, log, a, b, buf),
-        7 => transpose_chars::transpose_chars(text, records, texts, line, log),
-        8 => edit_word::edit_word(text, records, texts, line, log, code),
-        9 => transpose_words::transpose_words(text, records, texts, line, log, n),
+        1 => edit_insert::insert(text, records, texts, line, log, code, nb),
+        2 => edit_insert::yank(text, records, texts, line, log, buf, n),
+        3 => edit_insert::yank_pop(text, records, texts, line, log, a, buf),
+        4 => edit_insert::update(text, records, texts, line, log, buf, a),
+        5 => edit_range::delete_range(text, records, texts, line, log, a, b),
+        6 => edit_range::replace(text, records, texts, line, log, a, b, buf),
+        7 => edit_transpose::transpose_chars(text, records, texts, line, log),
+        8 => edit_case::edit_word(text, records, texts, line, log, code),
+        9 => edit_transpose::transpose_words(text, records, texts, line, log, n),
         _ => indent_call(text, records, texts, line, log, v),
     }
 }

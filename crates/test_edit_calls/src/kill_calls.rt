@@ -1,7 +1,7 @@
 // The calls of `kills` and `deletions`.
-use changeset::Log;
 use checks::Line;
 use edit::EditAnswer;
+use log_state::Log;
 use test_fields::code_of;
 use test_fields::count_of;
 use test_fields::value_at;
@@ -36,15 +36,15 @@ pub fn call(
     let search = code_of(value_at(v, 4));
     let ch = code_of(value_at(v, 5));
     match key {
-        1 => deletions::kill_line(text, records, texts, line, log),
-        2 => deletions::kill_buffer(text, records, texts, line, log),
-        3 => deletions::discard_line(text, records, texts, line, log),
-        4 => deletions::discard_buffer(text, records, texts, line, log),
-        5 => deletions::backspace(text, records, texts, line, log, n),
-        6 => deletions::delete(text, records, texts, line, log, n),
-        7 => deletions::delete_prev_word(text, records, texts, line, log, a, nb),
-        8 => deletions::delete_word(text, records, texts, line, log, a, b, nc),
-        9 => deletions::delete_to(text, records, texts, line, log, a, b, nc),
-        _ => kills::kill(text, records, texts, line, log, a, nb, at, word, search, ch),
+        1 => edit_kill::kill_line(text, records, texts, line, log),
+        2 => edit_kill::kill_buffer(text, records, texts, line, log),
+        3 => edit_kill::discard_line(text, records, texts, line, log),
+        4 => edit_kill::discard_buffer(text, records, texts, line, log),
+        5 => edit_kill::backspace(text, records, texts, line, log, n),
+        6 => edit_kill::delete(text, records, texts, line, log, n),
+        7 => edit_kill::delete_prev_word(text, records, texts, line, log, a, nb),
+        8 => edit_kill::delete_word(text, records, texts, line, log, a, b, nc),
+        9 => edit_kill::delete_to(text, records, texts, line, log, a, b, nc),
+        _ => edit_kill::kill(text, records, texts, line, log, a, nb, at, word, search, ch),
     }
 }

@@ -1,6 +1,6 @@
 // What a call leaves, and answers, beside what a line says: the fields behind '>'.
-use changeset::Used;
 use edit::EditAnswer;
+use log_state::Used;
 use test_fields::end_of_field;
 use test_fields::is_field_left;
 use test_fields::numbers_of;

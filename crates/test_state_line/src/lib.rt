@@ -3,11 +3,11 @@
 // The head of a data file of `test_answers` says what its fields are.
 mod left;
 
-use changeset::Log;
-use changeset::Used;
 use checks::Line;
 use edit::EditAnswer;
 use left::is_all_left;
+use log_state::Log;
+use log_state::Used;
 use test_calls::call;
 use test_calls::no_call;
 use test_fields::NO_CALL;

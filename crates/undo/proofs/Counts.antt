@@ -6,9 +6,9 @@ use mathlib.Core.Bool.{true, false, cond}
 use lib.Dec.{eqb}
 use borrow.Author.Tests.{eqb-true, ne-eqb}
 use Rattle.lists.proofs.Bools.{by-test}
-use Rattle.journal.specs.Change.{Change, begin, end, edit, insert, delete, replace, turn}
+use Rattle.log_model.specs.Change.{Change, begin, end, edit, insert, delete, replace, turn}
 use Rattle.formats.specs.declared.Format.{Format}
-use Rattle.records.specs.Records.{numbersOf}
+use Rattle.log_records.specs.Records.{numbersOf}
 use Rattle.undo.specs.Undo.{Waiting, owed, below, passing, settled}
 
 -- the counter, by the Ends and the Begins that were passed
@@ -43,7 +43,8 @@ none-counts (owed n) ends begins h = omega arith
 none-counts (below n) ends begins h = omega arith
 
 -- undone: an End has the kind 2, a Begin 1
-back : (F : Format) (x : Change) (w : Waiting) (ends begins : ℕ) → Waits w ends begins → Waits (passing x w) (ends + cond (eqb (numbersOf F x .kind) 2) 1 0) (begins + cond (eqb (numbersOf F x .kind) 1) 1 0)
+back : (F : Format) (x : Change) (w : Waiting) (ends begins : ℕ) → Waits w ends begins
+    → Waits (passing x w) (ends + cond (eqb (numbersOf F x .kind) 2) 1 0) (begins + cond (eqb (numbersOf F x .kind) 1) 1 0)
 back F begin w ends begins h = begin-counts w ends begins h
 back F end w ends begins h = end-counts w ends begins h
 back F (edit (insert p s)) w ends begins h = none-counts w ends begins h
@@ -51,7 +52,8 @@ back F (edit (delete p s)) w ends begins h = none-counts w ends begins h
 back F (edit (replace p o n)) w ends begins h = none-counts w ends begins h
 
 -- redone: it is passed turned round
-on : (F : Format) (x : Change) (w : Waiting) (ends begins : ℕ) → Waits w ends begins → Waits (passing x w) (ends + cond (eqb (numbersOf F (turn x) .kind) 1) 1 0) (begins + cond (eqb (numbersOf F (turn x) .kind) 2) 1 0)
+on : (F : Format) (x : Change) (w : Waiting) (ends begins : ℕ) → Waits w ends begins
+    → Waits (passing x w) (ends + cond (eqb (numbersOf F (turn x) .kind) 1) 1 0) (begins + cond (eqb (numbersOf F (turn x) .kind) 2) 1 0)
 on F begin w ends begins h = begin-counts w ends begins h
 on F end w ends begins h = end-counts w ends begins h
 on F (edit (insert p s)) w ends begins h = none-counts w ends begins h
@@ -71,9 +73,11 @@ module _ (k : ℕ) {i j : ℕ} (e : i ≡ cond (eqb k 1) 1 0) (f : j ≡ cond (e
     pub counts-back : k ≡ numbersOf F x .kind → Waits (passing x w) (ends + j) (begins + i)
     counts-back q =
         subst (λ (a : ℕ). Waits (passing x w) (ends + a) (begins + i)) (sym (f ∙ ap (λ (a : ℕ). cond (eqb a 2) 1 0) q))
-        (subst (λ (a : ℕ). Waits (passing x w) (ends + cond (eqb (numbersOf F x .kind) 2) 1 0) (begins + a)) (sym (e ∙ ap (λ (a : ℕ). cond (eqb a 1) 1 0) q)) (back F x w ends begins h))
+        (subst (λ (a : ℕ). Waits (passing x w) (ends + cond (eqb (numbersOf F x .kind) 2) 1 0) (begins + a))
+        (sym (e ∙ ap (λ (a : ℕ). cond (eqb a 1) 1 0) q)) (back F x w ends begins h))
 
     pub counts-on : k ≡ numbersOf F (turn x) .kind → Waits (passing x w) (ends + i) (begins + j)
     counts-on q =
         subst (λ (a : ℕ). Waits (passing x w) (ends + a) (begins + j)) (sym (e ∙ ap (λ (a : ℕ). cond (eqb a 1) 1 0) q))
-        (subst (λ (a : ℕ). Waits (passing x w) (ends + cond (eqb (numbersOf F (turn x) .kind) 1) 1 0) (begins + a)) (sym (f ∙ ap (λ (a : ℕ). cond (eqb a 2) 1 0) q)) (on F x w ends begins h))
+        (subst (λ (a : ℕ). Waits (passing x w) (ends + cond (eqb (numbersOf F (turn x) .kind) 1) 1 0) (begins + a))
+        (sym (f ∙ ap (λ (a : ℕ). cond (eqb a 2) 1 0) q)) (on F x w ends begins h))

@@ -6,10 +6,10 @@ use mathlib.Core.List.{List, [], _∷_}
 use Rattle.utf8.specs.Utf8.{within, one, two, lead3, three, lead4, four, firstOf, first}
 use Rattle.utf8.specs.Chars.{validFrom}
 use Rattle.checks.specs.Outcome.{answered}
-use Rattle.journal.specs.Change.{Change, begin, end, edit, insert, delete}
+use Rattle.log_model.specs.Change.{Change, begin, end, edit, insert, delete}
 use Rattle.edit.specs.Plan.{State, splice}
-use Rattle.retrace.specs.Retrace.{misfit, exchanging, undoing}
-use Rattle.undo.specs.Undo.{walk, undoOut, redoOut}
+use Rattle.undo_step.specs.Retrace.{misfit, exchanging, undoing}
+use Rattle.undo.specs.Undo.{walk, undoOut}
 
 -- a text with the cursor at its end, its undo and redo lists, and a level
 abbrev pub state : List ℕ → ℕ → List Change → List Change → ℕ → State
@@ -37,15 +37,6 @@ pub record Examples : Type 0 where
   -- undo 0 is undo 1
   pub zero :
       undoOut 16 0 (state (0x61 ∷ 0x62 ∷ []) 2 (ab ∷ []) [] 0) ≡ answered 0 0 0 (state [] 0 [] (edit (delete 0 (0x61 ∷ 0x62 ∷ [])) ∷ []) 0)
-  -- redo gives it back
-  pub again :
-      redoOut 16 1 (state [] 0 [] (edit (delete 0 (0x61 ∷ 0x62 ∷ [])) ∷ []) 0) ≡ answered 0 0 0 (state (0x61 ∷ 0x62 ∷ []) 2 (ab ∷ []) [] 0)
-  -- redo 0 does nothing and answers 1
-  pub redo-none :
-      redoOut 16 0 (state [] 0 [] (edit (delete 0 (0x61 ∷ 0x62 ∷ [])) ∷ []) 0) ≡ answered 1 0 0 (state [] 0 [] (edit (delete 0 (0x61 ∷ 0x62 ∷ [])) ∷ []) 0)
-  -- redo 1 of a group goes on to the End that closes it
-  pub redo-group :
-      redoOut 16 1 (state (0x71 ∷ []) 1 (q ∷ []) (end ∷ edit (delete 1 (0x72 ∷ [])) ∷ begin ∷ []) 0) ≡ answered 0 0 0 (state (0x71 ∷ 0x72 ∷ []) 2 (end ∷ r ∷ begin ∷ q ∷ []) [] 0)
   -- P12: the group that truncate left open takes the text of before with it
   pub p12-truncate :
       undoOut 16 1 (state (0x71 ∷ 0x72 ∷ []) 2 (end ∷ end ∷ r ∷ begin ∷ q ∷ []) [] 0)
@@ -62,5 +53,5 @@ pub record Examples : Type 0 where
   pub full : undoOut 0 1 (state [] 0 (edit (delete 0 (0x71 ∷ [])) ∷ []) [] 0) ≡ answered 9 0 0 (state [] 0 (edit (delete 0 (0x71 ∷ [])) ∷ []) [] 0)
 
 pub examples : Examples
-unfolding within one two lead3 three lead4 four firstOf first validFrom splice misfit exchanging undoing walk undoOut redoOut
-examples = record { p11 = refl; zero = refl; again = refl; redo-none = refl; redo-group = refl; p12-truncate = refl; p12-cancelled = refl; below = refl; misfits = refl; full = refl }
+unfolding within one two lead3 three lead4 four firstOf first validFrom splice misfit exchanging undoing walk undoOut
+examples = record { p11 = refl; zero = refl; p12-truncate = refl; p12-cancelled = refl; below = refl; misfits = refl; full = refl }

@@ -12,23 +12,23 @@ use Rattle.unicode.specs.Repertoire.{Repertoire, catalogue}
 use Rattle.unicode.specs.Text.{isText}
 use Rattle.unicode.proofs.Text.{text-valid}
 use Rattle.utf8.specs.Chars.{boundary, In}
-use Rattle.journal.proofs.Newest.{turn-turn}
-use Rattle.journal.specs.Change.{insert, delete, replace, Change, begin, end, edit, place, old, new, turn}
+use Rattle.log_model.proofs.Newest.{turn-turn}
+use Rattle.log_model.specs.Change.{insert, delete, replace, Change, begin, end, edit, place, old, new, turn}
 use Rattle.formats.specs.declared.Format.{Format}
-use Rattle.journal.specs.Layout.{okChange, Good, AllGood}
-use Rattle.journal.specs.Groups as groups
-use Rattle.journal.proofs.Holds.{good-right}
-use Rattle.recording.proofs.Numbers.{ok-texts}
-use Rattle.changeset.specs.declared.Log.{Log}
-use Rattle.changeset.specs.Calls as log
-use Rattle.changeset.proofs.Recorded.{good}
+use Rattle.log_model.specs.Layout.{okChange, Good, AllGood}
+use Rattle.log_model.specs.Groups as groups
+use Rattle.log_model.proofs.Holds.{good-right}
+use Rattle.log_recording.proofs.Numbers.{ok-texts}
+use Rattle.log_state.specs.declared.Log.{Log}
+use Rattle.log_state.specs.Calls as log
+use Rattle.log_state.proofs.Recorded.{good}
 use Rattle.edit.specs.Plan.{splice}
 use Rattle.edit.specs.Calls.{Lent, lent, logLent, stateOf, Ready}
 use Rattle.edit.proofs.Answers.{cursor-in}
 use Rattle.edit.proofs.Held.{state-held, state-ready}
 use Rattle.edit.proofs.Splice.{splice-text, splice-end}
-use Rattle.retrace.specs.declared.Step.{Step}
-use Rattle.retrace.specs.Retrace.{Trail, Tried, done, stops, misfit, exchanging, undoing, stepTo, Retraced}
+use Rattle.undo_step.specs.declared.Step.{Step}
+use Rattle.undo_step.specs.Retrace.{Trail, Tried, done, stops, misfit, exchanging, undoing, stepTo, Retraced}
 use Rattle.undo.specs.Steps.{trailBy, lineOf, stateAt, fromOf, passLog, Leaves}
 use Rattle.undo.proofs.Seams.{held}
 
@@ -56,7 +56,8 @@ module _ (F : Format) (l : Lent) (w : groups.Log) where
   stop-leaves (done p) s q t e r n = absurd (n (ap (λ (z : Step). z .number) (r .0)))
   stop-leaves (stops k) s q t e r n = (ap (λ (z : Step). z .number) (r .0), ap lineOf (r .0) ∙ e, refl, r .1)
 
-  pub done-leaves : (v : Tried) (s q : Step) (g : Log) (t : List ℕ) → Numbered v → Retraced v s q (l .text) t → q .number ≡ 0 → g ≡ log.logOf F w → log.Stored F w (l .records) (l .texts) → Leaves F l v w q g t
+  pub done-leaves : (v : Tried) (s q : Step) (g : Log) (t : List ℕ) → Numbered v → Retraced v s q (l .text) t → q .number ≡ 0 → g ≡ log.logOf F w
+      → log.Stored F w (l .records) (l .texts) → Leaves F l v w q g t
   done-leaves (done p) s q g t m r z e b = (r .0, e, record { text = r .1; log = b })
   done-leaves (stops k) s q g t m r z e b = absurd (omega (arith, m, ap (λ (i : Step). i .number) (r .0)))
 
@@ -142,18 +143,21 @@ module _ (F : Format) (l : Lent) (b : Bool) (x : Change) (w : groups.Log) (q : S
   tried = undoing (length (l .text)) x (trailBy (stateOf catalogue F l) b)
 
   pub went : Ready F l → Fine F x w → w .level ≡ l .log .level → length t ≡ length (l .text) → Leaves F l tried w q g t → q .number ≡ 0 → Went F l b x w q g t
-  went h n v e r z = go tried refl (numbered (length (l .text)) x (trailBy (stateOf catalogue F l) b)) (undone-fits catalogue (length (l .text)) x (trailBy (stateOf catalogue F l) b) (n .ok) (h .text) (cursor-in F l h)) r
+  went h n v e r z = go tried refl (numbered (length (l .text)) x (trailBy (stateOf catalogue F l) b))
+      (undone-fits catalogue (length (l .text)) x (trailBy (stateOf catalogue F l) b) (n .ok) (h .text) (cursor-in F l h)) r
     where
       go : (a : Tried) → tried ≡ a → Numbered a → Fits catalogue a → Leaves F l a w q g t → Went F l b x w q g t
       go (done p) i m f r =
           let s = r .2 in
-          let c = state-ready F (stateAt p w) t (l .records) (l .texts) s (n .undo) (n .redo) (omega (arith, h .small)) (h .log .records) (h .log .texts) (h .log .fit) (omega (arith, v, h .log .level)) (f .0) (f .1) in
+          let c = state-ready F (stateAt p w) t (l .records) (l .texts) s (n .undo) (n .redo) (omega (arith, h .small)) (h .log .records)
+          (h .log .texts) (h .log .fit) (omega (arith, v, h .log .level)) (f .0) (f .1) in
           let d = state-held catalogue F (stateAt p w) t (l .records) (l .texts) s (n .undo) (n .redo) in
           record {
             trail = p;
             tried = i;
             step = r .0;
-            ready = subst (λ (a : Step). Ready F (lent t (l .records) (l .texts) (lineOf a) g)) (sym (r .0)) (subst (λ (a : Log). Ready F (lent t (l .records) (l .texts) (lineOf (stepTo p)) a)) (sym (r .1)) c);
+            ready = subst (λ (a : Step). Ready F (lent t (l .records) (l .texts) (lineOf a) g)) (sym (r .0))
+                (subst (λ (a : Log). Ready F (lent t (l .records) (l .texts) (lineOf (stepTo p)) a)) (sym (r .1)) c);
             state = ap₂ (λ (i : Step) (j : Log). stateOf catalogue F (lent t (l .records) (l .texts) (lineOf i) j)) (r .0) (r .1) ∙ d;
           }
       go (stops k) i m f r = absurd (omega (arith, m, r .0))

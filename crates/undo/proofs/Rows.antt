@@ -5,21 +5,22 @@ use mathlib.Core.Path.{_≡_, refl, sym, ap, subst, _∙_}
 use mathlib.Core.List.{List, _∷_, _++_, append-assoc}
 use lib.ListN.{length, take, drop, length-append, take-append-drop}
 use Rattle.unicode.specs.Repertoire.{Repertoire}
-use Rattle.journal.specs.Change.{Change}
+use Rattle.log_model.specs.Change.{Change}
 use Rattle.formats.specs.declared.Format.{Format}
-use Rattle.journal.specs.Layout.{recordOf, textsOf, encodeRecords, encodeTexts, Small, AllGood}
-use Rattle.journal.specs.Hold.{Holds}
-use Rattle.journal.proofs.Decode.{Reads, reads, record-pos, text-at}
-use Rattle.journal.proofs.Holds.{records-append, texts-append, good-right}
-use Rattle.records.specs.Records.{IsWhole, recordAt, Carries}
-use Rattle.records.proofs.Records.{record-is}
+use Rattle.log_model.specs.Layout.{recordOf, textsOf, encodeRecords, encodeTexts, Small, AllGood}
+use Rattle.log_model.specs.Hold.{Holds}
+use Rattle.log_model.proofs.Decode.{Reads, reads, record-pos, text-at}
+use Rattle.log_model.proofs.Holds.{records-append, texts-append, good-right}
+use Rattle.log_records.specs.Records.{IsWhole, recordAt, Carries}
+use Rattle.log_records.proofs.Records.{record-is}
 
 -- ---- the change c stands at at and t
 pub record Stands (F : Format) (rb tb : List ℕ) (at t : ℕ) (c : Change) : Type 0 where
   pub space : t + length (textsOf c) ≤ length tb
   pub carries : Carries F c (recordAt F rb at) tb t
 
-module _ {R : Repertoire} {F : Format} {rb tb : List ℕ} {ur ut rr rt : ℕ} {us rs : List Change} (h : Holds R F rb tb ur ut rr rt us rs) (xs ys : List Change) (c : Change) (row : us ++ rs ≡ xs ++ (c ∷ ys)) where
+module _ {R : Repertoire} {F : Format} {rb tb : List ℕ} {ur ut rr rt : ℕ} {us rs : List Change} (h : Holds R F rb tb ur ut rr rt us rs)
+    (xs ys : List Change) (c : Change) (row : us ++ rs ≡ xs ++ (c ∷ ys)) where
   abbrev behind : List ℕ
   behind = encodeRecords F ys ++ drop (ur + rr) rb
 
@@ -63,6 +64,7 @@ module _ {R : Repertoire} {F : Format} {rb tb : List ℕ} {ur ut rr rt : ℕ} {u
           carries =
               record {
                 numbers = record-is F rb at whole tb t c reads-in;
-                texts = subst (λ (z : List ℕ). take (length (textsOf c)) (drop t z) ≡ textsOf c) (sym in-texts) (text-at (encodeTexts xs) (textsOf c) texts-behind t (length (textsOf c)) (sym f) refl);
+                texts = subst (λ (z : List ℕ). take (length (textsOf c)) (drop t z) ≡ textsOf c) (sym in-texts)
+                    (text-at (encodeTexts xs) (textsOf c) texts-behind t (length (textsOf c)) (sym f) refl);
               };
         }

@@ -7,23 +7,23 @@ use mathlib.Core.List.{List, [], _∷_, _++_, map, reverse, reverse-cons, append
 use lib.ListN.{length, getD, length-append}
 use Rattle.numbers.proofs.Read.{top-max}
 use Rattle.unicode.specs.Repertoire.{catalogue}
-use Rattle.journal.specs.Change.{Change, turn}
+use Rattle.log_model.specs.Change.{Change, turn}
 use Rattle.formats.specs.declared.Format.{Format}
-use Rattle.journal.specs.Layout.{recordOf, textsOf, encodeRecords, encodeTexts}
-use Rattle.journal.specs.Groups as groups
-use Rattle.journal.specs.Hold.{Holds}
-use Rattle.journal.specs.Undo.{undoRecords, undoTexts}
-use Rattle.journal.proofs.Decode.{record-pos}
-use Rattle.journal.proofs.Newest.{turn-turn}
-use Rattle.journal.proofs.Holds.{seam-within, texts-within, seam-moved}
-use Rattle.journal.proofs.Undo.{records-size, texts-size}
-use Rattle.changeset.specs.declared.Log.{Log}
-use Rattle.changeset.specs.Calls as log
-use Rattle.changeset.proofs.Answers.{state, held-state, held-bytes}
-use Rattle.changeset.proofs.Recorded.{records-used, texts-used}
+use Rattle.log_model.specs.Layout.{recordOf, textsOf, encodeRecords, encodeTexts}
+use Rattle.log_model.specs.Groups as groups
+use Rattle.log_model.specs.Hold.{Holds}
+use Rattle.log_model.specs.UndoBytes.{undoRecords, undoTexts}
+use Rattle.log_model.proofs.Decode.{record-pos}
+use Rattle.log_model.proofs.Newest.{turn-turn}
+use Rattle.log_model.proofs.Holds.{seam-within, texts-within, seam-moved}
+use Rattle.log_model.proofs.UndoBytes.{records-size, texts-size}
+use Rattle.log_state.specs.declared.Log.{Log}
+use Rattle.log_state.specs.Calls as log
+use Rattle.log_state.proofs.Answers.{state, held-state, held-bytes}
+use Rattle.log_state.proofs.Recorded.{records-used, texts-used}
 use Rattle.edit.specs.Calls.{Lent, logLent, stateOf, Ready}
 use Rattle.edit.proofs.Answers.{hold}
-use Rattle.records.specs.Walks.{SizesOf}
+use Rattle.log_records.specs.Walks.{SizesOf}
 use Rattle.undo.specs.Steps.{fromOf, passLog}
 use Rattle.undo.proofs.Rows.{Stands, stands}
 
@@ -63,7 +63,8 @@ module _ {F : Format} {l : Lent} (h : Ready F l) where
   texts-below = omega (arith, h .log .texts, h .log .fit .lengths, top-max (F .width) (h .log .fit .width .most))
 
   -- the seam between two lists that make the same row
-  seam : (u r : List Change) → reverse (v .undo) ++ map turn (v .redo) ≡ reverse u ++ map turn r → {at t : ℕ} → at ≡ length (encodeRecords F (reverse u)) → t ≡ length (encodeTexts (reverse u))
+  seam : (u r : List Change) → reverse (v .undo) ++ map turn (v .redo) ≡ reverse u ++ map turn r → {at t : ℕ}
+      → at ≡ length (encodeRecords F (reverse u)) → t ≡ length (encodeTexts (reverse u))
       → Seam F l (record { undo = u; redo = r; level = l .log .level }) at t
   seam u r row {at} {t} e f =
       let m = seam-moved held (reverse u) (map turn r) row e f in
@@ -146,8 +147,14 @@ module _ {F : Format} {l : Lent} (h : Ready F l) where
       go [] e = e
       go (x ∷ r) e =
           absurd
-          (omega
-          (arith, redo-records, ap (λ (w : List Change). length (encodeRecords F (map turn w))) e, length-append (recordOf F (turn x)) (encodeRecords F (map turn r)), record-pos F (turn x)))
+          (omega (
+            arith,
+            redo-records,
+            ap (λ (w : List Change). length (encodeRecords F (map turn w))) e,
+            length-append (recordOf F (turn x))
+                (encodeRecords F (map turn r)),
+            record-pos F (turn x),
+          ))
 
   module _ {x : Change} {r : List Change} (e : v .redo ≡ x ∷ r) where
     -- the row with it in the middle
@@ -170,10 +177,18 @@ abbrev pub usedOf : Bool → Log → ℕ
 usedOf true g = g .undo .records
 usedOf false g = g .redo .records
 
-pub used-falls : (back : Bool) {F : Format} {l : Lent} (h : Ready F l) {x : Change} {f : List Change} → fromOf back (stateOf catalogue F l .log) ≡ x ∷ f → {g : Log} → g ≡ log.logOf F (passLog back x f (stateOf catalogue F l .log))
+pub used-falls : (back : Bool) {F : Format} {l : Lent} (h : Ready F l) {x : Change} {f : List Change}
+    → fromOf back (stateOf catalogue F l .log) ≡ x ∷ f → {g : Log} → g ≡ log.logOf F (passLog back x f (stateOf catalogue F l .log))
     → usedOf back g < usedOf back (l .log)
 unfolding undoRecords
 used-falls true {F} h {x} e q = omega (arith, ap (λ (a : Log). a .undo .records) q, newest-records h e, record-pos F x)
 used-falls false {F} h {x} {f} e q =
-    omega
-    (arith, ap (λ (a : Log). a .redo .records) q, redo-records h, ap (λ (w : List Change). length (encodeRecords F (map turn w))) e, length-append (recordOf F (turn x)) (encodeRecords F (map turn f)), record-pos F (turn x))
+    omega (
+      arith,
+      ap (λ (a : Log). a .redo .records) q,
+      redo-records h,
+      ap (λ (w : List Change). length (encodeRecords F (map turn w))) e,
+      length-append
+          (recordOf F (turn x)) (encodeRecords F (map turn f)),
+      record-pos F (turn x),
+    )

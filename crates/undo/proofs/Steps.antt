@@ -6,21 +6,21 @@ use mathlib.Core.Bool.{Bool, true, false}
 use mathlib.Core.List.{List, _∷_}
 use lib.ListN.{length, getD}
 use Rattle.unicode.specs.Repertoire.{catalogue}
-use Rattle.journal.specs.Change.{Change}
+use Rattle.log_model.specs.Change.{Change}
 use Rattle.formats.specs.declared.Format.{Format}
-use Rattle.journal.specs.Layout.{recordOf, textsOf}
-use Rattle.journal.specs.Groups as groups
-use Rattle.journal.specs.Undo.{undoRecords, undoTexts}
-use Rattle.changeset.specs.declared.Log.{Log}
-use Rattle.changeset.proofs.Answers.{state}
+use Rattle.log_model.specs.Layout.{recordOf, textsOf}
+use Rattle.log_model.specs.Groups as groups
+use Rattle.log_model.specs.UndoBytes.{undoRecords, undoTexts}
+use Rattle.log_state.specs.declared.Log.{Log}
+use Rattle.log_state.proofs.Answers.{state}
 use Rattle.edit.specs.Calls.{Lent, stateOf, Ready}
-use Rattle.journal.proofs.Newest.{turn-turn}
-use Rattle.records.specs.declared.Record.{Record}
-use Rattle.records.specs.Records.{numbersOf, recordAt, Carries}
-use Rattle.records.specs.Walks.{SizesOf}
-use Rattle.records.proofs.Records.{carried-texts, carried-size}
-use Rattle.retrace.specs.declared.Step.{Step}
-use Rattle.retrace.specs.Retrace.{undoing, facing, Retraced}
+use Rattle.log_model.proofs.Newest.{turn-turn}
+use Rattle.log_records.specs.declared.Record.{Record}
+use Rattle.log_records.specs.Records.{numbersOf, recordAt, Carries}
+use Rattle.log_records.specs.Walks.{SizesOf}
+use Rattle.log_records.proofs.Records.{carried-texts, carried-size}
+use Rattle.undo_step.specs.declared.Step.{Step}
+use Rattle.undo_step.specs.Retrace.{undoing, facing, Retraced}
 use Rattle.undo.specs.Steps.{trailBy, lineOf, passLog, Leaves}
 use Rattle.undo.proofs.Rows.{Stands}
 use Rattle.undo.proofs.Seams.{Seam, newest-records, newest-texts, newest-size, newest-stands, newest-seam, next-stands, next-seam}
@@ -47,7 +47,10 @@ facing-twice true x = refl
 facing-twice false x = turn-turn x
 
 -- the record x undone or redone, where it stands as it was written: s is where the walk was, q where it is
-module _ (F : Format) (l : Lent) (back : Bool) (x : Change) (f : List Change) {at t : ℕ} (c : Stands F (l .records) (l .texts) at t (facing back x)) {r : Record} (e : r ≡ recordAt F (l .records) at) (s q : Step) (t′ : List ℕ) (tried : (G : Format) (c : Change) → Carries G c r (l .texts) t → Retraced (undoing (length (l .text)) (facing back c) (trailBy (stateOf catalogue F l) (s .undone))) s q (l .text) t′) where
+module _ (F : Format) (l : Lent) (back : Bool) (x : Change) (f : List Change) {at t : ℕ} (c : Stands F (l .records) (l .texts) at t (facing back x))
+    {r : Record} (e : r ≡ recordAt F (l .records) at) (s q : Step) (t′ : List ℕ)
+    (tried : (G : Format) (c : Change) → Carries G c r (l .texts) t → Retraced
+    (undoing (length (l .text)) (facing back c) (trailBy (stateOf catalogue F l) (s .undone))) s q (l .text) t′) where
   abbrev v : groups.Log
   v = stateOf catalogue F l .log
 
@@ -59,7 +62,8 @@ module _ (F : Format) (l : Lent) (back : Bool) (x : Change) (f : List Change) {a
   is-kind : r .kind ≡ numbersOf F (facing back x) .kind
   is-kind = ap (λ (a : Record). a .kind) (e ∙ c .carries .numbers)
 
-  pub record-stops : lineOf s ≡ l .line → (q .number ≡ 0 → ⊥) → (r .kind ≡ numbersOf F (facing back x) .kind) × Leaves F l (undoing (length (l .text)) x (trailBy (stateOf catalogue F l) (s .undone))) (passLog back x f v) q (l .log) t′
+  pub record-stops : lineOf s ≡ l .line → (q .number ≡ 0 → ⊥) → (r .kind ≡ numbersOf F (facing back x) .kind)
+      × Leaves F l (undoing (length (l .text)) x (trailBy (stateOf catalogue F l) (s .undone))) (passLog back x f v) q (l .log) t′
   record-stops i z = (is-kind, stop-leaves F l (passLog back x f v) (undoing (length (l .text)) x (trailBy (stateOf catalogue F l) (s .undone))) s q t′ i is-tried z)
 
   pub record-passes : {i j : ℕ} {g : Log} → Seam F l (passLog back x f v) i j → q .number ≡ 0
@@ -72,7 +76,8 @@ module _ (F : Format) (l : Lent) (back : Bool) (x : Change) (f : List Change) {a
   )
 
 -- ---- the newest record, whose size n is noted
-module _ {F : Format} {l : Lent} (h : Ready F l) (sizes : List ℕ) (z : SizesOf F sizes (stateOf catalogue F l .log .undo)) {x : Change} {u : List Change} (e : stateOf catalogue F l .log .undo ≡ x ∷ u) where
+module _ {F : Format} {l : Lent} (h : Ready F l) (sizes : List ℕ) (z : SizesOf F sizes (stateOf catalogue F l .log .undo)) {x : Change}
+    {u : List Change} (e : stateOf catalogue F l .log .undo ≡ x ∷ u) where
   abbrev ur : ℕ
   ur = l .log .undo .records
 

@@ -6,21 +6,22 @@ use mathlib.Core.Bool.{Bool, true, false}
 use mathlib.Core.List.{List, [], _∷_}
 use lib.ListN.{length}
 use Rattle.unicode.specs.Repertoire.{catalogue}
-use Rattle.journal.specs.Change.{Change, turn}
+use Rattle.log_model.specs.Change.{Change, turn}
 use Rattle.formats.specs.declared.Format.{Format}
 use Rattle.formats.specs.Formats.{recordsMax}
-use Rattle.changeset.specs.declared.Log.{Log}
+use Rattle.log_state.specs.declared.Log.{Log}
 use Rattle.edit.specs.Plan.{State}
 use Rattle.edit.specs.Calls.{Lent, lent, stateOf, says, Ready}
 use Rattle.edit.specs.declared.EditAnswer.{EditAnswer}
-use Rattle.retrace.specs.declared.Step.{Step}
-use Rattle.retrace.specs.Retrace.{Trail, done, undoing}
-use Rattle.undo.specs.declared.Passed.{Passed}
+use Rattle.undo_step.specs.declared.Step.{Step}
+use Rattle.undo_step.specs.Retrace.{Trail, done, undoing}
+use Rattle.undo.specs.declared.Taken.{Taken}
 use Rattle.undo.specs.Undo.{Waiting, owed, passing, Walked, walk, numberOf}
 use Rattle.undo.specs.Steps.{trailBy, lineOf, fromOf, toOf, PassesOne}
 use Rattle.undo.proofs.Seams.{usedOf}
 use Rattle.undo.proofs.Counts.{Waits, settles, unsettled}
-use Rattle.undo.proofs.Walks.{walked, walk-end, walk-stop, walk-on, walk-last, walk-next, Come, come-first, Ends, ended, stopped-there, stop-ended, goes, come-next, falls, from-there, to-there, trail-there, tried-there}
+use Rattle.undo.proofs.Walks.{walked, walk-end, walk-stop, walk-on, walk-last, walk-next, Come, come-first, Ends, ended}
+use Rattle.undo.proofs.Walks.{stopped-there, stop-ended, goes, come-next, falls, from-there, to-there, trail-there, tried-there}
 
 -- ---- a walk that is to come to W: n units more are to be done after this one
 pub record Walking (F : Format) (l₀ : Lent) (back : Bool) (W : Walked) (t : List ℕ) (s : Step) (g : Log) (n ends begins : ℕ) : Type 0 where
@@ -29,7 +30,8 @@ pub record Walking (F : Format) (l₀ : Lent) (back : Bool) (W : Walked) (t : Li
   pub waits : Waits waiting ends begins
   pub few : ends + begins + usedOf back g ≤ recordsMax
   pub same :
-      walk (length (l₀ .text)) n waiting (fromOf back (stateOf catalogue F (lent t (l₀ .records) (l₀ .texts) (lineOf s) g) .log)) (toOf back (stateOf catalogue F (lent t (l₀ .records) (l₀ .texts) (lineOf s) g) .log))
+      walk (length (l₀ .text)) n waiting (fromOf back (stateOf catalogue F (lent t (l₀ .records) (l₀ .texts) (lineOf s) g) .log))
+      (toOf back (stateOf catalogue F (lent t (l₀ .records) (l₀ .texts) (lineOf s) g) .log))
       (trailBy (stateOf catalogue F (lent t (l₀ .records) (l₀ .texts) (lineOf s) g)) (s .undone))
       ≡ W
 
@@ -40,7 +42,8 @@ used-few false h = omega (arith, h .log .hold .room, h .log .records, h .log .fi
 
 -- at its beginning nothing was passed
 pub walking-first : (back : Bool) (n : ℕ) {F : Format} {l₀ : Lent} → Ready F l₀
-    → Walking F l₀ back (walk (length (l₀ .text)) n (owed 0) (fromOf back (stateOf catalogue F l₀ .log)) (toOf back (stateOf catalogue F l₀ .log)) (trailBy (stateOf catalogue F l₀) false))
+    → Walking F l₀ back (walk (length (l₀ .text)) n (owed 0) (fromOf back (stateOf catalogue F l₀ .log)) (toOf back (stateOf catalogue F l₀ .log))
+    (trailBy (stateOf catalogue F l₀) false))
     (l₀ .text) (record { number = 0; len = l₀ .line .len; cursor = l₀ .line .cursor; undone = false }) (l₀ .log) n 0 0
 walking-first back n h = record { waiting = owed 0; come = come-first h; waits = refl; few = omega (arith, used-few back h); same = refl }
 
@@ -52,11 +55,13 @@ module _ {F : Format} {l₀ : Lent} {back : Bool} {W : Walked} {t : List ℕ} {s
   pub walked-all : fromOf back (now .log) ≡ [] → {r : EditAnswer} → r ≡ says (numberOf (s .number) (s .undone)) (lineOf s) g → Ends F l₀ back W r t
   walked-all e q =
       ended back (k .come) (s .undone) 0
-      (sym (k .same) ∙ ap (λ (f : List Change). walk (length (l₀ .text)) n (k .waiting) f (toOf back (now .log)) (trailBy now (s .undone))) e ∙ walk-end (length (l₀ .text)) n (k .waiting) (toOf back (now .log)) (trailBy now (s .undone))
+      (sym (k .same) ∙ ap (λ (f : List Change). walk (length (l₀ .text)) n (k .waiting) f (toOf back (now .log)) (trailBy now (s .undone))) e
+      ∙ walk-end (length (l₀ .text)) n (k .waiting) (toOf back (now .log)) (trailBy now (s .undone))
       ∙ ap (λ (f : List Change). walked f (toOf back (now .log)) (trailBy now (s .undone)) 0) (sym e))
       (q ∙ ap (λ (i : ℕ). says (numberOf i (s .undone)) (lineOf s) g) (k .come .number))
 
-  module _ {x : Change} {f : List Change} (e : fromOf back (now .log) ≡ x ∷ f) (p : Passed) (t′ : List ℕ) (o : PassesOne F (lent t (l₀ .records) (l₀ .texts) (lineOf s) g) back (s .undone) p t′) where
+  module _ {x : Change} {f : List Change} (e : fromOf back (now .log) ≡ x ∷ f) (p : Taken) (t′ : List ℕ)
+      (o : PassesOne F (lent t (l₀ .records) (l₀ .texts) (lineOf s) g) back (s .undone) p t′) where
     -- the walk is at that record
     at-record : W ≡ walk (length (l₀ .text)) n (k .waiting) (x ∷ f) (toOf back (now .log)) (trailBy now (s .undone))
     at-record = sym (k .same) ∙ ap (λ (a : List Change). walk (length (l₀ .text)) n (k .waiting) a (toOf back (now .log)) (trailBy now (s .undone))) e
@@ -89,7 +94,8 @@ module _ {F : Format} {l₀ : Lent} {back : Bool} {W : Walked} {t : List ℕ} {s
           ≡ walk (length (l₀ .text)) m passed (fromOf back (next .log)) (toOf back (next .log)) (trailBy next (p .step .undone))
       rest m =
           sym
-          (ap₂ (λ (a b : List Change). walk (length (l₀ .text)) m passed a b (trailBy next (p .step .undone))) (from-there back (k .come) e p t′ o i z) (to-there back (k .come) e p t′ o i z)
+          (ap₂ (λ (a b : List Change). walk (length (l₀ .text)) m passed a b (trailBy next (p .step .undone)))
+          (from-there back (k .come) e p t′ o i z) (to-there back (k .come) e p t′ o i z)
           ∙ ap (walk (length (l₀ .text)) m passed f (turn x ∷ toOf back (now .log))) (trail-there back (k .come) e p t′ o i z))
 
       module _ (ends′ begins′ : ℕ) (c : Waits passed ends′ begins′) (m : ends′ + begins′ ≤ ends + begins + 1) where
@@ -105,7 +111,8 @@ module _ {F : Format} {l₀ : Lent} {back : Bool} {W : Walked} {t : List ℕ} {s
               come = come;
               waits = c;
               few = fewer;
-              same = sym (at-record ∙ walk-on (length (l₀ .text)) n (k .waiting) (toOf back (now .log)) (trailBy now (s .undone)) x f _ tried (unsettled passed ends′ begins′ c u) ∙ rest n);
+              same = sym (at-record ∙ walk-on (length (l₀ .text)) n (k .waiting) (toOf back (now .log)) (trailBy now (s .undone)) x f _ tried
+                  (unsettled passed ends′ begins′ c u) ∙ rest n);
             }
 
         -- it is done, and another begins

@@ -10,19 +10,19 @@ use borrow.Author.Tests.{eqb-true}
 use Rattle.lists.proofs.Bools.{never, and-both}
 use Rattle.unicode.specs.Repertoire.{catalogue}
 use Rattle.checks.specs.Outcome.{Outcome, answered}
-use Rattle.journal.specs.Change.{Change, turn}
+use Rattle.log_model.specs.Change.{Change, turn}
 use Rattle.formats.specs.declared.Format.{Format}
-use Rattle.journal.specs.Groups as groups
-use Rattle.changeset.specs.declared.Log.{Log}
-use Rattle.changeset.specs.Calls as log
+use Rattle.log_model.specs.Groups as groups
+use Rattle.log_state.specs.declared.Log.{Log}
+use Rattle.log_state.specs.Calls as log
 use Rattle.edit.specs.Plan.{State}
 use Rattle.edit.specs.Calls.{Lent, lent, stateOf, says, Edited, Ready}
 use Rattle.edit.specs.declared.EditAnswer.{EditAnswer}
 use Rattle.edit.proofs.Answers.{log-kept, length-kept, state-kept}
-use Rattle.retrace.specs.declared.Step.{Step}
-use Rattle.retrace.specs.Retrace.{Trail, done, stops, undoing}
-use Rattle.records.specs.Walks.{SizesOf}
-use Rattle.undo.specs.declared.Passed.{Passed}
+use Rattle.undo_step.specs.declared.Step.{Step}
+use Rattle.undo_step.specs.Retrace.{Trail, done, stops, undoing}
+use Rattle.log_records.specs.Walks.{SizesOf}
+use Rattle.undo.specs.declared.Taken.{Taken}
 use Rattle.undo.specs.Undo.{Waiting, passing, settled, Walked, walk, numberOf}
 use Rattle.undo.specs.Steps.{trailBy, lineOf, stateAt, fromOf, toOf, logBy, passLog, PassesOne, Unmoved}
 use Rattle.undo.proofs.Seams.{sizes-left, usedOf, used-falls}
@@ -116,7 +116,8 @@ unmoved-both k i =
       same = λ e. i .same (omega (arith, k .fewer, i .fewer)) ∙ k .same (omega (arith, k .fewer, i .fewer));
     }
 
-pub come-first : {F : Format} {l₀ : Lent} {back : Bool} → Ready F l₀ → Come F l₀ back (l₀ .text) (record { number = 0; len = l₀ .line .len; cursor = l₀ .line .cursor; undone = false }) (l₀ .log)
+pub come-first : {F : Format} {l₀ : Lent} {back : Bool} → Ready F l₀
+    → Come F l₀ back (l₀ .text) (record { number = 0; len = l₀ .line .len; cursor = l₀ .line .cursor; undone = false }) (l₀ .log)
 come-first h = record { ready = h; number = refl; text = refl; level = refl; unmoved = unmoved-first }
 
 -- what a walk has come to is its outcome
@@ -137,13 +138,15 @@ answers-as F l₀ t r q h =
     record {
       answer =
           q
-          ∙ ap₂ (λ (n : ℕ) (x : Log). says (r .number) (record { len = n; cursor = r .line .cursor }) x) (sym (length-kept F (lent t (l₀ .records) (l₀ .texts) (r .line) (r .log)) h))
+          ∙ ap₂ (λ (n : ℕ) (x : Log). says (r .number) (record { len = n; cursor = r .line .cursor }) x)
+          (sym (length-kept F (lent t (l₀ .records) (l₀ .texts) (r .line) (r .log)) h))
           (log-kept F (lent t (l₀ .records) (l₀ .texts) (r .line) (r .log)) h);
       bytes = state-kept F (lent t (l₀ .records) (l₀ .texts) (r .line) (r .log)) h (r .line .cursor);
     }
 
 -- so an end is an answer of the contract
-pub edited : {F : Format} {l₀ : Lent} {back : Bool} {W : Walked} {r : EditAnswer} {t : List ℕ} → Ends F l₀ back W r t → Edited F l₀ (outOf back W (l₀ .log .level)) r t (l₀ .records) (l₀ .texts)
+pub edited : {F : Format} {l₀ : Lent} {back : Bool} {W : Walked} {r : EditAnswer} {t : List ℕ} → Ends F l₀ back W r t
+    → Edited F l₀ (outOf back W (l₀ .log .level)) r t (l₀ .records) (l₀ .texts)
 edited {F} {l₀} {back} {W} {r} {t} e = subst (λ (o : Outcome State). Edited F l₀ o r t (l₀ .records) (l₀ .texts)) (sym (e .out)) (answers-as F l₀ t r (e .plain) (e .ready))
 
 -- where the log is as it was, not a byte of the text's buffer is changed
@@ -158,20 +161,22 @@ module _ (back : Bool) {F : Format} {l₀ : Lent} {t : List ℕ} {s : Step} {g :
   st = stateOf catalogue F l
 
   -- the walk is at its end: k is the number that stopped it, and b says whether a record of a text was undone
-  pub ended : (b : Bool) (k : ℕ) {W : Walked} {r : EditAnswer} → W ≡ walked (fromOf back (st .log)) (toOf back (st .log)) (trailBy st b) k → r ≡ says (numberOf k b) (lineOf s) g → Ends F l₀ back W r t
+  pub ended : (b : Bool) (k : ℕ) {W : Walked} {r : EditAnswer} → W ≡ walked (fromOf back (st .log)) (toOf back (st .log)) (trailBy st b) k
+      → r ≡ says (numberOf k b) (lineOf s) g → Ends F l₀ back W r t
   ended b k e q =
       record {
         plain = q ∙ ap (λ (a : EditAnswer). says (a .number) (a .line) (a .log)) (sym q);
         ready = subst (λ (a : EditAnswer). Ready F (lent t (l₀ .records) (l₀ .texts) (a .line) (a .log))) (sym q) (c .ready);
         out =
             ap (λ (w : Walked). outOf back w (l₀ .log .level)) e
-            ∙ ap (λ (v : groups.Log). answered (numberOf k b) 0 0 (stateAt (trailBy st b) v)) (ap (logBy back (fromOf back (st .log)) (toOf back (st .log))) (sym (c .level)) ∙ lists-of back (st .log))
+            ∙ ap (λ (v : groups.Log). answered (numberOf k b) 0 0 (stateAt (trailBy st b) v))
+            (ap (logBy back (fromOf back (st .log)) (toOf back (st .log))) (sym (c .level)) ∙ lists-of back (st .log))
             ∙ ap (λ (a : EditAnswer). answered (a .number) 0 0 (stateOf catalogue F (lent t (l₀ .records) (l₀ .texts) (a .line) (a .log)))) (sym q);
         unmoved = subst (λ (a : EditAnswer). Unmoved (usedOf back (l₀ .log)) (usedOf back (a .log)) (l₀ .text) t) (sym q) (c .unmoved);
       }
 
   -- ---- a record passed
-  module _ {x : Change} {f : List Change} (e : fromOf back (st .log) ≡ x ∷ f) (q : Passed) (t′ : List ℕ) (p : PassesOne F l back (s .undone) q t′) where
+  module _ {x : Change} {f : List Change} (e : fromOf back (st .log) ≡ x ∷ f) (q : Taken) (t′ : List ℕ) (p : PassesOne F l back (s .undone) q t′) where
     abbrev w : groups.Log
     w = passLog back x f (st .log)
 
@@ -184,7 +189,8 @@ module _ (back : Bool) {F : Format} {l₀ : Lent} {t : List ℕ} {s : Step} {g :
       stopped-there = ap (λ (n : ℕ). undoing n x (trailBy st (s .undone))) (sym (c .text)) ∙ is-stopped z .tried
 
       -- the walk ends before it
-      pub stop-ended : {W : Walked} {r : EditAnswer} → W ≡ walked (x ∷ f) (toOf back (st .log)) (trailBy st (s .undone)) (q .step .number) → r ≡ says (numberOf (q .step .number) (q .step .undone)) (lineOf (q .step)) (q .log)
+      pub stop-ended : {W : Walked} {r : EditAnswer} → W ≡ walked (x ∷ f) (toOf back (st .log)) (trailBy st (s .undone)) (q .step .number)
+          → r ≡ says (numberOf (q .step .number) (q .step .undone)) (lineOf (q .step)) (q .log)
           → Ends F l₀ back W r t′
       stop-ended {W} {r} y k =
           let i = is-stopped z in
@@ -234,7 +240,10 @@ module _ (back : Bool) {F : Format} {l₀ : Lent} {t : List ℕ} {s : Step} {g :
       tried-there = ap (λ (n : ℕ). undoing n x (trailBy st (s .undone))) (sym (c .text)) ∙ goes .tried
 
 -- the sizes that are noted of the undo list are those of what is left of it
-pub sizes-next : {F : Format} {l₀ : Lent} {t : List ℕ} {s : Step} {g : Log} (c : Come F l₀ true t s g) {x : Change} {f : List Change} (e : stateOf catalogue F (lent t (l₀ .records) (l₀ .texts) (lineOf s) g) .log .undo ≡ x ∷ f) (q : Passed) (t′ : List ℕ) (p : PassesOne F (lent t (l₀ .records) (l₀ .texts) (lineOf s) g) true (s .undone) q t′) (i : length t′ ≡ length t) (z : q .step .number ≡ 0) (sizes : List ℕ)
-    → SizesOf F sizes (stateOf catalogue F (lent t (l₀ .records) (l₀ .texts) (lineOf s) g) .log .undo) → SizesOf F sizes (stateOf catalogue F (lent t′ (l₀ .records) (l₀ .texts) (lineOf (q .step)) (q .log)) .log .undo)
+pub sizes-next : {F : Format} {l₀ : Lent} {t : List ℕ} {s : Step} {g : Log} (c : Come F l₀ true t s g) {x : Change} {f : List Change}
+    (e : stateOf catalogue F (lent t (l₀ .records) (l₀ .texts) (lineOf s) g) .log .undo ≡ x ∷ f) (q : Taken) (t′ : List ℕ)
+    (p : PassesOne F (lent t (l₀ .records) (l₀ .texts) (lineOf s) g) true (s .undone) q t′) (i : length t′ ≡ length t) (z : q .step .number ≡ 0) (sizes : List ℕ)
+    → SizesOf F sizes (stateOf catalogue F (lent t (l₀ .records) (l₀ .texts) (lineOf s) g) .log .undo)
+    → SizesOf F sizes (stateOf catalogue F (lent t′ (l₀ .records) (l₀ .texts) (lineOf (q .step)) (q .log)) .log .undo)
 sizes-next {F} c e q t′ p i z sizes y =
     subst (SizesOf F sizes) (sym (from-there true c e q t′ p i z)) (sizes-left (c .ready) e sizes y)

@@ -5,20 +5,17 @@ use mathlib.Core.Bool.{Bool, true, false}
 use mathlib.Core.List.{List, _∷_}
 use Rattle.unicode.specs.Repertoire.{catalogue}
 use Rattle.checks.specs.declared.Line.{Line}
-use Rattle.checks.specs.Outcome.{answered}
-use Rattle.journal.specs.Change.{Change, turn}
+use Rattle.log_model.specs.Change.{Change, turn}
 use Rattle.formats.specs.declared.Format.{Format}
-use Rattle.journal.specs.Groups as groups
-use Rattle.records.specs.Records.{numbersOf}
-use Rattle.changeset.specs.declared.Log.{Log}
-use Rattle.changeset.specs.Calls.{logOf}
-use Rattle.edit.specs.declared.EditAnswer.{EditAnswer}
+use Rattle.log_model.specs.Groups as groups
+use Rattle.log_records.specs.Records.{numbersOf}
+use Rattle.log_state.specs.declared.Log.{Log}
+use Rattle.log_state.specs.Calls.{logOf}
 use Rattle.edit.specs.Plan.{State}
-use Rattle.edit.specs.Calls.{Lent, lent, stateOf, Stored, Ready}
-use Rattle.retrace.specs.declared.Step.{Step}
-use Rattle.retrace.specs.Retrace.{Trail, Tried, done, stops, undoing, facing, stepTo}
-use Rattle.undo.specs.declared.Passed.{Passed}
-use Rattle.undo.specs.Undo.{redoOut}
+use Rattle.edit.specs.Calls.{Lent, lent, stateOf, Stored}
+use Rattle.undo_step.specs.declared.Step.{Step}
+use Rattle.undo_step.specs.Retrace.{Trail, Tried, done, stops, undoing, facing, stepTo}
+use Rattle.undo.specs.declared.Taken.{Taken}
 use lib.ListN.{length}
 
 -- a text and a cursor, and whether a record of a text was undone
@@ -60,18 +57,13 @@ Leaves F l (done p) v s g t = (s ≡ stepTo p) × (g ≡ logOf F v) × Stored F 
 Leaves F l (stops k) v s g t = (s .number ≡ k) × (lineOf s ≡ l .line) × (g ≡ l .log) × (t ≡ l .text)
 
 -- the newest record undone, or the next one redone: its kind is that of the record as it is written
-abbrev pub PassesOne : Format → Lent → Bool → Bool → Passed → List ℕ → Type 0
+abbrev pub PassesOne : Format → Lent → Bool → Bool → Taken → List ℕ → Type 0
 PassesOne F l back b q t =
     (x : Change) (f : List Change) → fromOf back (stateOf catalogue F l .log) ≡ x ∷ f
-    → (q .kind ≡ numbersOf F (facing back x) .kind) × Leaves F l (undoing (length (l .text)) x (trailBy (stateOf catalogue F l) b)) (passLog back x f (stateOf catalogue F l .log)) (q .step) (q .log) t
+    → (q .kind ≡ numbersOf F (facing back x) .kind) × Leaves F l (undoing (length (l .text)) x (trailBy (stateOf catalogue F l) b))
+    (passLog back x f (stateOf catalogue F l .log)) (q .step) (q .log) t
 
 -- the list that is walked over has come from u₀ bytes to u: where no record of it was passed, the text's buffer is as it was
 pub record Unmoved (u₀ u : ℕ) (t₀ t : List ℕ) : Type 0 where
   pub fewer : u ≤ u₀
   pub same : u ≡ u₀ → t ≡ t₀
-
--- one unit redone: its outcome is the answer r, with what is lent to the next unit, which the checks pass
-pub record Redone (F : Format) (l : Lent) (r : EditAnswer) (t : List ℕ) : Type 0 where
-  pub ready : Ready F (lent t (l .records) (l .texts) (r .line) (r .log))
-  pub out : redoOut (length (l .text)) 1 (stateOf catalogue F l) ≡ answered (r .number) 0 0 (stateOf catalogue F (lent t (l .records) (l .texts) (r .line) (r .log)))
-  pub unmoved : Unmoved (l .log .redo .records) (r .log .redo .records) (l .text) t

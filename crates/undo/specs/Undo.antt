@@ -1,5 +1,4 @@
--- Undo and redo on values: undo.rs, undo and redo of Changeset, and document 01 for the stops 12 and 9. The redo list has every
--- record turned round, so redo is undo with the two lists exchanged.
+-- Undo on values: undo.rs, undo of Changeset, and document 01 for the stops 12 and 9.
 use Prim.Native.Nat.{ℕ, zero, suc, _-_}
 use mathlib.Core.Bool.{Bool, true, false, cond, _&&_}
 use mathlib.Core.List.{List, [], _∷_}
@@ -8,11 +7,11 @@ use lib.ListN.{length}
 use Rattle.unicode.specs.Repertoire.{Repertoire}
 use Rattle.checks.specs.Checks.{ownTests}
 use Rattle.checks.specs.Outcome.{Outcome, refused, answered, called}
-use Rattle.journal.specs.Change.{Change, begin, end, edit, turn}
+use Rattle.log_model.specs.Change.{Change, begin, end, edit, turn}
 use Rattle.formats.specs.declared.Format.{Format}
 use Rattle.edit.specs.Plan.{State}
 use Rattle.edit.specs.Calls.{Lent, checked, stateOf}
-use Rattle.retrace.specs.Retrace.{Trail, Tried, done, stops, undoing}
+use Rattle.undo_step.specs.Retrace.{Trail, Tried, done, stops, undoing}
 
 -- ---- undo: records until n units are done
 -- waiting_for_begin, the Ends seen less the Begins seen, which may go below 0: `owed n` is n, `below n` is n + 1 below 0
@@ -82,29 +81,7 @@ undoWalk C n s = walk C (n - 1) (owed 0) (s .log .undo) (s .log .redo) (trailOf 
 unfoldable pub undoOut : ℕ → ℕ → State → Outcome State
 undoOut C n s = undoOf (undoWalk C n s) (s .log .level)
 
--- ---- redo: n times one unit; 0 where any of them gives 0, else 1; a stop ends them
-abbrev pub redoWalk : ℕ → State → Walked
-redoWalk C s = walk C 0 (owed 0) (s .log .redo) (s .log .undo) (trailOf s)
-
-abbrev pub redoneState : Walked → ℕ → State
-redoneState w level = record { text = w .trail .text; cursor = w .trail .cursor; log = record { undo = w .to; redo = w .from; level = level } }
-
--- a 1 behind a 0 is a 0
-abbrev pub behindNumber : ℕ → Outcome State → Outcome State
-behindNumber n (refused k) = refused k
-behindNumber n (answered k a b s) = answered (cond (eqb n 0 && eqb k 1) 0 k) a b s
-
-abbrev pub orStopped : Walked → ℕ → (State → Outcome State) → Outcome State
-orStopped w level go = cond (eqb (w .stopped) 0) (behindNumber (numberOf 0 (w .trail .undone)) (go (redoneState w level))) (answered (w .stopped) 0 0 (redoneState w level))
-
-unfoldable pub redoOut : ℕ → ℕ → State → Outcome State
-redoOut C zero s = answered 1 0 0 s
-redoOut C (suc n) s = orStopped (redoWalk C s) (s .log .level) (redoOut C n)
-
--- ---- the calls: checks 2 to 8, then what they do
+-- ---- the call: checks 2 to 8, then what it does
 module _ (R : Repertoire) (F : Format) (l : Lent) where
   abbrev pub undoCall : ℕ → Outcome State
   undoCall n = called (checked R F l (ownTests false false false)) (undoOut (length (l .text)) n (stateOf R F l))
-
-  abbrev pub redoCall : ℕ → Outcome State
-  redoCall n = called (checked R F l (ownTests false false false)) (redoOut (length (l .text)) n (stateOf R F l))

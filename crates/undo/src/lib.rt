@@ -8,11 +8,10 @@ ghost use lib.Dec.{eqb};
 ghost use lib.ListN.{length};
 ghost use Rattle.unicode.specs.Repertoire.{catalogue};
 ghost use Rattle.formats.specs.Formats.{Fit};
-ghost use Rattle.edit.specs.Calls.{lent, formatOf, stateOf, Edited, Ready};
-ghost use Rattle.records.specs.Walks.{SizesOf};
+ghost use Rattle.edit.specs.Calls.{lent, stateOf, Edited, Ready, Answers};
+ghost use Rattle.log_records.specs.Walks.{SizesOf};
 ghost use Rattle.undo.specs.Undo.{numberOf, undoOut, undoCall};
 ghost use Rattle.undo.specs.Steps.{lineOf, lentBy, PassesOne};
-use changeset::Log;
 use checks::Line;
 use edit::EditAnswer;
 use edit::Own;
@@ -22,13 +21,14 @@ use formats::Format;
 use formats::RECORDS_MAX;
 use formats::format_for;
 use keymap::RepeatCount;
-use records::note_sizes;
-use records::read_record;
-use retrace::Step;
-use retrace::retrace;
+use log_records::note_sizes;
+use log_records::read_record;
+use log_state::Log;
+use undo_step::Step;
+use undo_step::retrace;
 
 // A record undone or redone: where the walk has come to, the log with its seam there, and the record's kind.
-pub struct Passed {
+pub struct Taken {
     pub step: Step,
     pub log: Log,
     pub kind: usize,
@@ -43,7 +43,7 @@ pub fn undo_record(
     sizes: &[u8],
     s: Step,
     log: Log,
-) -> Passed
+) -> Taken
     requires { ⌜ Fit f ⌝ }
     requires { ⌜ Ready f (lentBy (now text) (now records) (now texts) s log) ⌝ }
     requires { ⌜ (s .number ≡ 0) × (0 < log .undo .records) × (log .undo .records ≤ length (now sizes)) ⌝ }
@@ -58,9 +58,9 @@ pub fn undo_record(
     let step = retrace(text, texts, s, r, first, true);
     let kind = r.kind;
     if step.number != 0 {
-        return Passed { step, log, kind };
+        return Taken { step, log, kind };
     }
-    Passed {
+    Taken {
         step,
         log: log.move_seam(start, first),
         kind,
@@ -184,8 +184,7 @@ pub fn undo(
     log: Log,
     n: RepeatCount,
 ) -> EditAnswer
-    ensures outcome { λ r. ⌜ Edited (formatOf (lent (now (text .entry)) (now (records .entry)) (now (texts .entry)) line log)) (lent (now (text .entry)) (now (records .entry)) (now (texts .entry)) line log)
-        (undoCall catalogue (formatOf (lent (now (text .entry)) (now (records .entry)) (now (texts .entry)) line log)) (lent (now (text .entry)) (now (records .entry)) (now (texts .entry)) line log) n)
+    ensures outcome { λ r. ⌜ Answers (lent (now (text .entry)) (now (records .entry)) (now (texts .entry)) line log) (λ F l. undoCall catalogue F l n)
         r (now (text .exit)) (now (records .entry)) (now (texts .entry)) ⌝ }
     ensures still { λ r. ⌜ (r .log ≡ log → now (text .exit) ≡ now (text .entry)) ⌝ }
 {

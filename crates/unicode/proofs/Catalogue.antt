@@ -14,7 +14,7 @@ use Rattle.utf8.specs.Utf8.{within}
 use Rattle.utf8.specs.Encode.{scalar, size, encode, encodeAll}
 use Rattle.utf8.proofs.Forms.{within-below, within-above}
 use Rattle.utf8.proofs.Encode.{scalar-low, size-encode, encode-single}
-use Rattle.unicode.specs.Repertoire.{Lawful, catalogue, isMember, isMark, isAlnum, isWhite, isSmall, isCapital, upperOf, lowerOf, widthOf}
+use Rattle.unicode.specs.Repertoire.{Lawful, catalogue, isMember, isMark, isAlnum, isWhite, isLowercase, isUppercase, upperOf, lowerOf, widthOf}
 use Rattle.unicode.specs.declared.Case.{Case}
 use Rattle.unicode.specs.declared.Case.the-variants.{Upper, Lower}
 use Rattle.unicode.specs.Case.{caseOf, cased}
@@ -39,23 +39,23 @@ member-below c e =
     )))
 
 -- ---- the mappings, case by case
-pub small-least : (c : ℕ) → isSmall c ≡ true → 32 ≤ c
-unfolding isSmall
+pub small-least : (c : ℕ) → isLowercase c ≡ true → 32 ≤ c
+unfolding isLowercase
 small-least c e =
     by-less _ c 32
-    (λ h. never _ (isSmall c) e (simp (within-below 0x61 0x7A c (omega arith), within-below 0xE0 0xF6 c (omega arith), within-below 0xF8 0xFE c (omega arith))))
+    (λ h. never _ (isLowercase c) e (simp (within-below 0x61 0x7A c (omega arith), within-below 0xE0 0xF6 c (omega arith), within-below 0xF8 0xFE c (omega arith))))
     (λ h. h)
 
-small-above : (c : ℕ) → 0xFE < c → isSmall c ≡ false
-unfolding isSmall
+small-above : (c : ℕ) → 0xFE < c → isLowercase c ≡ false
+unfolding isLowercase
 small-above c h = simp (within-above 0x61 0x7A c (omega arith), within-above 0xE0 0xF6 c (omega arith), within-above 0xF8 0xFE c h)
 
-capital-above : (c : ℕ) → 0xDE < c → isCapital c ≡ false
-unfolding isCapital
+capital-above : (c : ℕ) → 0xDE < c → isUppercase c ≡ false
+unfolding isUppercase
 capital-above c h = simp (within-above 0x41 0x5A c (omega arith), within-above 0xC0 0xD6 c (omega arith), within-above 0xD8 0xDE c h)
 
-pub capital-most : (c : ℕ) → isCapital c ≡ true → c ≤ 0xDE
-capital-most c e = by-less _ 0xDE c (λ h. never _ (isCapital c) e (capital-above c h)) (λ h. h)
+pub capital-most : (c : ℕ) → isUppercase c ≡ true → c ≤ 0xDE
+capital-most c e = by-less _ 0xDE c (λ h. never _ (isUppercase c) e (capital-above c h)) (λ h. h)
 
 module _ (c : ℕ) where
   pub upper-sharp : c ≡ 0xDF → 0x53 ∷ 0x53 ∷ [] ≡ upperOf c
@@ -66,11 +66,11 @@ module _ (c : ℕ) where
   unfolding upperOf
   upper-diaeresis n e = rw (ne-eqb c 0xDF n, eq-eqb c 0xFF e)
 
-  pub upper-small : (c ≡ 0xDF → ⊥) → (c ≡ 0xFF → ⊥) → isSmall c ≡ true → (c - 32) ∷ [] ≡ upperOf c
+  pub upper-small : (c ≡ 0xDF → ⊥) → (c ≡ 0xFF → ⊥) → isLowercase c ≡ true → (c - 32) ∷ [] ≡ upperOf c
   unfolding upperOf
   upper-small n m e = rw (ne-eqb c 0xDF n, ne-eqb c 0xFF m, e)
 
-  pub upper-other : (c ≡ 0xDF → ⊥) → (c ≡ 0xFF → ⊥) → isSmall c ≡ false → c ∷ [] ≡ upperOf c
+  pub upper-other : (c ≡ 0xDF → ⊥) → (c ≡ 0xFF → ⊥) → isLowercase c ≡ false → c ∷ [] ≡ upperOf c
   unfolding upperOf
   upper-other n m e = rw (ne-eqb c 0xDF n, ne-eqb c 0xFF m, e)
 
@@ -78,11 +78,11 @@ module _ (c : ℕ) where
   unfolding lowerOf
   lower-diaeresis e = rw (eq-eqb c 0x178 e)
 
-  pub lower-capital : (c ≡ 0x178 → ⊥) → isCapital c ≡ true → (c + 32) ∷ [] ≡ lowerOf c
+  pub lower-capital : (c ≡ 0x178 → ⊥) → isUppercase c ≡ true → (c + 32) ∷ [] ≡ lowerOf c
   unfolding lowerOf
   lower-capital n e = rw (ne-eqb c 0x178 n, e)
 
-  pub lower-other : (c ≡ 0x178 → ⊥) → isCapital c ≡ false → c ∷ [] ≡ lowerOf c
+  pub lower-other : (c ≡ 0x178 → ⊥) → isUppercase c ≡ false → c ∷ [] ≡ lowerOf c
   unfolding lowerOf
   lower-other n e = rw (ne-eqb c 0x178 n, e)
 
@@ -93,7 +93,7 @@ same-above Lower c h = lower-other c (λ e. omega arith) (capital-above c (omega
 
 -- ---- case stays within the repertoire
 case-test : Case → ℕ → Bool
-unfolding isMember upperOf lowerOf isSmall isCapital within
+unfolding isMember upperOf lowerOf isLowercase isUppercase within
 case-test k c = not (isMember c) || all isMember (caseOf catalogue k c)
 
 upper-within : (c : ℕ) → isMember c ≡ true → all isMember (upperOf c) ≡ true
@@ -106,7 +106,7 @@ lower-within c e = not-or (isMember c) (all isMember (lowerOf c)) (at-each (case
 
 -- ---- no mapping is longer than its character
 shrink-test : Case → ℕ → Bool
-unfolding upperOf lowerOf isSmall isCapital within encodeAll encode size scalar
+unfolding upperOf lowerOf isLowercase isUppercase within encodeAll encode size scalar
 shrink-test k c = leb (length (encodeAll (caseOf catalogue k c))) (size c) && all scalar (caseOf catalogue k c)
 
 true-of : (b : Bool) → T b → b ≡ true

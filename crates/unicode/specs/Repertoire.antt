@@ -65,18 +65,18 @@ unfoldable pub isWhite : ℕ → Bool
 isWhite c = within 0x09 0x0A c || eqb c 0x0D || eqb c 0x20 || eqb c 0xA0
 
 -- lower case letters whose upper case stands 32 before them, and the other way round
-unfoldable pub isSmall : ℕ → Bool
-isSmall c = within 0x61 0x7A c || within 0xE0 0xF6 c || within 0xF8 0xFE c
+unfoldable pub isLowercase : ℕ → Bool
+isLowercase c = within 0x61 0x7A c || within 0xE0 0xF6 c || within 0xF8 0xFE c
 
-unfoldable pub isCapital : ℕ → Bool
-isCapital c = within 0x41 0x5A c || within 0xC0 0xD6 c || within 0xD8 0xDE c
+unfoldable pub isUppercase : ℕ → Bool
+isUppercase c = within 0x41 0x5A c || within 0xC0 0xD6 c || within 0xD8 0xDE c
 
 -- upper case of U+00DF is SS, of U+00FF is U+0178
 unfoldable pub upperOf : ℕ → List ℕ
-upperOf c = cond (eqb c 0xDF) (0x53 ∷ 0x53 ∷ []) (cond (eqb c 0xFF) (0x178 ∷ []) (cond (isSmall c) ((c - 32) ∷ []) (c ∷ [])))
+upperOf c = cond (eqb c 0xDF) (0x53 ∷ 0x53 ∷ []) (cond (eqb c 0xFF) (0x178 ∷ []) (cond (isLowercase c) ((c - 32) ∷ []) (c ∷ [])))
 
 unfoldable pub lowerOf : ℕ → List ℕ
-lowerOf c = cond (eqb c 0x178) (0xFF ∷ []) (cond (isCapital c) ((c + 32) ∷ []) (c ∷ []))
+lowerOf c = cond (eqb c 0x178) (0xFF ∷ []) (cond (isUppercase c) ((c + 32) ∷ []) (c ∷ []))
 
 -- marks 0, all others 1
 unfoldable pub widthOf : ℕ → ℕ

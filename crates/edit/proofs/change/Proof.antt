@@ -5,8 +5,8 @@ use lib.ListN.{length, take, drop}
 use denote.Ref.{now}
 use Rattle.lists.specs.Lists.{part}
 use Rattle.unicode.specs.Repertoire.{catalogue}
-use Rattle.changeset.specs.declared.Log.{Log}
-use Rattle.changeset.specs.Calls.{editOf}
+use Rattle.log_state.specs.declared.Log.{Log}
+use Rattle.log_state.specs.Calls.{editOf}
 use Rattle.edit.specs.Plan.{changeOut}
 use Rattle.edit.specs.Calls.{lent, sizesOf, stateOf, says}
 use Rattle.edit.proofs.Parts.{raw-part}

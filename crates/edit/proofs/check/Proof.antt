@@ -2,7 +2,7 @@ use native.Mathlib.Omega.{arith}
 use mathlib.Core.Path.{sym, _∙_}
 use denote.Ref.{now}
 use borrow.Author.Tests.{not-true, not-false}
-use Rattle.changeset.proofs.Passed.{sized}
+use Rattle.log_state.proofs.Passed.{sized}
 use Rattle.edit.specs.Calls.{Lent, lent, logLent}
 use Rattle.edit.proofs.Numbers.{by-log-sizes, by-sizes, by-text, by-split, by-damage, by-none, ready}
 use borrow.Author.Needs.{needs}

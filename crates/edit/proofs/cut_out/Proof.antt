@@ -10,8 +10,8 @@ use Rattle.lists.specs.Lists.{part}
 use Rattle.unicode.specs.Repertoire.{catalogue}
 use Rattle.unicode.specs.Text.{isText}
 use Rattle.cluster.specs.Clusters.{clustersOf}
-use Rattle.journal.specs.Change.{delete}
-use Rattle.journal.specs.Recording.{isSingle}
+use Rattle.log_model.specs.Change.{delete}
+use Rattle.log_model.specs.Recording.{isSingle}
 use Rattle.edit.specs.Plan.{cutting, once, edited, changeOut}
 use Rattle.edit.specs.Calls.{lent, sizesOf, stateOf}
 use Rattle.edit.proofs.Parts.{part-text, raw-part}

@@ -3,8 +3,8 @@ use mathlib.Core.Path.{sym, ap}
 use mathlib.Core.Bool.{true}
 use lib.Seq.{length-take-le}
 use denote.Ref.{now}
-use Rattle.recording.specs.declared.Tail.{Tail}
-use Rattle.changeset.specs.Calls.{lent}
+use Rattle.log_recording.specs.declared.Tail.{Tail}
+use Rattle.log_state.specs.Calls.{lent}
 use Rattle.edit.proofs.Rooms.{tail-now}
 use Rattle.edit.proofs.room_now.Statement.{statement}
 use Rattle.edit.proofs.room_now.Tie as tie

@@ -12,19 +12,31 @@ use Rattle.kill_ring.proofs.any_foreign.Statement.{statement}
 use Rattle.kill_ring.proofs.any_foreign.Tie as tie
 
 abbrev Inv-loop : tie.InvT-loop
-Inv-loop slots lens n i₀ i = (i ≤ n) × (anyForeign catalogue (slotsFrom slots lens i (n - i)) ≡ anyForeign catalogue (slotsFrom slots lens 0 n))
+Inv-loop slots lens n i₀ i =
+    (i ≤ n) × (anyForeign catalogue (slotsFrom slots lens i (n - i)) ≡ anyForeign catalogue (slotsFrom slots lens 0 n))
 
 abbrev μ-loop : tie.MeasureT-loop
 μ-loop slots lens n i₀ i = n - i
 
 -- what check_text says is of the slot's text
-text : (c : tie.After-check-text Inv-loop μ-loop) → isText catalogue (slotBytes (now (c .before .before .before .before .before .before .before .args .slots)) (now (c .before .before .before .before .before .before .before .args .lens)) (c .before .before .before .before .loop .i)) ≡ c .check-text .result
+text : (c : tie.After-check-text Inv-loop μ-loop) → isText catalogue (slotBytes (now (c .before .before .before .before .before .before
+    .before .args .slots)) (now (c .before .before .before .before .before .before .before .args .lens)) (c .before .before .before .before
+    .loop .i)) ≡ c .check-text .result
 text c =
-    sym (ap (isText catalogue) (slot-part (now (c .before .before .before .before .before .before .before .args .slots)) (now (c .before .before .before .before .before .before .before .args .lens)) (c .before .before .before .before .loop .i) (c .before .before .slot-len .result) (c .before .before .slot-len .ensures .0)))
-    ∙ sym (c .check-text .ensures)
+    let at-loop = c .before .before .before .before in
+    let entry = at-loop .before .before .before in
+    sym
+    (ap (isText catalogue)
+    (slot-part (now entry.args.slots) (now entry.args.lens) at-loop.loop.i c.before.before.slot-len.result
+    c.before.before.slot-len.ensures.0))
+    ∙ sym c.check-text.ensures
 
 loop-holds : tie.Need-loop-holds Inv-loop μ-loop
-loop-holds c = (omega arith, from-none (λ (m : ℕ). anyForeign catalogue (slotsFrom (now (c .before .before .args .slots)) (now (c .before .before .args .lens)) 0 m)) (c .before .before .args .n))
+loop-holds c = (
+  omega arith,
+  from-none (λ (m : ℕ). anyForeign catalogue (slotsFrom (now c.before.before.args.slots) (now c.before.before.args.lens) 0 m))
+      c.before.before.args.n,
+)
 
 mul-from : tie.Need-mul-from Inv-loop μ-loop
 mul-from c = search needs
@@ -42,14 +54,24 @@ part-check-text-start : tie.Need-part-check-text-start Inv-loop μ-loop
 part-check-text-start c = search needs
 
 part-check-text-end : tie.Need-part-check-text-end Inv-loop μ-loop
-part-check-text-end c = let s : c .slot-len .result ≤ 4096 = short-at (now (c .before .before .before .before .before .args .lens)) (c .before .before .before .before .before .args .n) (c .before .before .loop .i) _ (c .before .before .before .before .before .pre .1 .1) (c .before .loop-test .taken) (c .slot-len .ensures .0) in
+part-check-text-end c =
+    let entry = c .before .before .before .before .before in
+    let s : c.slot-len.result ≤ 4096 = short-at (now entry.args.lens) entry.args.n c.before.before.loop.i _ entry.pre.1.1
+    c.before.loop-test.taken c.slot-len.ensures.0 in
     omega arith
 
 check-text-requires : tie.Need-check-text-requires Inv-loop μ-loop
 check-text-requires c κs = search needs
 
 returns : tie.Need-returns Inv-loop μ-loop
-returns c = sym (foreign-here catalogue (now (c .before .before .before .before .before .before .before .before .args .slots)) (now (c .before .before .before .before .before .before .before .before .args .lens)) (c .before .before .before .before .before .loop .i) (c .before .before .before .before .before .before .before .before .args .n) (c .before .before .before .before .loop-test .taken) (text (c .before) ∙ not-true _ (c .if1 .taken))) ∙ c .before .before .before .before .before .loop .inv .1
+returns c =
+    let in-loop = c .before .before .before .before in
+    let at-loop = in-loop.before in
+    let entry = at-loop .before .before .before in
+    sym
+    (foreign-here catalogue (now entry.args.slots) (now entry.args.lens) at-loop.loop.i entry.args.n in-loop.loop-test.taken
+    (text c.before ∙ not-true _ c.if1.taken))
+    ∙ at-loop.loop.inv.1
 
 add-i : tie.Need-add-i Inv-loop μ-loop
 add-i c = search needs
@@ -58,10 +80,22 @@ loop-less : tie.Need-loop-less Inv-loop μ-loop
 loop-less c = search needs
 
 loop-again : tie.Need-loop-again Inv-loop μ-loop
-loop-again c = (omega arith, sym (foreign-on catalogue (now (c .before .before .before .before .before .before .before .before .args .slots)) (now (c .before .before .before .before .before .before .before .before .args .lens)) (c .before .before .before .before .before .loop .i) (c .before .before .before .before .before .before .before .before .args .n) (c .before .before .before .before .loop-test .taken) (text (c .before) ∙ not-false _ (c .if1 .left))) ∙ c .before .before .before .before .before .loop .inv .1)
+loop-again c =
+    let in-loop = c .before .before .before .before in
+    let at-loop = in-loop.before in
+    let entry = at-loop .before .before .before in (
+      omega arith,
+      sym
+          (foreign-on catalogue (now entry.args.slots) (now entry.args.lens) at-loop.loop.i entry.args.n in-loop.loop-test.taken
+          (text c.before ∙ not-false _ c.if1.left))
+          ∙ at-loop.loop.inv.1,
+    )
 
 returns-2 : tie.Need-returns-2 Inv-loop μ-loop
-returns-2 c = sym (foreign-end catalogue (now (c .before .before .before .before .args .slots)) (now (c .before .before .before .before .args .lens)) (c .before .loop .i) (c .before .before .before .before .args .n) (omega arith)) ∙ c .before .loop .inv .1
+returns-2 c =
+    let entry = c .before .before .before .before in
+    sym (foreign-end catalogue (now entry.args.slots) (now entry.args.lens) c.before.loop.i entry.args.n (omega arith))
+    ∙ c.before.loop.inv.1
 
 pub any-foreign-spec : {M : Type 1} → statement M
 any-foreign-spec =

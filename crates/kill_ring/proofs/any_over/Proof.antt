@@ -21,7 +21,10 @@ slot-len-requires : tie.Need-slot-len-requires Inv-loop μ-loop
 slot-len-requires c κs = search needs
 
 returns : tie.Need-returns Inv-loop μ-loop
-returns c = sym (over-here (now (c .before .before .before .before .before .args .lens)) (c .before .before .before .loop .i) (c .before .before .before .before .before .args .n) (c .before .before .loop-test .taken) (omega arith)) ∙ c .before .before .before .loop .inv .1
+returns c =
+    let at-loop = c .before .before .before in
+    let entry = at-loop.before.before in
+    sym (over-here (now entry.args.lens) at-loop.loop.i entry.args.n c.before.before.loop-test.taken (omega arith)) ∙ at-loop.loop.inv.1
 
 add-i : tie.Need-add-i Inv-loop μ-loop
 add-i c = search needs
@@ -30,10 +33,17 @@ loop-less : tie.Need-loop-less Inv-loop μ-loop
 loop-less c = search needs
 
 loop-again : tie.Need-loop-again Inv-loop μ-loop
-loop-again c = (omega arith, sym (over-on (now (c .before .before .before .before .before .args .lens)) (c .before .before .before .loop .i) (c .before .before .before .before .before .args .n) (c .before .before .loop-test .taken) (omega arith)) ∙ c .before .before .before .loop .inv .1)
+loop-again c =
+    let at-loop = c .before .before .before in
+    let entry = at-loop.before.before in (
+      omega arith,
+      sym (over-on (now entry.args.lens) at-loop.loop.i entry.args.n c.before.before.loop-test.taken (omega arith)) ∙ at-loop.loop.inv.1,
+    )
 
 returns-2 : tie.Need-returns-2 Inv-loop μ-loop
-returns-2 c = sym (over-end (now (c .before .before .before .args .lens)) (c .before .loop .i) (c .before .before .before .args .n) (omega arith)) ∙ c .before .loop .inv .1
+returns-2 c =
+    let entry = c .before .before .before in
+    sym (over-end (now entry.args.lens) c.before.loop.i entry.args.n (omega arith)) ∙ c.before.loop.inv.1
 
 pub any-over-spec : {M : Type 1} → statement M
 any-over-spec =

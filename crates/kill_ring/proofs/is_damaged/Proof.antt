@@ -28,14 +28,33 @@ action-breaks-requires c κs = search needs
 
 returns-3 : tie.Need-returns-3
 unfolding damaged
-returns-3 c = simp (le-ltb _ _ (c .before .before .before .before .if1 .left), sym (c .before .before .before .index-breaks .ensures) ∙ c .before .before .if2 .left, sym (c .before .action-breaks .ensures) ∙ c .if3 .taken)
+returns-3 c =
+    let after-index-breaks = c .before .before .before in
+    let else1 = after-index-breaks.before in
+    simp (
+      le-ltb _ _ else1.if1.left,
+      sym after-index-breaks.index-breaks.ensures ∙ c.before.before.if2.left,
+      sym c.before.action-breaks.ensures ∙ c.if3.taken,
+    )
 
 any-foreign-requires : tie.Need-any-foreign-requires
-any-foreign-requires c κs = let s = sized (given (c .before .before .before .before .before .before .before .before)) (c .before .before .before .before .before .before .before .before .pre) in (omega (arith, s .slots, c .before .before .before .before .if1 .left), (omega (arith, s .lens, c .before .before .before .before .if1 .left), all-short (given (c .before .before .before .before .before .before .before .before)) s (c .before .before .before .before .if1 .left)))
+any-foreign-requires c κs =
+    let else1 = c .before .before .before .before in
+    let entry = else1 .before .before .before .before in
+    let s = sized (given entry) entry.pre in
+    (omega (arith, s.slots, else1.if1.left), (omega (arith, s.lens, else1.if1.left), all-short (given entry) s else1.if1.left))
 
 returns-4 : tie.Need-returns-4
 unfolding damaged
-returns-4 c = simp (le-ltb _ _ (c .before .before .before .before .before .if1 .left), sym (c .before .before .before .before .index-breaks .ensures) ∙ c .before .before .before .if2 .left, sym (c .before .before .action-breaks .ensures) ∙ c .before .if3 .left) (c .any-foreign .ensures)
+returns-4 c =
+    let else2 = c .before .before .before in
+    let after-index-breaks = else2.before in
+    let else1 = after-index-breaks.before in
+    simp (
+      le-ltb _ _ else1.if1.left,
+      sym after-index-breaks.index-breaks.ensures ∙ else2.if2.left,
+      sym c.before.before.action-breaks.ensures ∙ c.before.if3.left,
+    ) c.any-foreign.ensures
 
 pub is-damaged-spec : {M : Type 1} → statement M
 is-damaged-spec =

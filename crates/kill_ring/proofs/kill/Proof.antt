@@ -37,8 +37,14 @@ same-length-2 : tie.Need-same-length-2
 same-length-2 c = search needs
 
 returns : tie.Need-returns
-returns c = unnamed catalogue (given (c .before .before .before .before .before .before .before .before .before .before .before)) (now (c .before .before .before .before .before .before .before .before .before .before .before .args .text)) (c .before .before .before .before .before .before .before .before .before .before .before .args .mode) (c .before .refusal .result) _ (sym (c .before .before .before .before .before .before .before .from-code .ensures) ∙ c .before .before .before .before .before .enum-told .given .1)
-    (c .before .refusal .ensures ∙ ap (λ (b : Bool). checked catalogue (given (c .before .before .before .before .before .before .before .before .before .before .before)) true (not b)) (c .before .before .check-text .ensures)) (c .says .ensures)
+returns c =
+    let after-enum-told = c .before .before .before .before .before in
+    let after-from-code = after-enum-told.before.before in
+    let entry = after-from-code .before .before .before .before in
+    unnamed catalogue (given entry) (now entry.args.text) entry.args.mode c.before.refusal.result _
+    (sym after-from-code.from-code.ensures ∙ after-enum-told.enum-told.given.1)
+    (c.before.refusal.ensures ∙ ap (λ (b : Bool). checked catalogue (given entry) true (not b)) c.before.before.check-text.ensures)
+    c.says.ensures
 
 kill-by-requires : tie.Need-kill-by-requires
 kill-by-requires c κs = search needs
@@ -50,7 +56,13 @@ same-length-4 : tie.Need-same-length-4
 same-length-4 c = search needs
 
 returns-2 : tie.Need-returns-2
-returns-2 c = named catalogue (given (c .before .before .before .before .before .before .before .before .before .before .before .before .before .before)) (now (c .before .before .before .before .before .before .before .before .before .before .before .before .before .before .args .text)) (c .before .before .before .before .before .before .before .before .before .before .before .before .before .before .args .mode) (c .before .before .before .before .before .before .before .before .code .given .0 .0) _ _ _ (sym (c .before .before .before .before .before .before .before .before .before .before .from-code .ensures) ∙ c .before .before .before .before .before .before .before .before .code .given .1) (c .before .before .before .before .kill-by .ensures)
+returns-2 c =
+    let after-kill-by = c .before .before .before .before in
+    let after-code = after-kill-by .before .before .before .before in
+    let after-from-code = after-code.before.before in
+    let entry = after-from-code .before .before .before .before in
+    named catalogue (given entry) (now entry.args.text) entry.args.mode after-code.code.given.0.0 _ _ _
+    (sym after-from-code.from-code.ensures ∙ after-code.code.given.1) after-kill-by.kill-by.ensures
 
 pub kill-spec : {M : Type 1} → statement M
 kill-spec =

@@ -12,7 +12,16 @@ use Rattle.kill_ring.specs.Calls.{Lent, lent, checked, valueOf}
 use Rattle.kill_ring.proofs.Passed.{Ready, passed}
 use Rattle.kill_ring.proofs.Value.{some-of, index-below}
 use Rattle.kill_ring.proofs.Answers.{alone}
-use Rattle.kill_ring.proofs.Kills.{ringed-refused, ringed-passed, used-most, slot-room, place-most, kill-disabled, kill-full, kill-done}
+use Rattle.kill_ring.proofs.Kills.{
+  ringed-refused,
+  ringed-passed,
+  used-most,
+  slot-room,
+  place-most,
+  kill-disabled,
+  kill-full,
+  kill-done,
+}
 use Rattle.kill_ring.proofs.kill_by.Statement.{statement}
 use Rattle.kill_ring.proofs.kill_by.Tie as tie
 
@@ -28,11 +37,15 @@ killing c = killOut (c .args .m) (now (c .args .text)) (valueOf (given c))
 
 -- the number that refusal gives
 said : (c : tie.After-refusal) → c .refusal .result ≡ number (c .before .before .before .before .before .before .before)
-said c = c .refusal .ensures ∙ ap (λ (b : Bool). checked catalogue (given (c .before .before .before .before .before .before .before)) false (not b)) (c .before .check-text .ensures)
+said c =
+    let entry = c .before .before .before .before .before .before .before in
+    c.refusal.ensures ∙ ap (λ (b : Bool). checked catalogue (given entry) false (not b)) c.before.check-text.ensures
 
 -- the checks pass
 ready : (c : tie.Else1) → Ready catalogue (given (c .before .before .before .before .before .before .before .before))
-ready c = passed catalogue (given (c .before .before .before .before .before .before .before .before)) false (not (isText catalogue (now (c .before .before .before .before .before .before .before .before .args .text)))) (sym (said (c .before)) ∙ c .if1 .left)
+ready c =
+    let entry = c .before .before .before .before .before .before .before .before in
+    passed catalogue (given entry) false (not (isText catalogue (now entry.args.text))) (sym (said c.before) ∙ c.if1.left)
 
 -- there is a size
 some : (c : tie.Else2) → 0 < c .before .before .before .before .before .before .before .before .before .before .args .ring .size
@@ -54,7 +67,10 @@ same-length-2 : tie.Need-same-length-2
 same-length-2 c = search needs
 
 returns : tie.Need-returns
-returns c = ringed-refused (given (c .before .before .before .before .before .before .before .before .before)) (c .before .before .refusal .result) (number (c .before .before .before .before .before .before .before .before .before)) (killing (c .before .before .before .before .before .before .before .before .before)) _ (said (c .before .before)) (c .before .if1 .taken) (c .says .ensures)
+returns c =
+    let entry = c .before .before .before .before .before .before .before .before .before in
+    ringed-refused (given entry) c.before.before.refusal.result (number entry) (killing entry) _ (said c.before.before) c.before.if1.taken
+    c.says.ensures
 
 with-action-requires : tie.Need-with-action-requires
 with-action-requires c κs = search needs
@@ -69,14 +85,28 @@ same-length-4 : tie.Need-same-length-4
 same-length-4 c = search needs
 
 returns-2 : tie.Need-returns-2
-returns-2 c = ringed-passed (given (c .before .before .before .before .before .before .before .before .before .before .before .before)) (c .before .before .before .before .before .refusal .result) (number (c .before .before .before .before .before .before .before .before .before .before .before .before)) (killing (c .before .before .before .before .before .before .before .before .before .before .before .before)) _ _ _ (said (c .before .before .before .before .before)) (c .before .before .before .before .if1 .left)
-    (kill-disabled catalogue (given (c .before .before .before .before .before .before .before .before .before .before .before .before)) (ready (c .before .before .before .before)) (c .before .before .before .before .before .before .before .before .before .before .before .before .args .m) (now (c .before .before .before .before .before .before .before .before .before .before .before .before .args .text)) _ (c .before .before .if2 .taken) (c .says2 .ensures ∙ ap (alone 0) (c .before .with-action .ensures)))
+returns-2 c =
+    let else1 = c .before .before .before .before in
+    let after-refusal = else1.before in
+    let entry = after-refusal .before .before .before .before .before .before .before in
+    ringed-passed (given entry) after-refusal.refusal.result (number entry) (killing entry) _ _ _ (said after-refusal) else1.if1.left
+    (kill-disabled catalogue (given entry) (ready else1) entry.args.m (now entry.args.text) _ c.before.before.if2.taken
+    (c.says2.ensures ∙ ap (alone 0) c.before.with-action.ensures))
 
 kill-used-requires : tie.Need-kill-used-requires
-kill-used-requires c κs = let p = ready (c .before .before .before) in let k = index-below catalogue (given (c .before .before .before .before .before .before .before .before .before .before .before)) p (some (c .before)) in omega (arith, p .lens, k)
+kill-used-requires c κs =
+    let else1 = c .before .before .before in
+    let entry = else1 .before .before .before .before .before .before .before .before in
+    let p = ready else1 in
+    let k = index-below catalogue (given entry) p (some c.before) in
+    omega (arith, p.lens, k)
 
 sub-if3 : tie.Need-sub-if3
-sub-if3 c = let u = used-most catalogue (given (c .before .before .before .before .before .before .before .before .before .before .before .before)) (ready (c .before .before .before .before)) (some (c .before .before)) in omega (arith, c .kill-used .ensures, u)
+sub-if3 c =
+    let else1 = c .before .before .before .before in
+    let entry = else1 .before .before .before .before .before .before .before .before in
+    let u = used-most catalogue (given entry) (ready else1) (some c.before.before) in
+    omega (arith, c.kill-used.ensures, u)
 
 says-requires-3 : tie.Need-says-requires-3
 says-requires-3 c κs = search needs
@@ -88,32 +118,71 @@ same-length-6 : tie.Need-same-length-6
 same-length-6 c = search needs
 
 returns-3 : tie.Need-returns-3
-returns-3 c = ringed-passed (given (c .before .before .before .before .before .before .before .before .before .before .before .before .before .before)) (c .before .before .before .before .before .before .before .refusal .result) (number (c .before .before .before .before .before .before .before .before .before .before .before .before .before .before)) (killing (c .before .before .before .before .before .before .before .before .before .before .before .before .before .before)) _ _ _ (said (c .before .before .before .before .before .before .before)) (c .before .before .before .before .before .before .if1 .left)
-    (kill-full catalogue (given (c .before .before .before .before .before .before .before .before .before .before .before .before .before .before)) (ready (c .before .before .before .before .before .before)) (c .before .before .before .before .before .before .before .before .before .before .before .before .before .before .args .m) (now (c .before .before .before .before .before .before .before .before .before .before .before .before .before .before .args .text)) (some (c .before .before .before .before)) _ (c .before .before .kill-used .result) (c .before .before .kill-used .ensures) (c .before .if3 .taken) (c .says3 .ensures))
+returns-3 c =
+    let else2 = c .before .before .before .before in
+    let else1 = else2.before.before in
+    let after-refusal = else1.before in
+    let entry = after-refusal .before .before .before .before .before .before .before in
+    ringed-passed (given entry) after-refusal.refusal.result (number entry) (killing entry) _ _ _ (said after-refusal) else1.if1.left
+    (kill-full catalogue (given entry) (ready else1) entry.args.m (now entry.args.text) (some else2) _ c.before.before.kill-used.result
+    c.before.before.kill-used.ensures c.before.if3.taken c.says3.ensures)
 
 kill-index-requires : tie.Need-kill-index-requires
-kill-index-requires c κs = let p = ready (c .before .before .before .before .before) in let k = index-below catalogue (given (c .before .before .before .before .before .before .before .before .before .before .before .before .before)) p (some (c .before .before .before)) in (some (c .before .before .before), omega (arith, p .size, k))
+kill-index-requires c κs =
+    let else2 = c .before .before .before in
+    let else1 = else2.before.before in
+    let entry = else1 .before .before .before .before .before .before .before .before in
+    let p = ready else1 in
+    let k = index-below catalogue (given entry) p (some else2) in
+    (some else2, omega (arith, p.size, k))
 
 place-requires : tie.Need-place-requires
 place-requires c κs = search needs
 
 put-text-requires : tie.Need-put-text-requires
-put-text-requires c κs = let r = slot-room catalogue (given (c .before .before .before .before .before .before .before .before .before .before .before .before .before .before .before .before)) (ready (c .before .before .before .before .before .before .before .before)) (some (c .before .before .before .before .before .before)) (c .before .before .kill-index .result) (c .before .before .kill-index .ensures) in
-    let u = used-most catalogue (given (c .before .before .before .before .before .before .before .before .before .before .before .before .before .before .before .before)) (ready (c .before .before .before .before .before .before .before .before)) (some (c .before .before .before .before .before .before)) in
-    (r .0, (place-most (c .before .before .before .before .before .before .before .before .before .before .before .before .before .before .before .before .args .m) (c .before .before .before .before .kill-used .result) (c .place .result) (c .place .ensures), omega (arith, c .before .before .before .if3 .left, c .before .before .before .before .kill-used .ensures, u)))
+put-text-requires c κs =
+    let else3 = c .before .before .before in
+    let after-kill-used = else3.before in
+    let else2 = after-kill-used.before.before in
+    let else1 = else2.before.before in
+    let entry = else1 .before .before .before .before .before .before .before .before in
+    let r = slot-room catalogue (given entry) (ready else1) (some else2) c.before.before.kill-index.result
+    c.before.before.kill-index.ensures in
+    let u = used-most catalogue (given entry) (ready else1) (some else2) in (
+      r.0,
+      (
+        place-most entry.args.m after-kill-used.kill-used.result c.place.result c.place.ensures,
+        omega (arith, else3.if3.left, after-kill-used.kill-used.ensures, u),
+      ),
+    )
 
 mul-write-num : tie.Need-mul-write-num
-mul-write-num c = let r : c .before .before .before .before .before .before .kill-index .result < 16 = slot-room catalogue (given (c .before .before .before .before .before .before .before .before .before .before .before .before .before .before .before .before .before .before .before .before)) (ready (c .before .before .before .before .before .before .before .before .before .before .before .before)) (some (c .before .before .before .before .before .before .before .before .before .before)) (c .before .before .before .before .before .before .kill-index .result) (c .before .before .before .before .before .before .kill-index .ensures) .2 in
+mul-write-num c =
+    let after-kill-index = c .before .before .before .before .before .before in
+    let else2 = after-kill-index .before .before .before .before in
+    let else1 = else2.before.before in
+    let entry = else1 .before .before .before .before .before .before .before .before in
+    let r : after-kill-index.kill-index.result < 16 =
+    (slot-room catalogue (given entry) (ready else1) (some else2) after-kill-index.kill-index.result after-kill-index.kill-index.ensures)
+    .2 in
     record { fits = omega arith }
 
 add-write-num : tie.Need-add-write-num
 add-write-num c = search needs
 
 write-num-requires : tie.Need-write-num-requires
-write-num-requires c κs = slot-room catalogue (given (c .before .before .before .before .before .before .before .before .before .before .before .before .before .before .before .before .before .before .before .before)) (ready (c .before .before .before .before .before .before .before .before .before .before .before .before)) (some (c .before .before .before .before .before .before .before .before .before .before)) (c .before .before .before .before .before .before .kill-index .result) (c .before .before .before .before .before .before .kill-index .ensures) .1
+write-num-requires c κs =
+    let after-kill-index = c .before .before .before .before .before .before in
+    let else2 = after-kill-index .before .before .before .before in
+    let else1 = else2.before.before in
+    let entry = else1 .before .before .before .before .before .before .before .before in
+    (slot-room catalogue (given entry) (ready else1) (some else2) after-kill-index.kill-index.result after-kill-index.kill-index.ensures) .1
 
 killed-requires : tie.Need-killed-requires
-killed-requires c κs = let p = ready (c .before .before .before .before .before .before .before .before .before .before .before .before .before .before .before) in omega (arith, p .count, p .size)
+killed-requires c κs =
+    let else1 = c .before .before .before .before .before .before .before .before .before .before .before .before .before .before .before in
+    let p = ready else1 in
+    omega (arith, p.count, p.size)
 
 says-requires-4 : tie.Need-says-requires-4
 says-requires-4 c κs = search needs
@@ -125,9 +194,22 @@ same-length-8 : tie.Need-same-length-8
 same-length-8 c = search needs
 
 returns-4 : tie.Need-returns-4
-returns-4 c = ringed-passed (given (c .before .before .before .before .before .before .before .before .before .before .before .before .before .before .before .before .before .before .before .before .before .before .before .before .before)) (c .before .before .before .before .before .before .before .before .before .before .before .before .before .before .before .before .before .before .refusal .result) (number (c .before .before .before .before .before .before .before .before .before .before .before .before .before .before .before .before .before .before .before .before .before .before .before .before .before)) (killing (c .before .before .before .before .before .before .before .before .before .before .before .before .before .before .before .before .before .before .before .before .before .before .before .before .before)) _ _ _ (said (c .before .before .before .before .before .before .before .before .before .before .before .before .before .before .before .before .before .before)) (c .before .before .before .before .before .before .before .before .before .before .before .before .before .before .before .before .before .if1 .left)
-    (kill-done catalogue (given (c .before .before .before .before .before .before .before .before .before .before .before .before .before .before .before .before .before .before .before .before .before .before .before .before .before)) (ready (c .before .before .before .before .before .before .before .before .before .before .before .before .before .before .before .before .before)) (c .before .before .before .before .before .before .before .before .before .before .before .before .before .before .before .before .before .before .before .before .before .before .before .before .before .args .m) (now (c .before .before .before .before .before .before .before .before .before .before .before .before .before .before .before .before .before .before .before .before .before .before .before .before .before .args .text)) (some (c .before .before .before .before .before .before .before .before .before .before .before .before .before .before .before)) _ (c .before .killed .result) (c .before .before .before .before .before .before .before .before .before .before .before .before .before .kill-used .result) (c .before .before .before .before .before .before .before .before .before .before .before .kill-index .result) (c .before .before .before .before .before .before .before .before .before .place .result) (c .before .before .before .before .before .before .before .before .put-text .last .0) (c .before .before .before .before .write-num .last .0)
-    (c .before .before .before .before .before .before .before .before .before .before .before .before .before .kill-used .ensures) (c .before .before .before .before .before .before .before .before .before .before .before .before .if3 .left) (c .before .before .before .before .before .before .before .before .before .before .before .kill-index .ensures) (c .before .before .before .before .before .before .before .before .before .place .ensures) (c .before .before .before .before .before .before .before .before .put-text .ensures) (c .before .before .before .before .write-num .ensures) (c .before .killed .ensures) (c .says4 .ensures))
+returns-4 c =
+    let after-write-num = c .before .before .before .before in
+    let after-put-text = after-write-num .before .before .before .before in
+    let after-place = after-put-text.before in
+    let after-kill-index = after-place.before.before in
+    let else3 = after-kill-index.before in
+    let after-kill-used = else3.before in
+    let else2 = after-kill-used.before.before in
+    let else1 = else2.before.before in
+    let after-refusal = else1.before in
+    let entry = after-refusal .before .before .before .before .before .before .before in
+    ringed-passed (given entry) after-refusal.refusal.result (number entry) (killing entry) _ _ _ (said after-refusal) else1.if1.left
+    (kill-done catalogue (given entry) (ready else1) entry.args.m (now entry.args.text) (some else2) _ c.before.killed.result
+    after-kill-used.kill-used.result after-kill-index.kill-index.result after-place.place.result after-put-text.put-text.last.0
+    after-write-num.write-num.last.0 after-kill-used.kill-used.ensures else3.if3.left after-kill-index.kill-index.ensures
+    after-place.place.ensures after-put-text.put-text.ensures after-write-num.write-num.ensures c.before.killed.ensures c.says4.ensures)
 
 pub kill-by-spec : {M : Type 1} → statement M
 kill-by-spec =

@@ -32,11 +32,19 @@ in-use-requires : tie.Need-in-use-requires
 in-use-requires c κs = search needs
 
 any-over-requires : tie.Need-any-over-requires
-any-over-requires c κs = let m : c .in-use .result ≤ c .before .before .before .before .before .before .args .ring .size = omega (arith, c .in-use .ensures, in-use-most (c .before .before .before .before .before .before .args .ring)) in omega arith
+any-over-requires c κs =
+    let entry = c .before .before .before .before .before .before in
+    let m : c.in-use.result ≤ entry.args.ring.size = omega (arith, c.in-use.ensures, in-use-most entry.args.ring) in
+    omega arith
 
 returns-4 : tie.Need-returns-4
 unfolding overSizes
-returns-4 c = simp (le-ltb _ _ (c .before .before .before .before .if1 .left), le-ltb _ _ (c .before .before .before .if2 .left), le-ltb _ _ (c .before .before .if3 .left)) (c .any-over .ensures ∙ ap (anyOver (now (c .before .before .before .before .before .before .before .args .lens)) 0) (c .before .in-use .ensures))
+returns-4 c =
+    let else2 = c .before .before .before in
+    let else1 = else2.before in
+    let entry = else1 .before .before .before in
+    simp (le-ltb _ _ else1.if1.left, le-ltb _ _ else2.if2.left, le-ltb _ _ c.before.before.if3.left)
+    (c.any-over.ensures ∙ ap (anyOver (now entry.args.lens) 0) c.before.in-use.ensures)
 
 pub over-sizes-spec : {M : Type 1} → statement M
 over-sizes-spec =

@@ -26,7 +26,10 @@ same-length : tie.Need-same-length
 same-length c = search needs
 
 returns : tie.Need-returns
-returns c = put-back (now (c .before .before .before .before .before .before .args .slots)) (c .before .before .insert-bytes .last .0) (now (c .before .before .before .before .before .before .args .text)) (c .before .before .before .before .before .before .args .i) (c .before .before .before .before .before .before .args .used) (c .before .before .before .before .before .before .args .at) (c .before .before .before .before .before .before .pre .0) (c .before .before .before .before .before .before .pre .1 .0) (c .before .before .before .before .before .before .pre .1 .1) (c .before .before .insert-bytes .kept .0) (c .before .before .insert-bytes .ensures)
+returns c =
+    let entry = c .before .before .before .before .before .before in
+    put-back (now entry.args.slots) c.before.before.insert-bytes.last.0 (now entry.args.text) entry.args.i entry.args.used entry.args.at
+    entry.pre.0 entry.pre.1.0 entry.pre.1.1 c.before.before.insert-bytes.kept.0 c.before.before.insert-bytes.ensures
 
 pub put-text-spec : {M : Type 1} → statement M
 put-text-spec =

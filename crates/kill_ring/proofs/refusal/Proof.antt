@@ -20,22 +20,38 @@ over-sizes-requires : tie.Need-over-sizes-requires
 over-sizes-requires c κs = search needs
 
 returns : tie.Need-returns
-returns c = says-sizes catalogue (given (c .before .before .before .before)) (c .before .before .before .before .args .code) (c .before .before .before .before .args .foreign) (sym (c .before .over-sizes .ensures) ∙ c .if1 .taken)
+returns c =
+    let entry = c .before .before .before .before in
+    says-sizes catalogue (given entry) entry.args.code entry.args.foreign (sym c.before.over-sizes.ensures ∙ c.if1.taken)
 
 returns-2 : tie.Need-returns-2
-returns-2 c = says-code catalogue (given (c .before .before .before .before .before)) (c .before .before .before .before .before .args .code) (c .before .before .before .before .before .args .foreign) (fine (c .before)) (c .if2 .taken)
+returns-2 c =
+    let entry = c .before .before .before .before .before in
+    says-code catalogue (given entry) entry.args.code entry.args.foreign (fine c.before) c.if2.taken
 
 returns-3 : tie.Need-returns-3
-returns-3 c = says-foreign catalogue (given (c .before .before .before .before .before .before)) (c .before .before .before .before .before .before .args .code) (c .before .before .before .before .before .before .args .foreign) (fine (c .before .before)) (c .before .if2 .left) (c .if3 .taken)
+returns-3 c =
+    let entry = c .before .before .before .before .before .before in
+    says-foreign catalogue (given entry) entry.args.code entry.args.foreign (fine c.before.before) c.before.if2.left c.if3.taken
 
 is-damaged-requires : tie.Need-is-damaged-requires
 is-damaged-requires c κs = fine (c .before .before)
 
 returns-4 : tie.Need-returns-4
-returns-4 c = says-damaged catalogue (given (c .before .before .before .before .before .before .before .before)) (c .before .before .before .before .before .before .before .before .args .code) (c .before .before .before .before .before .before .before .before .args .foreign) (fine (c .before .before .before .before)) (c .before .before .before .if2 .left) (c .before .before .if3 .left) (sym (c .before .is-damaged .ensures) ∙ c .if4 .taken)
+returns-4 c =
+    let else2 = c .before .before .before in
+    let else1 = else2.before in
+    let entry = else1 .before .before .before .before in
+    says-damaged catalogue (given entry) entry.args.code entry.args.foreign (fine else1) else2.if2.left c.before.before.if3.left
+    (sym c.before.is-damaged.ensures ∙ c.if4.taken)
 
 returns-5 : tie.Need-returns-5
-returns-5 c = says-passed catalogue (given (c .before .before .before .before .before .before .before .before)) (c .before .before .before .before .before .before .before .before .args .code) (c .before .before .before .before .before .before .before .before .args .foreign) (fine (c .before .before .before .before)) (c .before .before .before .if2 .left) (c .before .before .if3 .left) (sym (c .before .is-damaged .ensures) ∙ c .if4 .left)
+returns-5 c =
+    let else2 = c .before .before .before in
+    let else1 = else2.before in
+    let entry = else1 .before .before .before .before in
+    says-passed catalogue (given entry) entry.args.code entry.args.foreign (fine else1) else2.if2.left c.before.before.if3.left
+    (sym c.before.is-damaged.ensures ∙ c.if4.left)
 
 pub refusal-spec : {M : Type 1} → statement M
 refusal-spec =

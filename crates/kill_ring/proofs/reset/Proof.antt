@@ -28,7 +28,11 @@ says-requires : tie.Need-says-requires
 says-requires c κs = search needs
 
 returns : tie.Need-returns
-returns c = c .says .ensures ∙ left-refused (c .before .before .before .before .before .args .ring) (c .before .before .refusal .result) (number (c .before .before .before .before .before)) (resetting (c .before .before .before .before .before)) (c .before .before .refusal .ensures) (c .before .if1 .taken)
+returns c =
+    let entry = c .before .before .before .before .before in
+    c.says.ensures
+    ∙ left-refused entry.args.ring c.before.before.refusal.result (number entry) (resetting entry) c.before.before.refusal.ensures
+    c.before.if1.taken
 
 with-action-requires : tie.Need-with-action-requires
 with-action-requires c κs = search needs
@@ -37,8 +41,11 @@ says-requires-2 : tie.Need-says-requires-2
 says-requires-2 c κs = search needs
 
 returns-2 : tie.Need-returns-2
-returns-2 c = left-passed (c .before .before .before .before .before .before .args .ring) (c .before .before .before .refusal .result) (number (c .before .before .before .before .before .before)) (resetting (c .before .before .before .before .before .before)) _ (c .before .before .before .refusal .ensures) (c .before .before .if1 .left)
-    (c .says2 .ensures ∙ ap (alone 0) (c .before .with-action .ensures) ∙ reset-left (given (c .before .before .before .before .before .before)))
+returns-2 c =
+    let after-refusal = c .before .before .before in
+    let entry = after-refusal .before .before .before in
+    left-passed entry.args.ring after-refusal.refusal.result (number entry) (resetting entry) _ after-refusal.refusal.ensures
+    c.before.before.if1.left (c.says2.ensures ∙ ap (alone 0) c.before.with-action.ensures ∙ reset-left (given entry))
 
 pub reset-spec : {M : Type 1} → statement M
 reset-spec =

@@ -26,7 +26,9 @@ yanking c = yankOut (valueOf (given c))
 
 -- the checks pass
 ready : (c : tie.Else1) → Ready catalogue (given (c .before .before .before .before))
-ready c = passed catalogue (given (c .before .before .before .before)) false false (sym (c .before .refusal .ensures) ∙ c .if1 .left)
+ready c =
+    let entry = c .before .before .before .before in
+    passed catalogue (given entry) false false (sym c.before.refusal.ensures ∙ c.if1.left)
 
 -- there are slots
 some : (c : tie.Else2) → 0 < c .before .before .before .before .before .before .args .ring .count
@@ -39,21 +41,38 @@ says-requires : tie.Need-says-requires
 says-requires c κs = search needs
 
 returns : tie.Need-returns
-returns c = c .says .ensures ∙ left-refused (c .before .before .before .before .before .args .ring) (c .before .before .refusal .result) (number (c .before .before .before .before .before)) (yanking (c .before .before .before .before .before)) (c .before .before .refusal .ensures) (c .before .if1 .taken)
+returns c =
+    let entry = c .before .before .before .before .before in
+    c.says.ensures
+    ∙ left-refused entry.args.ring c.before.before.refusal.result (number entry) (yanking entry) c.before.before.refusal.ensures
+    c.before.if1.taken
 
 says-requires-2 : tie.Need-says-requires-2
 says-requires-2 c κs = search needs
 
 returns-2 : tie.Need-returns-2
-returns-2 c = left-passed (c .before .before .before .before .before .before .before .args .ring) (c .before .before .before .before .refusal .result) (number (c .before .before .before .before .before .before .before)) (yanking (c .before .before .before .before .before .before .before)) _ (c .before .before .before .before .refusal .ensures) (c .before .before .before .if1 .left)
-    (c .says2 .ensures ∙ yank-none catalogue (given (c .before .before .before .before .before .before .before)) (ready (c .before .before .before)) (c .before .if2 .taken))
+returns-2 c =
+    let else1 = c .before .before .before in
+    let after-refusal = else1.before in
+    let entry = after-refusal .before .before .before in
+    left-passed entry.args.ring after-refusal.refusal.result (number entry) (yanking entry) _ after-refusal.refusal.ensures else1.if1.left
+    (c.says2.ensures ∙ yank-none catalogue (given entry) (ready else1) c.before.if2.taken)
 
 yanked-requires : tie.Need-yanked-requires
-yanked-requires c κs = let p = ready (c .before .before) in let k = index-in catalogue (given (c .before .before .before .before .before .before)) p (some (c)) in omega (arith, p .lens, p .count, k)
+yanked-requires c κs =
+    let entry = c .before .before .before .before .before .before in
+    let p = ready c.before.before in
+    let k = index-in catalogue (given entry) p (some (c)) in
+    omega (arith, p.lens, p.count, k)
 
 returns-3 : tie.Need-returns-3
-returns-3 c = left-passed (c .before .before .before .before .before .before .before .args .ring) (c .before .before .before .before .refusal .result) (number (c .before .before .before .before .before .before .before)) (yanking (c .before .before .before .before .before .before .before)) _ (c .before .before .before .before .refusal .ensures) (c .before .before .before .if1 .left)
-    (c .yanked .ensures ∙ yank-some catalogue (given (c .before .before .before .before .before .before .before)) (ready (c .before .before .before)) (some (c .before)) (index-in catalogue (given (c .before .before .before .before .before .before .before)) (ready (c .before .before .before)) (some (c .before))))
+returns-3 c =
+    let else1 = c .before .before .before in
+    let after-refusal = else1.before in
+    let entry = after-refusal .before .before .before in
+    left-passed entry.args.ring after-refusal.refusal.result (number entry) (yanking entry) _ after-refusal.refusal.ensures else1.if1.left
+    (c.yanked.ensures
+    ∙ yank-some catalogue (given entry) (ready else1) (some c.before) (index-in catalogue (given entry) (ready else1) (some c.before)))
 
 pub yank-spec : {M : Type 1} → statement M
 yank-spec =

@@ -30,14 +30,17 @@ popping c = yankPopOut (valueOf (given c))
 
 -- the checks pass
 ready : (c : tie.Else1) → Ready catalogue (given (c .before .before .before .before))
-ready c = passed catalogue (given (c .before .before .before .before)) false false (sym (c .before .refusal .ensures) ∙ c .if1 .left)
+ready c =
+    let entry = c .before .before .before .before in
+    passed catalogue (given entry) false false (sym c.before.refusal.ensures ∙ c.if1.left)
 
 -- there are slots
 some : (c : tie.Else2) → 0 < c .before .before .before .before .before .before .before .before .before .before .args .ring .count
 some c = some-of _ (c .if2 .left)
 
 -- the last action is this yank
-last : (c : tie.After-last) → actionOf (c .before .before .before .before .before .before .before .args .ring .action) (c .before .before .before .before .before .before .before .args .ring .yanked) ≡ Yank (c .last .given .0 .0)
+last : (c : tie.After-last) → actionOf (c .before .before .before .before .before .before .before .args .ring .action) (c .before .before
+    .before .before .before .before .before .args .ring .yanked) ≡ Yank (c .last .given .0 .0)
 last c = sym (c .before .before .from-numbers .ensures) ∙ c .last .given .1
 
 refusal-requires : tie.Need-refusal-requires
@@ -47,7 +50,11 @@ says-requires : tie.Need-says-requires
 says-requires c κs = search needs
 
 returns : tie.Need-returns
-returns c = c .says .ensures ∙ left-refused (c .before .before .before .before .before .args .ring) (c .before .before .refusal .result) (number (c .before .before .before .before .before)) (popping (c .before .before .before .before .before)) (c .before .before .refusal .ensures) (c .before .if1 .taken)
+returns c =
+    let entry = c .before .before .before .before .before in
+    c.says.ensures
+    ∙ left-refused entry.args.ring c.before.before.refusal.result (number entry) (popping entry) c.before.before.refusal.ensures
+    c.before.if1.taken
 
 from-numbers-requires : tie.Need-from-numbers-requires
 from-numbers-requires c κs = search needs
@@ -59,27 +66,51 @@ says-requires-2 : tie.Need-says-requires-2
 says-requires-2 c κs = search needs
 
 returns-2 : tie.Need-returns-2
-returns-2 c = left-passed (c .before .before .before .before .before .before .before .args .ring) (c .before .before .before .before .refusal .result) (number (c .before .before .before .before .before .before .before)) (popping (c .before .before .before .before .before .before .before)) _ (c .before .before .before .before .refusal .ensures) (c .before .before .before .if1 .left)
-    (c .says2 .ensures ∙ pop-other catalogue (given (c .before .before .before .before .before .before .before)) (ready (c .before .before .before))
-    (λ n e. let t = ap (tagOf the-type) (c .before .before .from-numbers .ensures ∙ e) in ⊎-elim (λ z. omega (arith, sym z ∙ t)) (λ z. omega (arith, sym z ∙ t)) (c .before .match .keys2)))
+returns-2 c =
+    let else1 = c .before .before .before in
+    let after-refusal = else1.before in
+    let entry = after-refusal .before .before .before in
+    left-passed entry.args.ring after-refusal.refusal.result (number entry) (popping entry) _ after-refusal.refusal.ensures else1.if1.left
+    (c.says2.ensures
+    ∙ pop-other catalogue (given entry) (ready else1)
+    (λ n e. let t = ap (tagOf the-type) (c.before.before.from-numbers.ensures ∙ e) in ⊎-elim (λ z. omega (arith, sym z ∙ t))
+    (λ z. omega (arith, sym z ∙ t)) c.before.match.keys2))
 
 says-requires-3 : tie.Need-says-requires-3
 says-requires-3 c κs = search needs
 
 returns-3 : tie.Need-returns-3
-returns-3 c = left-passed (c .before .before .before .before .before .before .before .before .before .before .before .args .ring) (c .before .before .before .before .before .before .before .before .refusal .result) (number (c .before .before .before .before .before .before .before .before .before .before .before)) (popping (c .before .before .before .before .before .before .before .before .before .before .before)) _ (c .before .before .before .before .before .before .before .before .refusal .ensures) (c .before .before .before .before .before .before .before .if1 .left)
-    (c .says3 .ensures ∙ pop-none catalogue (given (c .before .before .before .before .before .before .before .before .before .before .before)) (ready (c .before .before .before .before .before .before .before)) (c .before .before .before .before .last .given .0 .0) (last (c .before .before .before .before)) (c .before .if2 .taken))
+returns-3 c =
+    let after-last = c .before .before .before .before in
+    let else1 = after-last .before .before .before in
+    let after-refusal = else1.before in
+    let entry = after-refusal .before .before .before in
+    left-passed entry.args.ring after-refusal.refusal.result (number entry) (popping entry) _ after-refusal.refusal.ensures else1.if1.left
+    (c.says3.ensures ∙ pop-none catalogue (given entry) (ready else1) after-last.last.given.0.0 (last after-last) c.before.if2.taken)
 
 previous-requires : tie.Need-previous-requires
 previous-requires c κs = search needs
 
 yanked-requires : tie.Need-yanked-requires
-yanked-requires c κs = let p = ready (c .before .before .before .before .before .before .before) in let k = previous-in catalogue (given (c .before .before .before .before .before .before .before .before .before .before .before)) p (c .previous .result) (some (c .before)) (c .previous .ensures) in omega (arith, p .lens, p .count, k)
+yanked-requires c κs =
+    let else1 = c .before .before .before .before .before .before .before in
+    let entry = else1 .before .before .before .before in
+    let p = ready else1 in
+    let k = previous-in catalogue (given entry) p c.previous.result (some c.before) c.previous.ensures in
+    omega (arith, p.lens, p.count, k)
 
 returns-4 : tie.Need-returns-4
-returns-4 c = left-passed (c .before .before .before .before .before .before .before .before .before .before .before .before .args .ring) (c .before .before .before .before .before .before .before .before .before .refusal .result) (number (c .before .before .before .before .before .before .before .before .before .before .before .before)) (popping (c .before .before .before .before .before .before .before .before .before .before .before .before)) _ (c .before .before .before .before .before .before .before .before .before .refusal .ensures) (c .before .before .before .before .before .before .before .before .if1 .left)
-    (c .yanked .ensures ∙ pop-some catalogue (given (c .before .before .before .before .before .before .before .before .before .before .before .before)) (ready (c .before .before .before .before .before .before .before .before)) (c .before .before .before .before .before .last .given .0 .0) (c .before .previous .result) (last (c .before .before .before .before .before)) (some (c .before .before))
-    (previous-in catalogue (given (c .before .before .before .before .before .before .before .before .before .before .before .before)) (ready (c .before .before .before .before .before .before .before .before)) (c .before .previous .result) (some (c .before .before)) (c .before .previous .ensures)) (c .before .previous .ensures))
+returns-4 c =
+    let after-last = c .before .before .before .before .before in
+    let else1 = after-last .before .before .before in
+    let after-refusal = else1.before in
+    let entry = after-refusal .before .before .before in
+    left-passed entry.args.ring after-refusal.refusal.result (number entry) (popping entry) _ after-refusal.refusal.ensures else1.if1.left
+    (c.yanked.ensures
+    ∙ pop-some catalogue (given entry) (ready else1) after-last.last.given.0.0 c.before.previous.result (last after-last)
+    (some c.before.before)
+    (previous-in catalogue (given entry) (ready else1) c.before.previous.result (some c.before.before) c.before.previous.ensures)
+    c.before.previous.ensures)
 
 pub yank-pop-spec : {M : Type 1} → statement M
 yank-pop-spec =

@@ -3,24 +3,24 @@ use denote.Ref.{now}
 use Rattle.unicode.specs.Repertoire.{catalogue}
 use Rattle.checks.specs.Outcome.{called}
 use Rattle.formats.specs.declared.Format.{Format}
-use Rattle.changeset.specs.Calls.{lent, sizesOf, valueOf, checked, insertCall}
-use Rattle.changeset.proofs.Answers.{refused-by, passed-by, answered-as}
+use Rattle.log_state.specs.Calls.{lent, sizesOf, valueOf, checked, insertCall}
+use Rattle.log_state.proofs.Answers.{refused-by, passed-by, answered-as}
 use Rattle.formats.proofs.Formats.{fit-for}
-use Rattle.changeset.proofs.Formats.{in-format}
+use Rattle.log_state.proofs.Formats.{in-format}
 use native.Mathlib.Omega.{arith}
 use mathlib.Core.Bool.{Bool, not}
 use borrow.Author.Tests.{not-false}
-use Rattle.changeset.specs.Outcomes.{recordOut}
-use Rattle.changeset.proofs.Answers.{recorded-as}
-use Rattle.changeset.proofs.Passed.{own-passed}
+use Rattle.log_state.specs.Outcomes.{recordOut}
+use Rattle.log_state.proofs.Answers.{recorded-as}
+use Rattle.log_state.proofs.Passed.{own-passed}
 use lib.ListN.{take}
 use lib.Seq.{length-take-le}
 use Rattle.unicode.specs.Text.{isChar, isText}
-use Rattle.journal.specs.Change.{insert}
-use Rattle.journal.specs.Recording.{note, recordInsert}
+use Rattle.log_model.specs.Change.{insert}
+use Rattle.log_model.specs.Recording.{note, recordInsert}
 use Rattle.log_calls.proofs.Recorded.{an-insert, insert-is}
 use Rattle.unicode.proofs.Typed.{typed-text, typed-within, typed-bytes}
-use Rattle.records.proofs.Walks.{newest-last}
+use Rattle.log_records.proofs.Walks.{newest-last}
 use borrow.Author.Needs.{needs}
 use Rattle.log_calls.proofs.insert.Statement.{statement}
 use Rattle.log_calls.proofs.insert.Tie as tie

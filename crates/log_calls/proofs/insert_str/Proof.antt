@@ -3,24 +3,24 @@ use denote.Ref.{now}
 use Rattle.unicode.specs.Repertoire.{catalogue}
 use Rattle.checks.specs.Outcome.{called}
 use Rattle.formats.specs.declared.Format.{Format}
-use Rattle.changeset.specs.Calls.{lent, sizesOf, valueOf, checked, insertStrCall}
-use Rattle.changeset.proofs.Answers.{refused-by, passed-by, answered-as}
+use Rattle.log_state.specs.Calls.{lent, sizesOf, valueOf, checked, insertStrCall}
+use Rattle.log_state.proofs.Answers.{refused-by, passed-by, answered-as}
 use Rattle.formats.proofs.Formats.{fit-for}
-use Rattle.changeset.proofs.Formats.{in-format}
+use Rattle.log_state.proofs.Formats.{in-format}
 use native.Mathlib.Omega.{arith}
 use mathlib.Core.Bool.{Bool, not}
 use borrow.Author.Tests.{not-false}
-use Rattle.changeset.specs.Outcomes.{recordOut}
-use Rattle.changeset.proofs.Answers.{recorded-as}
-use Rattle.changeset.proofs.Passed.{own-passed}
+use Rattle.log_state.specs.Outcomes.{recordOut}
+use Rattle.log_state.proofs.Answers.{recorded-as}
+use Rattle.log_state.proofs.Passed.{own-passed}
 use mathlib.Core.Bool.{false}
 use Rattle.lists.proofs.Bools.{never}
 use Rattle.unicode.specs.Text.{isText}
-use Rattle.journal.specs.Change.{insert}
-use Rattle.journal.specs.Recording.{note, recordInsertStr}
-use Rattle.journal.proofs.Recording.{insert-none, insert-some}
-use Rattle.changeset.specs.Calls.{says}
-use Rattle.changeset.proofs.Recorded.{only-dropped}
+use Rattle.log_model.specs.Change.{insert}
+use Rattle.log_model.specs.Recording.{note, recordInsertStr}
+use Rattle.log_model.proofs.Recording.{insert-none, insert-some}
+use Rattle.log_state.specs.Calls.{says}
+use Rattle.log_state.proofs.Recorded.{only-dropped}
 use Rattle.log_calls.proofs.Recorded.{an-insert}
 use borrow.Author.Needs.{needs}
 use Rattle.log_calls.proofs.insert_str.Statement.{statement}

@@ -2,12 +2,12 @@ use mathlib.Core.Path.{sym, _∙_}
 use denote.Ref.{now}
 use Rattle.unicode.specs.Repertoire.{catalogue}
 use Rattle.formats.specs.declared.Format.{Format}
-use Rattle.changeset.specs.Calls.{lent, valueOf, checked, lastInsertCall}
+use Rattle.log_state.specs.Calls.{lent, valueOf, checked, lastInsertCall}
 use Rattle.formats.proofs.Formats.{fit-for}
-use Rattle.changeset.proofs.Formats.{says-in-format}
+use Rattle.log_state.proofs.Formats.{says-in-format}
 use mathlib.Core.Bool.{false}
-use Rattle.changeset.specs.Outcomes.{lastInsertOut}
-use Rattle.changeset.proofs.Answers.{refused-says, passed-says}
+use Rattle.log_state.specs.Outcomes.{lastInsertOut}
+use Rattle.log_state.proofs.Answers.{refused-says, passed-says}
 use borrow.Author.Needs.{needs}
 use Rattle.log_calls.proofs.last_insert.Statement.{statement}
 use Rattle.log_calls.proofs.last_insert.Tie as tie

@@ -3,21 +3,21 @@ use denote.Ref.{now}
 use Rattle.unicode.specs.Repertoire.{catalogue}
 use Rattle.checks.specs.Outcome.{called}
 use Rattle.formats.specs.declared.Format.{Format}
-use Rattle.changeset.specs.Calls.{lent, sizesOf, valueOf, checked, replaceCall}
-use Rattle.changeset.proofs.Answers.{refused-by, passed-by, answered-as}
+use Rattle.log_state.specs.Calls.{lent, sizesOf, valueOf, checked, replaceCall}
+use Rattle.log_state.proofs.Answers.{refused-by, passed-by, answered-as}
 use Rattle.formats.proofs.Formats.{fit-for}
-use Rattle.changeset.proofs.Formats.{in-format}
+use Rattle.log_state.proofs.Formats.{in-format}
 use mathlib.Core.Bool.{Bool, not}
-use Rattle.changeset.specs.Outcomes.{recordOut}
-use Rattle.changeset.proofs.Answers.{recorded-as}
-use Rattle.changeset.proofs.Passed.{own-passed}
+use Rattle.log_state.specs.Outcomes.{recordOut}
+use Rattle.log_state.proofs.Answers.{recorded-as}
+use Rattle.log_state.proofs.Passed.{own-passed}
 use mathlib.Core.Path.{ap₂}
 use mathlib.Core.Bool.{true, _||_}
 use Rattle.unicode.specs.Text.{isText}
-use Rattle.journal.specs.Change.{replace}
-use Rattle.journal.specs.Recording.{note, recordReplace}
+use Rattle.log_model.specs.Change.{replace}
+use Rattle.log_model.specs.Recording.{note, recordReplace}
 use Rattle.log_calls.proofs.Recorded.{a-replace, neither, replace-is}
-use Rattle.records.proofs.Walks.{newest-last}
+use Rattle.log_records.proofs.Walks.{newest-last}
 use borrow.Author.Needs.{needs}
 use Rattle.log_calls.proofs.replace.Statement.{statement}
 use Rattle.log_calls.proofs.replace.Tie as tie

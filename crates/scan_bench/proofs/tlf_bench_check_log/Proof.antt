@@ -5,7 +5,7 @@ use denote.Ref.{now}
 use Rattle.unicode.specs.Repertoire.{catalogue}
 use Rattle.formats.specs.declared.Format.{Format}
 use Rattle.formats.proofs.Formats.{fit-for}
-use Rattle.changeset.specs.Calls.{lent, checked}
+use Rattle.log_state.specs.Calls.{lent, checked}
 use Rattle.scan_bench.proofs.tlf_bench_check_log.Statement.{statement}
 use Rattle.scan_bench.proofs.tlf_bench_check_log.Tie as tie
 

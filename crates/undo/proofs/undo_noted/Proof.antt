@@ -7,7 +7,7 @@ use lib.ListN.{length}
 use denote.Ref.{now}
 use Rattle.unicode.specs.Repertoire.{catalogue}
 use Rattle.edit.specs.Calls.{stateOf}
-use Rattle.records.specs.Walks.{SizesOf}
+use Rattle.log_records.specs.Walks.{SizesOf}
 use Rattle.undo.specs.Undo.{undoWalk, undoOut}
 use Rattle.undo.specs.Steps.{lentBy}
 use Rattle.undo.proofs.Seams.{some-newest, none-newest}

@@ -3,7 +3,7 @@ use native.Mathlib.Omega.{arith}
 use mathlib.Core.Path.{sym}
 use lib.Seq.{length-take-le}
 use denote.Ref.{now}
-use Rattle.changeset.proofs.Recorded.{lays, listed}
+use Rattle.log_state.proofs.Recorded.{lays, listed}
 use Rattle.edit.specs.Calls.{lent, logLent}
 use Rattle.undo.proofs.undo_units.Statement.{statement}
 use Rattle.undo.proofs.undo_units.Tie as tie

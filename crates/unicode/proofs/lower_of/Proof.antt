@@ -1,5 +1,5 @@
 use native.Mathlib.Omega.{arith}
-use Rattle.unicode.specs.Repertoire.{isCapital}
+use Rattle.unicode.specs.Repertoire.{isUppercase}
 use Rattle.unicode.proofs.Catalogue.{capital-most, lower-diaeresis, lower-capital, lower-other}
 use borrow.Author.Needs.{needs}
 use Rattle.unicode.proofs.lower_of.Statement.{statement}
@@ -18,19 +18,19 @@ between-requires-3 : tie.Need-between-requires-3
 between-requires-3 c κs = search needs
 
 add-t7 : tie.Need-add-t7
-unfolding isCapital
+unfolding isUppercase
 add-t7 c =
     let entry = c .before .before .before .before .before in
     omega (arith, capital-most entry.args.cp (cc))
 
 returns-2 : tie.Need-returns-2
-unfolding isCapital
+unfolding isUppercase
 returns-2 c =
     let else1 = c .before .before .before .before in
     lower-capital _ else1.if1.left (cc)
 
 returns-3 : tie.Need-returns-3
-unfolding isCapital
+unfolding isUppercase
 returns-3 c =
     let else1 = c .before .before .before .before in
     lower-other _ else1.if1.left (cc)

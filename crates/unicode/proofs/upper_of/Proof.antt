@@ -1,4 +1,4 @@
-use Rattle.unicode.specs.Repertoire.{isSmall}
+use Rattle.unicode.specs.Repertoire.{isLowercase}
 use Rattle.unicode.proofs.Catalogue.{small-least, upper-sharp, upper-diaeresis, upper-small, upper-other}
 use borrow.Author.Needs.{needs}
 use Rattle.unicode.proofs.upper_of.Statement.{statement}
@@ -20,18 +20,18 @@ between-requires-3 : tie.Need-between-requires-3
 between-requires-3 c κs = search needs
 
 sub-t7 : tie.Need-sub-t7
-unfolding isSmall
+unfolding isLowercase
 sub-t7 c = small-least _ (cc)
 
 returns-3 : tie.Need-returns-3
-unfolding isSmall
+unfolding isLowercase
 returns-3 c =
     let else2 = c .before .before .before .before in
     let else1 = else2.before in
     upper-small _ else1.if1.left else2.if2.left (cc)
 
 returns-4 : tie.Need-returns-4
-unfolding isSmall
+unfolding isLowercase
 returns-4 c =
     let else2 = c .before .before .before .before in
     let else1 = else2.before in

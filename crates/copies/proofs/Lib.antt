@@ -1,3 +1,0 @@
-pub mod Ranges
-pub mod Called
-pub mod Places

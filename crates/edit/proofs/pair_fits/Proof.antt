@@ -1,0 +1,122 @@
+use native.Mathlib.Omega.{arith}
+use mathlib.Core.Path.{sym, ap, _∙_}
+use mathlib.Core.List.{List}
+use Prim.Native.Nat.{ℕ, _≤_}
+use lib.ListN.{take}
+use denote.Ref.{now}
+use Rattle.unicode.specs.Repertoire.{catalogue}
+use Rattle.unicode.specs.Text.{isText}
+use Rattle.cluster.specs.Clusters.{clustersOf}
+use Rattle.log_model.specs.Recording.{isSingle}
+use Rattle.numbers.proofs.Read.{top-max}
+use Rattle.edit.specs.Calls.{lent}
+use Rattle.edit.proofs.Answers.{length-kept}
+use Rattle.edit.proofs.Parts.{part-text, raw-part}
+use Rattle.edit.proofs.Pair.{cut-suits, first-in-range, second-in-range, pair-room}
+use borrow.Author.Needs.{needs}
+use Rattle.edit.proofs.pair_fits.Statement.{statement}
+use Rattle.edit.proofs.pair_fits.Tie as tie
+
+sub-is-single : tie.Need-sub-is-single
+sub-is-single c =
+    let entry = c .before .before .before .before in
+    (cut-suits entry.args.f (lent (now entry.args.text) (now entry.args.records) (now entry.args.texts) entry.args.line entry.args.log)
+    entry.pre.1.0 entry.args.from entry.args.to entry.args.at (now entry.args.new) entry.pre.1.1.1.0) .0
+
+part-is-single-start : tie.Need-part-is-single-start
+part-is-single-start c =
+    let entry = c .before .before .before .before in
+    (cut-suits entry.args.f (lent (now entry.args.text) (now entry.args.records) (now entry.args.texts) entry.args.line entry.args.log)
+    entry.pre.1.0 entry.args.from entry.args.to entry.args.at (now entry.args.new) entry.pre.1.1.1.0) .0
+
+part-is-single-end : tie.Need-part-is-single-end
+part-is-single-end c =
+    let entry = c .before .before .before .before in
+    let l = lent (now entry.args.text) (now entry.args.records) (now entry.args.texts) entry.args.line entry.args.log in
+    omega (
+      arith,
+      (let w : entry.args.to ≤ entry.args.line.len = omega (
+        arith,
+        (cut-suits entry.args.f l entry.pre.1.0 entry.args.from entry.args.to entry.args.at (now entry.args.new) entry.pre.1.1.1.0) .1,
+        length-kept entry.args.f l entry.pre.1.0,
+      ) in
+          w),
+      entry.pre.1.0.used,
+    )
+
+is-single-requires : tie.Need-is-single-requires
+is-single-requires c κs =
+    let entry = c .before .before .before .before .before in
+    let l = lent (now entry.args.text) (now entry.args.records) (now entry.args.texts) entry.args.line entry.args.log in
+    let cut-suits1 = cut-suits entry.args.f l entry.pre.1.0 entry.args.from entry.args.to entry.args.at (now entry.args.new)
+    entry.pre.1.1.1.0 in
+    ap (isText catalogue)
+    (sym
+    (raw-part (now entry.args.text) entry.args.line.len entry.args.from entry.args.to
+    (let w : entry.args.to ≤ entry.args.line.len = omega (arith, cut-suits1.1, length-kept entry.args.f l entry.pre.1.0) in w)))
+    ∙ part-text catalogue (take entry.args.line.len (now entry.args.text)) entry.args.from entry.args.to cut-suits1 entry.pre.1.0.text
+
+room-now-requires : tie.Need-room-now-requires
+room-now-requires c κs = search needs
+
+room-cut-requires : tie.Need-room-cut-requires
+room-cut-requires c κs =
+    let entry = c .before .before .before .before .before .before .before in
+    let l = lent (now entry.args.text) (now entry.args.records) (now entry.args.texts) entry.args.line entry.args.log in (
+      entry.pre.0,
+      (
+        (cut-suits entry.args.f l entry.pre.1.0 entry.args.from entry.args.to entry.args.at (now entry.args.new) entry.pre.1.1.1.0) .0,
+        first-in-range entry.args.f l entry.pre.1.0 entry.args.from entry.args.to entry.args.at (now entry.args.new) entry.pre.1.1.1.0
+            (top-max entry.args.f.width entry.pre.0.width.most) _ c.room-now.ensures,
+      ),
+    )
+
+room-put-requires : tie.Need-room-put-requires
+room-put-requires c κs =
+    let entry = c .before .before .before .before .before .before .before .before in
+    let l = lent (now entry.args.text) (now entry.args.records) (now entry.args.texts) entry.args.line entry.args.log in (
+      entry.pre.0,
+      second-in-range entry.args.f l entry.pre.1.0 entry.args.from entry.args.to entry.args.at (now entry.args.new) entry.pre.1.1.1.0
+          (top-max entry.args.f.width entry.pre.0.width.most) _ c.before.room-now.ensures _
+          (c.before.before.is-single.ensures
+          ∙ ap (λ (x : List ℕ). isSingle catalogue (clustersOf catalogue x))
+          (sym
+          (raw-part (now entry.args.text) entry.args.line.len entry.args.from entry.args.to
+          (let w : entry.args.to ≤ entry.args.line.len = omega (
+            arith,
+            (cut-suits entry.args.f l entry.pre.1.0 entry.args.from entry.args.to entry.args.at (now entry.args.new) entry.pre.1.1.1.0) .1,
+            length-kept entry.args.f l entry.pre.1.0,
+          ) in
+          w)))) _ c.room-cut.ensures entry.pre.1.1.1.1,
+    )
+
+returns : tie.Need-returns
+returns c =
+    let after-is-single = c .before .before .before in
+    let entry = after-is-single .before .before .before .before .before .before in
+    let l = lent (now entry.args.text) (now entry.args.records) (now entry.args.texts) entry.args.line entry.args.log in
+    pair-room entry.args.f l entry.pre.1.0 entry.args.from entry.args.to entry.args.at (now entry.args.new) entry.pre.1.1.1.0
+    (top-max entry.args.f.width entry.pre.0.width.most) _ c.before.before.room-now.ensures _
+    (after-is-single.is-single.ensures
+    ∙ ap (λ (x : List ℕ). isSingle catalogue (clustersOf catalogue x))
+    (sym
+    (raw-part (now entry.args.text) entry.args.line.len entry.args.from entry.args.to
+    (let w : entry.args.to ≤ entry.args.line.len = omega (
+      arith,
+      (cut-suits entry.args.f l entry.pre.1.0 entry.args.from entry.args.to entry.args.at (now entry.args.new) entry.pre.1.1.1.0) .1,
+      length-kept entry.args.f l entry.pre.1.0,
+    ) in
+    w)))) _ c.before.room-cut.ensures _ c.room-put.ensures
+
+pub pair-fits-spec : {M : Type 1} → statement M
+pair-fits-spec =
+    tie.close
+    (tie.spec
+    sub-is-single
+    part-is-single-start
+    part-is-single-end
+    is-single-requires
+    room-now-requires
+    room-cut-requires
+    room-put-requires
+    returns)

@@ -1,0 +1,10 @@
+pub mod Joined
+pub mod Suits
+pub mod Cursors
+pub mod Counted
+pub mod Rooms
+pub mod Lines
+pub mod Newlines
+pub mod White
+pub mod Spans
+pub mod Walks

@@ -1,0 +1,3 @@
+pub mod IndentPlans
+pub mod Touched
+pub mod Counts

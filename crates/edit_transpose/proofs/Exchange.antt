@@ -1,0 +1,79 @@
+-- Two neighbouring clusters exchanged: what the two changes come to. Assumes nothing.
+use Prim.Native.Nat.{ℕ, _+_, _-_, _≤_}
+use native.Mathlib.Omega.{arith}
+use mathlib.Core.Path.{_≡_, sym, ap, ap₂, subst, _∙_}
+use mathlib.Core.List.{List, [], _∷_}
+use lib.ListN.{length, take}
+use Rattle.lists.specs.Lists.{part}
+use Rattle.utf8.specs.Chars.{In}
+use Rattle.unicode.specs.Repertoire.{catalogue}
+use Rattle.unicode.proofs.Text.{text-valid}
+use Rattle.formats.specs.declared.Format.{Format}
+use Rattle.edit.specs.declared.EditAnswer.{EditAnswer}
+use Rattle.edit.specs.Plan.{Piece, cutting, pasted, textAfter, AllSuit, edited}
+use Rattle.edit.specs.Calls.{Lent, textOf, sizesOf, stateOf, says, Edited, Ready}
+use Rattle.edit.proofs.Parts.{part-length}
+use Rattle.edit.proofs.Cursor.{cursor-kept, cursor-moved, text-there, used-there}
+use Rattle.edit.proofs.Made.{edited-as}
+use Rattle.motion_words.specs.Places.{onFrom, backFrom}
+use Rattle.edit_transpose.specs.TransposeChars.{transposed, exchange}
+use Rattle.motion_words.proofs.Stays.{back-place}
+use Rattle.edit_transpose.proofs.Suits.{cut-in, exchange-suits}
+
+module _ (F : Format) (l : Lent) (h : Ready F l) (p : ℕ) (i : In (textOf l) p p) where
+  -- the two places are in the text, on both sides of p
+  pub reaches : (q : ℕ) → q ≡ onFrom catalogue (textOf l) p → In (textOf l) p q
+  reaches q e = subst (In (textOf l) p) (sym e) (cut-in catalogue (textOf l) (h .text) p i)
+
+  pub goes-back : (o : ℕ) → o ≡ backFrom catalogue (textOf l) p → o ≤ p
+  goes-back o e = let b = back-place catalogue (textOf l) (text-valid catalogue (textOf l) (h .text)) p (i .2) (i .1) in let c = b .0 in omega arith
+
+module _ (F : Format) (l : Lent) (h : Ready F l) (p : ℕ) (i : In (textOf l) p p) (q o : ℕ) (eq : q ≡ onFrom catalogue (textOf l) p)
+    (eo : o ≡ backFrom catalogue (textOf l) p) (c : List ℕ) (ec : c ≡ part (textOf l) p q) where
+  abbrev t : List ℕ
+  t = textOf l
+
+  abbrev pieces : List Piece
+  pieces = cutting p q ∷ pasted o c ∷ []
+
+  same : pieces ≡ exchange catalogue t p .pieces
+  same = ap₂ (λ (a : ℕ) (s : List ℕ). cutting p a ∷ pasted o s ∷ []) eq (ec ∙ ap (part t p) eq)
+      ∙ ap (λ (a : ℕ). cutting p (onFrom catalogue t p) ∷ pasted a (part t p (onFrom catalogue t p)) ∷ []) eo
+
+  pub pair-suits : AllSuit catalogue pieces t
+  pair-suits = subst (λ (xs : List Piece). AllSuit catalogue xs t) (sym same) (exchange-suits catalogue t (h .text) p i)
+
+  cut-length : length (part t p (onFrom catalogue t p)) ≡ q - p
+  cut-length = part-length catalogue t p (onFrom catalogue t p) (cut-in catalogue t (h .text) p i) ∙ ap (λ (a : ℕ). a - p) (sym eq)
+
+  module _ (r : EditAnswer) (t′ rb tb : List ℕ) (k : Edited F l (edited catalogue F (sizesOf l) (length (l .text))
+      (record { pieces = pieces; cursor = o + (q - p); number = 0; from = 0; to = 0 }) (stateOf catalogue F l)) r t′ rb tb) where
+    there : Edited F l (edited catalogue F (sizesOf l) (length (l .text))
+        (record { pieces = exchange catalogue t p .pieces; cursor = o + (q - p); number = 0; from = 0; to = 0 }) (stateOf catalogue F l)) r t′ rb tb
+    there = subst (λ (xs : List Piece). Edited F l (edited catalogue F (sizesOf l) (length (l .text))
+        (record { pieces = xs; cursor = o + (q - p); number = 0; from = 0; to = 0 }) (stateOf catalogue F l)) r t′ rb tb) same k
+
+    pub not-exchanged : (r .number ≡ 0 → ⊥) → Edited F l (edited catalogue F (sizesOf l) (length (l .text)) (exchange catalogue t p) (stateOf catalogue F l)) r t′ rb tb
+    not-exchanged = cursor-kept catalogue F l (sizesOf l) (length (l .text)) (exchange catalogue t p .pieces) (stateOf catalogue F l) (o + (q - p))
+        (exchange catalogue t p .cursor) r t′ rb tb there
+
+    pub used-is : r .number ≡ 0 → r .line .len ≤ length t′
+    used-is e = used-there catalogue F l (sizesOf l) (length (l .text)) (exchange catalogue t p .pieces) (stateOf catalogue F l) (o + (q - p))
+        (exchange catalogue t p .cursor) r t′ rb tb there e
+
+    -- the text that the cursor goes through
+    text-is : r .number ≡ 0 → take (r .line .len) t′ ≡ transposed catalogue t p
+    unfolding textAfter
+    text-is e = text-there catalogue F l (sizesOf l) (length (l .text)) (exchange catalogue t p .pieces) (stateOf catalogue F l) (o + (q - p))
+        (exchange catalogue t p .cursor) r t′ rb tb there e
+
+    pub exchanged : r .number ≡ 0 → (n : ℕ) (r′ : EditAnswer) → n ≡ onFrom catalogue (take (r .line .len) t′) (o + (q - p))
+        → r′ ≡ says 0 (record { len = r .line .len; cursor = n }) (r .log)
+        → Edited F l (edited catalogue F (sizesOf l) (length (l .text)) (exchange catalogue t p) (stateOf catalogue F l)) r′ t′ rb tb
+    exchanged e n r′ en er =
+        let at : n ≡ exchange catalogue t p .cursor =
+        en ∙ ap₂ (λ (x : List ℕ) (a : ℕ). onFrom catalogue x (a + (q - p))) (text-is e) eo
+        ∙ ap (λ (a : ℕ). onFrom catalogue (transposed catalogue t p) (backFrom catalogue t p + a)) (sym cut-length) in
+        edited-as F l _ r′ _ t′ rb tb (er ∙ ap (λ (a : ℕ). says 0 (record { len = r .line .len; cursor = a }) (r .log)) at)
+        (cursor-moved catalogue F l (sizesOf l) (length (l .text)) (exchange catalogue t p .pieces) (stateOf catalogue F l) (o + (q - p))
+        (exchange catalogue t p .cursor) r t′ rb tb there e)

@@ -1,0 +1,9 @@
+pub mod Starts
+pub mod Suits
+pub mod Exchange
+pub mod Begins
+pub mod CharPlans
+pub mod Around
+pub mod WordPlans
+pub mod Four
+pub mod FourRoom

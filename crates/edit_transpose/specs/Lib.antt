@@ -1,0 +1,3 @@
+pub mod TransposeChars
+pub mod TransposeWords
+pub mod WordPairs

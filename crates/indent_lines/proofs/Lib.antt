@@ -1,2 +1,0 @@
-pub mod Cuts
-pub mod Spaces

@@ -1,6 +1,0 @@
-pub mod Change
-pub mod Recording
-pub mod Groups
-pub mod Layout
-pub mod Hold
-pub mod Undo

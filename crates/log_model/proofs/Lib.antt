@@ -1,0 +1,10 @@
+pub mod Decode
+pub mod Sound
+pub mod Texts
+pub mod Holds
+pub mod Walk
+pub mod Newest
+pub mod Recording
+pub mod UndoBytes
+pub mod Groups
+pub mod Examples

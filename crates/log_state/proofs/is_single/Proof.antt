@@ -1,0 +1,18 @@
+use denote.Ref.{now}
+use Rattle.unicode.specs.Repertoire.{catalogue}
+use Rattle.log_state.proofs.Single.{single}
+use borrow.Author.Needs.{needs}
+use Rattle.log_state.proofs.is_single.Statement.{statement}
+use Rattle.log_state.proofs.is_single.Tie as tie
+
+next-cluster-requires : tie.Need-next-cluster-requires
+next-cluster-requires c κs = search needs
+
+returns : tie.Need-returns
+returns c =
+    let entry = c .before .before .before .before in
+    single catalogue (now entry.args.s) entry.pre c.before.before.next-cluster.result c.before.before.next-cluster.ensures.0
+    c.before.before.next-cluster.ensures.1
+
+pub is-single-spec : {M : Type 1} → statement M
+is-single-spec = tie.close (tie.spec next-cluster-requires returns)

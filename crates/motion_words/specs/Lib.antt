@@ -1,0 +1,4 @@
+pub mod Rules
+pub mod Walk
+pub mod Words
+pub mod Places

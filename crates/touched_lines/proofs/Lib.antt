@@ -1,4 +1,0 @@
-pub mod Newlines
-pub mod White
-pub mod Spans
-pub mod Walks

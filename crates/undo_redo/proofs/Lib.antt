@@ -1,0 +1,2 @@
+pub mod Redos
+pub mod Examples
