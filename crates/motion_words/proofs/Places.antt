@@ -40,7 +40,8 @@ module _ (P : ℕ → Type 0) where
   abbrev Both : Landing → Type 0
   Both l = P (l .found) × P (l .last)
 
-  module _ (stops : GraphemeIndex → GraphemeIndex → Bool) (lands : GraphemeIndex → GraphemeIndex → ℕ) (h : (x y : GraphemeIndex) → P (x .start) → P (y .start) → P (lands x y)) (z : P 0) where
+  module _ (stops : GraphemeIndex → GraphemeIndex → Bool) (lands : GraphemeIndex → GraphemeIndex → ℕ) (h : (x y : GraphemeIndex) → P (x .start) → P
+      (y .start) → P (lands x y)) (z : P 0) where
     abbrev Scanned : Scan → Type 0
     Scanned (hit p ms) = P p × Every Start ms
     Scanned (out l) = P l

@@ -1,10 +1,10 @@
 -- One record undone or redone, by the numbers that the code computes. Assumes nothing.
 use Prim.Native.Nat.{ℕ, _+_, _-_, _≤_}
 use native.Mathlib.Omega.{arith}
-use mathlib.Core.Path.{_≡_, refl, ap, subst, _∙_}
+use mathlib.Core.Path.{_≡_, refl, sym, ap, subst, _∙_}
 use mathlib.Core.Bool.{Bool, true, false}
 use mathlib.Core.List.{List, _∷_}
-use lib.ListN.{length, getD}
+use lib.ListN.{length, getD, drop}
 use Rattle.unicode.specs.Repertoire.{catalogue}
 use Rattle.log_model.specs.Change.{Change}
 use Rattle.formats.specs.declared.Format.{Format}
@@ -21,7 +21,7 @@ use Rattle.log_records.specs.Walks.{SizesOf}
 use Rattle.log_records.proofs.Records.{carried-texts, carried-size}
 use Rattle.undo_step.specs.declared.Step.{Step}
 use Rattle.undo_step.specs.Retrace.{undoing, facing, Retraced}
-use Rattle.undo.specs.Steps.{trailBy, lineOf, passLog, Leaves}
+use Rattle.undo.specs.Steps.{trailBy, lineOf, LastStart, passLog, Leaves}
 use Rattle.undo.proofs.Rows.{Stands}
 use Rattle.undo.proofs.Seams.{Seam, newest-records, newest-texts, newest-size, newest-stands, newest-seam, next-stands, next-seam}
 use Rattle.undo.proofs.Passes.{numbered, stop-leaves, done-leaves}
@@ -75,7 +75,7 @@ module _ (F : Format) (l : Lent) (back : Bool) (x : Change) (f : List Change) {a
         (numbered (length (l .text)) x (trailBy (stateOf catalogue F l) (s .undone))) is-tried z (k ∙ m .state) (m .bytes),
   )
 
--- ---- the newest record, whose size n is noted
+-- ---- the newest record, by the size n that is noted
 module _ {F : Format} {l : Lent} (h : Ready F l) (sizes : List ℕ) (z : SizesOf F sizes (stateOf catalogue F l .log .undo)) {x : Change}
     {u : List Change} (e : stateOf catalogue F l .log .undo ≡ x ∷ u) where
   abbrev ur : ℕ
@@ -87,14 +87,22 @@ module _ {F : Format} {l : Lent} (h : Ready F l) (sizes : List ℕ) (z : SizesOf
   pub size-within : n ≤ ur
   size-within = omega (arith, newest-size h e sizes z, newest-records h e)
 
-  start-is : ur - n ≡ length (undoRecords F u)
-  start-is = omega (arith, newest-size h e sizes z, newest-records h e)
+  pub starts-by-size : LastStart F l (ur - n)
+  starts-by-size =
+      let i : ur - n ≡ length (undoRecords F u) = omega (arith, newest-size h e sizes z, newest-records h e) in
+      i ∙ sym (ap (λ (v : List Change). length (undoRecords F (drop 1 v))) e)
+
+-- ---- the newest record, by where it begins
+module _ {F : Format} {l : Lent} (h : Ready F l) {start : ℕ} (b : LastStart F l start) {x : Change} {u : List Change}
+    (e : stateOf catalogue F l .log .undo ≡ x ∷ u) where
+  start-is : start ≡ length (undoRecords F u)
+  start-is = b ∙ ap (λ (v : List Change). length (undoRecords F (drop 1 v))) e
 
   -- it stands there
-  at-start : Stands F (l .records) (l .texts) (ur - n) (length (undoTexts u)) x
+  pub at-start : Stands F (l .records) (l .texts) start (length (undoTexts u)) x
   at-start = newest-stands h e start-is refl
 
-  module _ {r : Record} (i : r ≡ recordAt F (l .records) (ur - n)) where
+  module _ {r : Record} (i : r ≡ recordAt F (l .records) start) where
     long : r .old + r .new ≡ length (textsOf x)
     long = lengths at-start i
 
@@ -104,10 +112,10 @@ module _ {F : Format} {l : Lent} (h : Ready F l) (sizes : List ℕ) (z : SizesOf
     first-is : l .log .undo .texts - (r .old + r .new) ≡ length (undoTexts u)
     first-is = omega (arith, long, newest-texts h e)
 
-    pub stands-there : Stands F (l .records) (l .texts) (ur - n) (l .log .undo .texts - (r .old + r .new)) x
+    pub stands-there : Stands F (l .records) (l .texts) start (l .log .undo .texts - (r .old + r .new)) x
     stands-there = newest-stands h e start-is first-is
 
-    pub seam-there : Seam F l (passLog true x u (stateOf catalogue F l .log)) (ur - n) (l .log .undo .texts - (r .old + r .new))
+    pub seam-there : Seam F l (passLog true x u (stateOf catalogue F l .log)) start (l .log .undo .texts - (r .old + r .new))
     seam-there = newest-seam h e start-is first-is
 
 -- ---- the next record, which stands at the seam

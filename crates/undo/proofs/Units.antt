@@ -1,10 +1,13 @@
 -- Units undone or redone: a walk that counts the Ends and the Begins that it passes. Assumes nothing.
-use Prim.Native.Nat.{ℕ, suc, _+_, _≤_, _<_}
+use Prim.Native.Nat.{ℕ, suc, _+_, _-_, _≤_, _<_}
 use native.Mathlib.Omega.{arith}
 use mathlib.Core.Path.{_≡_, refl, sym, ap, ap₂, _∙_}
-use mathlib.Core.Bool.{Bool, true, false}
+use mathlib.Core.Bool.{Bool, true, false, cond}
 use mathlib.Core.List.{List, [], _∷_}
+use lib.Dec.{eqb}
 use lib.ListN.{length}
+use borrow.Author.Tests.{eqb-true, eq-eqb, ne-eqb}
+use Rattle.lists.proofs.Bools.{by-test, never}
 use Rattle.unicode.specs.Repertoire.{catalogue}
 use Rattle.log_model.specs.Change.{Change, turn}
 use Rattle.formats.specs.declared.Format.{Format}
@@ -16,10 +19,10 @@ use Rattle.edit.specs.declared.EditAnswer.{EditAnswer}
 use Rattle.undo_step.specs.declared.Step.{Step}
 use Rattle.undo_step.specs.Retrace.{Trail, done, undoing}
 use Rattle.undo.specs.declared.Taken.{Taken}
-use Rattle.undo.specs.Undo.{Waiting, owed, passing, Walked, walk, numberOf}
+use Rattle.undo.specs.Undo.{Waiting, owed, passing, Walked, walk, numberOf, undoWalk}
 use Rattle.undo.specs.Steps.{trailBy, lineOf, fromOf, toOf, PassesOne}
 use Rattle.undo.proofs.Seams.{usedOf}
-use Rattle.undo.proofs.Counts.{Waits, settles, unsettled}
+use Rattle.undo.proofs.Counts.{Waits, settles, unsettled, one-of, counts-back}
 use Rattle.undo.proofs.Walks.{walked, walk-end, walk-stop, walk-on, walk-last, walk-next, Come, come-first, Ends, ended}
 use Rattle.undo.proofs.Walks.{stopped-there, stop-ended, goes, come-next, falls, from-there, to-there, trail-there, tried-there}
 
@@ -139,3 +142,20 @@ module _ {F : Format} {l₀ : Lent} {back : Bool} {W : Walked} {t : List ℕ} {s
             (ap₂ (λ (a b : List Change). walked a b (trailBy next (p .step .undone)) 0) (from-there back (k .come) e p t′ o i z) (to-there back (k .come) e p t′ o i z)
             ∙ ap (λ (a : Trail). walked f (turn x ∷ toOf back (now .log)) a 0) (trail-there back (k .come) e p t′ o i z)))
             (q ∙ ap (λ (a : ℕ). says (numberOf a (p .step .undone)) (lineOf (p .step)) (p .log)) z)
+
+-- ---- one unit that is the newest record alone: it is no End
+module _ {F : Format} {l : Lent} (h : Ready F l) {x : Change} {u : List Change} (e : stateOf catalogue F l .log .undo ≡ x ∷ u) (p : Taken) (t′ : List ℕ)
+    (o : PassesOne F l true false p t′) (i : length t′ ≡ length (l .text)) where
+  pub newest-ended : {n : ℕ} → n ≤ 1 → (p .kind ≡ 2 → ⊥) → {r : EditAnswer}
+      → r ≡ says (numberOf (p .step .number) (p .step .undone)) (lineOf (p .step)) (p .log)
+      → Ends F l true (undoWalk (length (l .text)) n (stateOf catalogue F l)) r t′
+  newest-ended {n} m d q =
+      let k = walking-first true (n - 1) h in
+      by-test _ (eqb (p .step .number) 0)
+      (λ z.
+      let count : Bool → ℕ = λ b. cond b 1 0 in
+      let no-end : count (eqb (p .kind) 2) ≡ 0 = ap count (ne-eqb (p .kind) 2 d) in
+      walked-last k e p t′ o i (eqb-true (p .step .number) 0 z) (0 + cond (eqb (p .kind) 2) 1 0) (0 + cond (eqb (p .kind) 1) 1 0)
+      (counts-back (p .kind) refl refl F x (k .waiting) 0 0 (k .waits) (o x u e .0)) (omega (arith, one-of (p .kind) {i = cond (eqb (p .kind) 1) 1 0} {j = cond (eqb (p .kind) 2) 1 0} refl refl))
+      (omega (arith, no-end)) (omega arith) q)
+      (λ z. walked-stop k e p t′ o (λ a. never _ _ (eq-eqb (p .step .number) 0 a) z) q)

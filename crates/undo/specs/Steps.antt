@@ -8,6 +8,7 @@ use Rattle.checks.specs.declared.Line.{Line}
 use Rattle.log_model.specs.Change.{Change, turn}
 use Rattle.formats.specs.declared.Format.{Format}
 use Rattle.log_model.specs.Groups as groups
+use Rattle.log_model.specs.UndoBytes.{undoRecords}
 use Rattle.log_records.specs.Records.{numbersOf}
 use Rattle.log_state.specs.declared.Log.{Log}
 use Rattle.log_state.specs.Calls.{logOf}
@@ -16,7 +17,7 @@ use Rattle.edit.specs.Calls.{Lent, lent, stateOf, Stored}
 use Rattle.undo_step.specs.declared.Step.{Step}
 use Rattle.undo_step.specs.Retrace.{Trail, Tried, done, stops, undoing, facing, stepTo}
 use Rattle.undo.specs.declared.Taken.{Taken}
-use lib.ListN.{length}
+use lib.ListN.{length, drop}
 
 -- a text and a cursor, and whether a record of a text was undone
 abbrev pub trailBy : State → Bool → Trail
@@ -32,6 +33,10 @@ lentBy t rb tb s g = lent t rb tb (lineOf s) g
 -- a text, a cursor and a log
 abbrev pub stateAt : Trail → groups.Log → State
 stateAt p v = record { text = p .text; cursor = p .cursor; log = v }
+
+-- the newest record begins at a place
+abbrev pub LastStart : Format → Lent → ℕ → Type 0
+LastStart F l at = at ≡ length (undoRecords F (drop 1 (stateOf catalogue F l .log .undo)))
 
 -- the list that is walked over, back or on, and the one that its records go to
 abbrev pub fromOf : Bool → groups.Log → List Change

@@ -9,13 +9,14 @@ ghost use lib.ListN.{length};
 ghost use Rattle.unicode.specs.Repertoire.{catalogue};
 ghost use Rattle.formats.specs.Formats.{Fit};
 ghost use Rattle.edit.specs.Calls.{lent, stateOf, Edited, Ready, Answers};
+ghost use Rattle.log_records.specs.Records.{recordAt};
 ghost use Rattle.log_records.specs.Walks.{SizesOf};
 ghost use Rattle.undo.specs.Undo.{numberOf, undoOut, undoCall};
-ghost use Rattle.undo.specs.Steps.{lineOf, lentBy, PassesOne};
+ghost use Rattle.undo.specs.Steps.{lineOf, lentBy, LastStart, PassesOne};
 use checks::Line;
 use edit::EditAnswer;
 use edit::Own;
-use edit::refusal;
+use edit::check;
 use edit::says;
 use formats::Format;
 use formats::RECORDS_MAX;
@@ -34,7 +35,38 @@ pub struct Taken {
     pub kind: usize,
 }
 
-// The newest record undone. The sizes of the undo list's records are noted. A stop changes nothing.
+// The newest record undone, which begins at start. A stop changes nothing.
+fn undo_at(
+    f: Format,
+    text: &mut [u8],
+    records: &[u8],
+    texts: &[u8],
+    start: usize,
+    s: Step,
+    log: Log,
+) -> Taken
+    requires { ⌜ Fit f ⌝ }
+    requires { ⌜ Ready f (lentBy (now text) (now records) (now texts) s log) ⌝ }
+    requires { ⌜ (s .number ≡ 0) × (0 < log .undo .records) ⌝ }
+    requires { ⌜ LastStart f (lentBy (now text) (now records) (now texts) s log) start ⌝ }
+    ensures { λ q. ⌜ PassesOne f (lentBy (now (text .entry)) (now (records .entry)) (now (texts .entry)) s log) true (s .undone) q (now (text .exit)) ⌝ }
+{
+    let u = log.undo;
+    let r = read_record(f, records, start);
+    let first = u.texts - (r.old + r.new);
+    let step = retrace(text, texts, s, r, first, true);
+    let kind = r.kind;
+    if step.number != 0 {
+        return Taken { step, log, kind };
+    }
+    Taken {
+        step,
+        log: log.move_seam(start, first),
+        kind,
+    }
+}
+
+// The same where the sizes of the undo list's records are noted.
 pub fn undo_record(
     f: Format,
     text: &mut [u8],
@@ -53,18 +85,7 @@ pub fn undo_record(
     let u = log.undo;
     let at = u.records;
     let start = at - sizes[at - 1] as usize;
-    let r = read_record(f, records, start);
-    let first = u.texts - (r.old + r.new);
-    let step = retrace(text, texts, s, r, first, true);
-    let kind = r.kind;
-    if step.number != 0 {
-        return Taken { step, log, kind };
-    }
-    Taken {
-        step,
-        log: log.move_seam(start, first),
-        kind,
-    }
+    undo_at(f, text, records, texts, start, s, log)
 }
 
 // The answer of a walk: the number of a stop, else 0 exactly where a record of a text was undone.
@@ -144,8 +165,40 @@ fn undo_noted(
     }
 }
 
+// One unit that is the newest record alone: it begins at last, and is no End.
+fn undo_newest(
+    f: Format,
+    text: &mut [u8],
+    records: &[u8],
+    texts: &[u8],
+    line: Line,
+    log: Log,
+    last: usize,
+    n: usize,
+) -> EditAnswer
+    requires { ⌜ Fit f ⌝ }
+    requires { ⌜ Ready f (lent (now text) (now records) (now texts) line log) ⌝ }
+    requires { ⌜ (n ≤ 1) × (0 < log .undo .records) ⌝ }
+    requires { ⌜ LastStart f (lent (now text) (now records) (now texts) line log) last ⌝ }
+    requires { ⌜ (recordAt f (now records) last .kind ≡ 2 → ⊥) ⌝ }
+    ensures outcome { λ r. ⌜ Edited f (lent (now (text .entry)) (now (records .entry)) (now (texts .entry)) line log)
+        (undoOut (length (now (text .entry))) n (stateOf catalogue f (lent (now (text .entry)) (now (records .entry)) (now (texts .entry)) line log)))
+        r (now (text .exit)) (now (records .entry)) (now (texts .entry)) ⌝ }
+    ensures still { λ r. ⌜ (r .log ≡ log → now (text .exit) ≡ now (text .entry)) ⌝ }
+{
+    let s = Step {
+        number: 0,
+        len: line.len,
+        cursor: line.cursor,
+        undone: false,
+    };
+    let p = undo_at(f, text, records, texts, last, s, log);
+    answer(p.step, p.log)
+}
+
 // Undo on a text and a log that the checks pass: the newest records, until n units are done. A unit is done where no End that
-// was passed waits for its Begin. The array for sizes is cleared at each call, so a short list has a short one.
+// was passed waits for its Begin. The newest record, which begins at last, is all of a single unit where it is no End; else the sizes
+// of the records are noted, in an array that is cleared at each call, so that a short list has a short one.
 fn undo_units(
     f: Format,
     text: &mut [u8],
@@ -153,10 +206,12 @@ fn undo_units(
     texts: &[u8],
     line: Line,
     log: Log,
+    last: usize,
     n: usize,
 ) -> EditAnswer
     requires { ⌜ Fit f ⌝ }
     requires { ⌜ Ready f (lent (now text) (now records) (now texts) line log) ⌝ }
+    requires { ⌜ LastStart f (lent (now text) (now records) (now texts) line log) last ⌝ }
     ensures outcome { λ r. ⌜ Edited f (lent (now (text .entry)) (now (records .entry)) (now (texts .entry)) line log)
         (undoOut (length (now (text .entry))) n (stateOf catalogue f (lent (now (text .entry)) (now (records .entry)) (now (texts .entry)) line log)))
         r (now (text .exit)) (now (records .entry)) (now (texts .entry)) ⌝ }
@@ -164,6 +219,12 @@ fn undo_units(
 {
     let u = log.undo;
     let ur = u.records;
+    if (n <= 1) & (0 < ur) {
+        let r = read_record(f, records, last);
+        if r.kind != 2 {
+            return undo_newest(f, text, records, texts, line, log, last, n);
+        }
+    }
     if ur <= 1024 {
         let mut few = [0u8; 1024];
         note_sizes(f, &records[..ur], &mut few);
@@ -189,9 +250,10 @@ pub fn undo(
     ensures still { λ r. ⌜ (r .log ≡ log → now (text .exit) ≡ now (text .entry)) ⌝ }
 {
     let f = format_for(text.len());
-    let k = refusal(f, text, records, texts, line, log, Own::none());
-    if k != 0 {
-        return says(k, line, log);
+    let c = check(f, text, records, texts, line, log, Own::none());
+    if c.number != 0 {
+        return says(c.number, line, log);
     }
-    undo_units(f, text, records, texts, line, log, n as usize)
+    let newest = c.newest;
+    undo_units(f, text, records, texts, line, log, newest.last, n as usize)
 }

@@ -5,7 +5,9 @@ use denote.Ref.{now}
 use Rattle.unicode.specs.Repertoire.{catalogue}
 use Rattle.formats.specs.declared.Format.{Format}
 use Rattle.formats.proofs.Formats.{fit-for}
-use Rattle.edit.specs.Calls.{lent, stateOf}
+use Rattle.log_records.proofs.Walks.{newest-last}
+use Rattle.log_state.proofs.Recorded.{lays}
+use Rattle.edit.specs.Calls.{lent, logLent, stateOf}
 use Rattle.edit.proofs.Formats.{in-format}
 use Rattle.undo.specs.Undo.{undoOut, undoCall}
 use Rattle.undo.proofs.Calls.{call-refused, call-passed}
@@ -18,8 +20,8 @@ format-for-requires c κs = search needs
 none-requires : tie.Need-none-requires
 none-requires c κs = search needs
 
-refusal-requires : tie.Need-refusal-requires
-refusal-requires c κs = fit-for _ c.before.before.format-for.ensures
+check-requires : tie.Need-check-requires
+check-requires c κs = fit-for _ c.before.before.format-for.ensures
 
 says-requires : tie.Need-says-requires
 says-requires c κs = search needs
@@ -29,11 +31,11 @@ same-length c = search needs
 
 returns : tie.Need-returns
 returns c =
-    let after-none = c .before .before .before in
-    let a = c .before .before .before .before .before .before .before .before .before .args in
+    let r = c .before .before .before .check in
+    let after-none = c .before .before .before .before in
+    let f = after-none .before .before .format-for in
+    let a = after-none .before .before .before .before .before .before .args in
     let l = lent (now a.text) (now a.records) (now a.texts) a.line a.log in
-    let r = c.before.before.refusal in
-    let f = c .before .before .before .before .before .format-for in
     let o = undoOut (length (now a.text)) a.n (stateOf catalogue f.result l) in (
       in-format l (λ (F : Format). undoCall catalogue F l a.n) f.ensures
           (call-refused f.result l after-none.none.ensures r.ensures.0 o c.before.if1.taken c.says.ensures),
@@ -42,23 +44,28 @@ returns c =
 
 undo-units-requires : tie.Need-undo-units-requires
 undo-units-requires c κs =
-    let r = c .before .before .refusal in
-    let f = c .before .before .before .before .before .format-for in
-    (fit-for _ f.ensures, r .ensures .1 (c .before .if1 .left))
+    let else1 = c .before .before in
+    let r = else1 .before .before .check in
+    let f = c .before .before .before .before .before .before .before .format-for in
+    let a = c .before .before .before .before .before .before .before .before .before .before .before .args in
+    let l = lent (now a.text) (now a.records) (now a.texts) a.line a.log in
+    let ready = r.ensures.1.0 else1.if1.left in
+    let starts = newest-last catalogue f.result _ _ (r.ensures.1.1 else1.if1.left) _ _ (lays f.result (logLent l) ready.log) in
+    (fit-for _ f.ensures, (ready, starts))
 
 same-length-2 : tie.Need-same-length-2
 same-length-2 c = search needs
 
 returns-2 : tie.Need-returns-2
 returns-2 c =
-    let else1 = c .before .before .before .before in
-    let after-none = else1.before.before in
-    let a = c .before .before .before .before .before .before .before .before .before .before .before .before .args in
+    let u = c.before.before.undo-units in
+    let else1 = c .before .before .before .before .before in
+    let r = else1 .before .before .check in
+    let after-none = else1 .before .before .before in
+    let f = after-none .before .before .format-for in
+    let a = after-none .before .before .before .before .before .before .args in
     let l = lent (now a.text) (now a.records) (now a.texts) a.line a.log in
-    let r = c .before .before .before .before .before .refusal in
-    let f = c .before .before .before .before .before .before .before .before .format-for in
-    let o = undoOut (length (now a.text)) a.n (stateOf catalogue f.result l) in
-    let u = c.before.before.undo-units in (
+    let o = undoOut (length (now a.text)) a.n (stateOf catalogue f.result l) in (
       in-format l (λ (F : Format). undoCall catalogue F l a.n) f.ensures
           (call-passed f.result l after-none.none.ensures r.ensures.0 o else1.if1.left u.ensures.0),
       u.ensures.1,
@@ -70,7 +77,7 @@ undo-spec =
     (tie.spec
     format-for-requires
     none-requires
-    refusal-requires
+    check-requires
     says-requires
     same-length
     returns

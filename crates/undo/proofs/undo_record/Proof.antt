@@ -1,12 +1,9 @@
 use borrow.Author.Needs.{needs}
 use native.Mathlib.Omega.{arith}
 use Prim.Native.Nat.{_-_}
-use mathlib.Core.Path.{refl}
-use mathlib.Core.Bool.{true}
 use denote.Ref.{now}
-use Rattle.undo.specs.Steps.{lentBy}
-use Rattle.undo.proofs.Seams.{some-newest, texts-below}
-use Rattle.undo.proofs.Steps.{size-within, texts-within, stands-there, seam-there, space, record-stops, record-passes}
+use Rattle.undo.proofs.Seams.{some-newest}
+use Rattle.undo.proofs.Steps.{size-within, starts-by-size}
 use Rattle.undo.proofs.undo_record.Statement.{statement}
 use Rattle.undo.proofs.undo_record.Tie as tie
 
@@ -19,107 +16,28 @@ shared-slice-read-start c = search needs
 cast-start : tie.Need-cast-start
 cast-start c =
     let s = c .before .before .before .before .before .before in
-    let a = s .args in
-    omega (arith, c .shared-slice-known4 .given (a .log .undo .records - 1))
+    omega (arith, c.shared-slice-known4.given (s.args.log.undo.records - 1))
 
 sub-start-2 : tie.Need-sub-start-2
 sub-start-2 c =
     let s = c .before .before .before .before .before .before in
-    let a = s .args in
-    let h = s .pre .1 .0 in
-    let z = s .pre .1 .1 .1 in
-    let n = some-newest h (s .pre .1 .1 .0 .1) .2 in
-    size-within h (now (a .sizes)) z n
-
-read-record-requires : tie.Need-read-record-requires
-read-record-requires c κs = search needs
-
-add-first : tie.Need-add-first
-add-first c = search needs
-
-sub-first : tie.Need-sub-first
-sub-first c =
-    let s = c .before .before .before .before .before .before .before .before .before in
-    let a = s .args in
-    let h = s .pre .1 .0 in
-    let z = s .pre .1 .1 .1 in
-    let n = some-newest h (s .pre .1 .1 .0 .1) .2 in
-    let r = c .before .before .read-record in
-    let i = r.ensures.same in
-    texts-within h (now (a .sizes)) z n i
-
-retrace-requires : tie.Need-retrace-requires
-retrace-requires c κs =
-    let s = c .before .before .before .before .before .before .before .before .before .before in
-    let a = s.args in
     let h = s.pre.1.0 in
-    let z = s.pre.1.1.1 in
-    let n = (some-newest h s.pre.1.1.0.1) .2 in
-    let r = c .before .before .before .read-record in
-    let i = r.ensures.same in
-    ((s.pre.1.1.0.0, h.used, r.ensures.place, space (stands-there h (now a.sizes) z n i) i, texts-below h), h.text)
+    size-within h (now s.args.sizes) s.pre.1.1.1 (some-newest h s.pre.1.1.0.1 .2)
+
+undo-at-requires : tie.Need-undo-at-requires
+undo-at-requires c κs =
+    let s = c .before .before .before .before .before .before .before in
+    let h = s.pre.1.0 in
+    let starts = starts-by-size h (now s.args.sizes) s.pre.1.1.1 (some-newest h s.pre.1.1.0.1 .2) in
+    (s.pre.0, (h, ((s.pre.1.1.0.0, s.pre.1.1.0.1), starts)))
 
 same-length : tie.Need-same-length
 same-length c = search needs
 
 returns : tie.Need-returns
-returns c =
-    let s = c .before .before .before .before .before .before .before .before .before .before .before .before .before .before .before in
-    let a = s.args in
-    let h = s.pre.1.0 in
-    let z = s.pre.1.1.1 in
-    let l = lentBy (now a.text) (now a.records) (now a.texts) a.s a.log in
-    let r = c .before .before .before .before .before .before .before .before .read-record in
-    let i = r.ensures.same in
-    let q = c .before .before .before .before .retrace in
-    λ x u e. record-stops a.f l true x u (stands-there h (now a.sizes) z e i) i a.s q.result q.last.0 q.ensures refl
-    c.if1.taken
-
-move-seam-requires : tie.Need-move-seam-requires
-move-seam-requires c κs =
-    let s = c .before .before .before .before .before .before .before .before .before .before .before .before .before .before .before in
-    let a = s.args in
-    let h = s.pre.1.0 in
-    let z = s.pre.1.1.1 in
-    let n = (some-newest h s.pre.1.1.0.1) .2 in
-    let r = c .before .before .before .before .before .before .before .before .read-record in
-    let i = r.ensures.same in
-    let m = seam-there h (now a.sizes) z n i in (
-      (m.within, omega (arith, h.log.hold.room, h.log.records, h.log.fit.records)),
-      (m.texts, omega (arith, h.log.hold.space, texts-below h)),
-    )
-
-same-length-2 : tie.Need-same-length-2
-same-length-2 c = search needs
-
-returns-2 : tie.Need-returns-2
-returns-2 c =
-    let s = c .before .before .before .before .before .before .before .before .before .before .before .before .before .before
-    .before .before in
-    let a = s.args in
-    let h = s.pre.1.0 in
-    let z = s.pre.1.1.1 in
-    let l = lentBy (now a.text) (now a.records) (now a.texts) a.s a.log in
-    let r = c .before .before .before .before .before .before .before .before .before .read-record in
-    let i = r.ensures.same in
-    let q = c .before .before .before .before .before .retrace in
-    λ x u e. record-passes a.f l true x u (stands-there h (now a.sizes) z e i) i a.s q.result q.last.0 q.ensures
-    (seam-there h (now a.sizes) z e i) c.before.if1.left c.move-seam.ensures
+returns c = c .before .before .undo-at .ensures
 
 pub undo-record-spec : {M : Type 1} → statement M
 undo-record-spec =
     tie.close
-    (tie.spec
-    sub-start
-    shared-slice-read-start
-    cast-start
-    sub-start-2
-    read-record-requires
-    add-first
-    sub-first
-    retrace-requires
-    same-length
-    returns
-    move-seam-requires
-    same-length-2
-    returns-2)
+    (tie.spec sub-start shared-slice-read-start cast-start sub-start-2 undo-at-requires same-length returns)
