@@ -156,6 +156,7 @@ module _ {F : Format} {l : Lent} (h : Ready F l) {x : Change} {u : List Change} 
       let count : Bool → ℕ = λ b. cond b 1 0 in
       let no-end : count (eqb (p .kind) 2) ≡ 0 = ap count (ne-eqb (p .kind) 2 d) in
       walked-last k e p t′ o i (eqb-true (p .step .number) 0 z) (0 + cond (eqb (p .kind) 2) 1 0) (0 + cond (eqb (p .kind) 1) 1 0)
-      (counts-back (p .kind) refl refl F x (k .waiting) 0 0 (k .waits) (o x u e .0)) (omega (arith, one-of (p .kind) {i = cond (eqb (p .kind) 1) 1 0} {j = cond (eqb (p .kind) 2) 1 0} refl refl))
+      (counts-back (p .kind) refl refl F x (k .waiting) 0 0 (k .waits) (o x u e .0))
+      (omega (arith, one-of (p .kind) {i = cond (eqb (p .kind) 1) 1 0} {j = cond (eqb (p .kind) 2) 1 0} refl refl))
       (omega (arith, no-end)) (omega arith) q)
       (λ z. walked-stop k e p t′ o (λ a. never _ _ (eq-eqb (p .step .number) 0 a) z) q)
