@@ -5,7 +5,8 @@ use Rattle.test_clusters.proofs.total.Statement.{statement}
 use Rattle.test_clusters.proofs.total.Tie as tie
 
 abbrev Inv-loop : tie.InvT-loop
-Inv-loop s lines₀ forward₀ backward₀ at₀ lines forward backward at = (at ≤ length s) × (lines ≤ at) × (forward ≤ at) × (backward ≤ at)
+Inv-loop s lines₀ forward₀ backward₀ at₀ lines forward backward at =
+    (at ≤ length s) × (lines ≤ at) × (forward ≤ at) × (backward ≤ at)
 
 abbrev μ-loop : tie.MeasureT-loop
 μ-loop s lines₀ forward₀ backward₀ at₀ lines forward backward at = length s - at

@@ -7,7 +7,8 @@ use Rattle.test_fields.proofs.bytes_of.Statement.{statement}
 use Rattle.test_fields.proofs.bytes_of.Tie as tie
 
 abbrev Inv-loop : tie.InvT-loop
-Inv-loop s from out₀ written value₀ at₀ out value at = (from ≤ at) × (at ≤ length s) × (value ≤ length out₀) × (length out ≡ length out₀)
+Inv-loop s from out₀ written value₀ at₀ out value at =
+    (from ≤ at) × (at ≤ length s) × (value ≤ length out₀) × (length out ≡ length out₀)
 
 abbrev μ-loop : tie.MeasureT-loop
 μ-loop s from out₀ written value₀ at₀ out value at = length s - at
