@@ -17,7 +17,9 @@ abbrev μ-loop : tie.MeasureT-loop
 μ-loop s₀ used from to n j₀ s j = n - j
 
 returns : tie.Need-returns Inv-loop μ-loop
-returns c = let a = c .before .args in cut-none (a .s .now) (a .used) (a .from) (a .to) (c .if1 .taken)
+returns c =
+    let a = c.before.args in
+    cut-none a.s.now a.used a.from a.to c.if1.taken
 
 sub-n : tie.Need-sub-n Inv-loop μ-loop
 sub-n c = omega arith
@@ -45,13 +47,13 @@ loop-less c = omega arith
 
 loop-again : tie.Need-loop-again Inv-loop μ-loop
 loop-again c =
-    let h = c .before .before in
-    let a = h .before .before .args in
-    let j = h .loop .j in (
+    let h = c.before.before in
+    let a = h.before.before.args in
+    let j = h.loop.j in (
       omega arith,
       (
-        ap (λ (l : List ℕ). set l (a .from + j) (getD l (a .to + j) 0)) (h .loop .inv .1 .0)
-            ∙ cut-step (a .s .now) (a .from) (a .to) j (omega arith) (omega arith),
+        ap (λ (l : List ℕ). set l (a.from + j) (getD l (a.to + j) 0)) h.loop.inv.1.0
+            ∙ cut-step a.s.now a.from a.to j (omega arith) (omega arith),
         simp length-set (omega arith),
       ),
     )
@@ -61,7 +63,7 @@ same-length c = omega arith
 
 returns-2 : tie.Need-returns-2 Inv-loop μ-loop
 returns-2 c =
-    let a = c .before .before .before .args in
+    let a = c.before.before.before.args in
     let e : c.before.loop.j ≡ a.used - a.to = omega arith in
     ap (λ (l : List ℕ). take (a.used - (a.to - a.from)) l)
     (c.before.loop.inv.1.0 ∙ ap (λ (k : ℕ). paste a.s.now a.from (drop a.to a.s.now) k) e)

@@ -31,19 +31,19 @@ loop-less c = omega arith
 
 loop-again : tie.Need-loop-again Inv-loop μ-loop
 loop-again c =
-    let l = c .before .loop in
-    let a = c .before .before .args in
-    (omega arith, simp length-set (l .inv .1), rw (l .inv .2) (fill-more (now (a .s)) (a .at) (l .j) (a .b)))
+    let l = c.before.loop in
+    let a = c.before.before.args in
+    (omega arith, simp length-set l.inv.1, rw l.inv.2 (fill-more (now a.s) a.at l.j a.b))
 
 same-length : tie.Need-same-length Inv-loop μ-loop
-same-length c = c .before .loop .inv .1
+same-length c = c.before.loop.inv.1
 
 returns : tie.Need-returns Inv-loop μ-loop
 returns c =
-    let l = c .before .loop in
-    let a = c .before .before .args in
-    let e : l .j ≡ a .count = omega arith in
-    l .inv .2 ∙ ap (λ (k : ℕ). sets (now (a .s)) (a .at) (replicate k (a .b))) e
+    let l = c.before.loop in
+    let a = c.before.before.args in
+    let e : l.j ≡ a.count = omega arith in
+    l.inv.2 ∙ ap (λ (k : ℕ). sets (now a.s) a.at (replicate k a.b)) e
 
 pub fill-spec : {M : Type 1} → statement M
 fill-spec =

@@ -18,7 +18,7 @@ loop-holds c = (refl, none-over (now c.before.before.args.src) c.before.before.a
 
 sub-write-front : tie.Need-sub-write-front Inv-loop μ-loop
 sub-write-front c =
-    let entry = c .before .before .before .before in
+    let entry = c.before.before.before.before in
     omega (
       arith,
       (over-room (now entry.args.src) entry.args.n (now entry.args.tail) c.before.loop.tail c.before.loop.at c.before.loop.left
@@ -28,7 +28,7 @@ sub-write-front c =
 
 part-write-front-start : tie.Need-part-write-front-start Inv-loop μ-loop
 part-write-front-start c =
-    let entry = c .before .before .before .before in
+    let entry = c.before.before.before.before in
     omega (
       arith,
       (over-room (now entry.args.src) entry.args.n (now entry.args.tail) c.before.loop.tail c.before.loop.at c.before.loop.left
@@ -41,42 +41,37 @@ part-write-front-end c = omega arith
 
 write-front-requires : tie.Need-write-front-requires Inv-loop μ-loop
 write-front-requires c κs =
-    let entry = c .before .before .before .before .before in
+    let entry = c.before.before.before.before.before in
     over-part (now entry.args.src) entry.args.n (now entry.args.tail) c.before.before.loop.tail c.before.before.loop.at
     c.before.before.loop.left c.before.before.loop.inv.1 entry.pre c.before.loop-test.taken
 
 add-at : tie.Need-add-at Inv-loop μ-loop
 add-at c =
-    let in-loop = c .before .before .before .before in
+    let in-loop = c.before.before.before.before in
     let at-loop = in-loop.before in
-    let entry = at-loop .before .before .before in
+    let entry = at-loop.before.before.before in
     omega (
       arith,
       (over-room (now entry.args.src) entry.args.n (now entry.args.tail) at-loop.loop.tail at-loop.loop.at at-loop.loop.left
           at-loop.loop.inv.1 entry.pre in-loop.loop-test.taken),
     )
 
-sub-left : tie.Need-sub-left Inv-loop μ-loop
-sub-left c = search needs
-
-loop-less : tie.Need-loop-less Inv-loop μ-loop
-loop-less c = search needs
-
 loop-again : tie.Need-loop-again Inv-loop μ-loop
 loop-again c =
-    let in-loop = c .before .before .before .before in
+    let in-loop = c.before.before.before.before in
     let at-loop = in-loop.before in
-    let entry = at-loop .before .before .before in
-    let w = over-more (now entry.args.src) entry.args.n (now entry.args.tail) at-loop.loop.tail at-loop.loop.at at-loop.loop.left
-    at-loop.loop.inv.1 entry.pre in-loop.loop-test.taken _ c.before.before.write-front.ensures in
-    (over-length (now entry.args.src) entry.args.n (now entry.args.tail) _ _ _ w entry.pre, w)
+    let entry = at-loop.before.before.before in
+    let a = entry.args in
+    let w = over-more (now a.src) a.n (now a.tail) at-loop.loop.tail at-loop.loop.at at-loop.loop.left at-loop.loop.inv.1 entry.pre
+    in-loop.loop-test.taken _ c.before.before.write-front.ensures in
+    (over-length (now a.src) a.n (now a.tail) _ _ _ w entry.pre, w)
 
 same-length : tie.Need-same-length Inv-loop μ-loop
-same-length c = c .before .loop .inv .0
+same-length c = c.before.loop.inv.0
 
 returns : tie.Need-returns Inv-loop μ-loop
 returns c =
-    let entry = c .before .before .before .before in
+    let entry = c.before.before.before.before in
     over-done (now entry.args.src) entry.args.n (now entry.args.tail) c.before.loop.tail c.before.loop.at c.before.loop.left
     c.before.loop.inv.1 entry.pre c.loop-test.left
 
@@ -92,8 +87,8 @@ write-copies-spec =
     part-write-front-end
     write-front-requires
     add-at
-    sub-left
-    loop-less
+    (λ sub-left. search needs)
+    (λ loop-less. search needs)
     loop-again
     same-length
     returns)

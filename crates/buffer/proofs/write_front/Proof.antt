@@ -17,7 +17,7 @@ abbrev μ-loop : tie.MeasureT-loop
 μ-loop tail₀ src j₀ tail j = length src - j
 
 loop-holds : tie.Need-loop-holds Inv-loop μ-loop
-loop-holds c = (search needs, (paste-zero (c .args .tail .now) 0 (c .args .src .now), refl))
+loop-holds c = (search needs, (paste-zero c.args.tail.now 0 c.args.src.now, refl))
 
 shared-slice-read-tail : tie.Need-shared-slice-read-tail Inv-loop μ-loop
 shared-slice-read-tail c = omega arith
@@ -33,14 +33,14 @@ loop-less c = omega arith
 
 loop-again : tie.Need-loop-again Inv-loop μ-loop
 loop-again c =
-    let h = c .before .before in
-    let j = h .loop .j in
-    let src = h .before .args .src .now in
-    let d = h .before .args .tail .now in
+    let h = c.before.before in
+    let j = h.loop.j in
+    let src = h.before.args.src.now in
+    let d = h.before.args.tail.now in
     let e : j ≡ 0 + j = omega arith in (
       omega arith,
       (
-        ap (λ (l : List ℕ). set l j (getD src j 0)) (h .loop .inv .1 .0)
+        ap (λ (l : List ℕ). set l j (getD src j 0)) h.loop.inv.1.0
             ∙ ap (λ (k : ℕ). set (paste d 0 src j) k (getD src j 0)) e
             ∙ paste-suc d 0 src j 0 (omega arith) (omega arith)
             ∙ ap (λ (k : ℕ). paste d 0 src k) (sym (add-one j)),
@@ -53,11 +53,11 @@ same-length c = omega arith
 
 returns : tie.Need-returns Inv-loop μ-loop
 returns c =
-    let src = c .before .before .args .src .now in
-    let d = c .before .before .args .tail .now in
-    let e : c .before .loop .j ≡ length src = omega arith in
+    let src = c.before.before.args.src.now in
+    let d = c.before.before.args.tail.now in
+    let e : c.before.loop.j ≡ length src = omega arith in
     let z : 0 + length src ≡ length src = omega arith in
-    c .before .loop .inv .1 .0
+    c.before.loop.inv.1.0
     ∙ ap (λ (k : ℕ). paste d 0 src k) e
     ∙ ap (λ (k : ℕ). take (length src) src ++ drop k d) z
     ∙ ap (λ (l : List ℕ). l ++ drop (length src) d) (take-length src)

@@ -8,20 +8,14 @@ use borrow.Author.Needs.{needs}
 use Rattle.checks.proofs.refusal.Statement.{statement}
 use Rattle.checks.proofs.refusal.Tie as tie
 
-format-for-requires : tie.Need-format-for-requires
-format-for-requires c κs = search needs
-
-refusal-in-requires : tie.Need-refusal-in-requires
-refusal-in-requires c κs = search needs
-
 returns : tie.Need-returns
 returns c =
-    let entry = c .before .before .before in
+    let entry = c.before.before.before in
+    let a = entry.args in
     c.refusal-in.ensures
     ∙ ap
     (λ (F : Format). Checks.refusal
-    (Checks.both (Checks.lineTests catalogue F (now entry.args.text) entry.args.line)
-    (Checks.ownTests entry.args.code entry.args.foreign entry.args.place))) c.before.format-for.ensures
+    (Checks.both (Checks.lineTests catalogue F (now a.text) a.line) (Checks.ownTests a.code a.foreign a.place))) c.before.format-for.ensures
 
 pub refusal-spec : {M : Type 1} → statement M
-refusal-spec = tie.close (tie.spec format-for-requires refusal-in-requires returns)
+refusal-spec = tie.close (tie.spec (λ format-for-requires κs. search needs) (λ refusal-in-requires κs. search needs) returns)

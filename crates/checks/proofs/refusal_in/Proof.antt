@@ -10,26 +10,23 @@ use Rattle.checks.proofs.refusal_in.Tie as tie
 
 returns : tie.Need-returns
 unfolding refusal
-returns c = simp (lt-ltb _ _ (c .if1 .taken))
+returns c = simp (lt-ltb _ _ c.if1.taken)
 
 returns-2 : tie.Need-returns-2
 unfolding refusal
-returns-2 c = simp (le-ltb _ _ (c .before .if1 .left), lt-ltb _ _ (c .if2 .taken))
+returns-2 c = simp (le-ltb _ _ c.before.if1.left, lt-ltb _ _ c.if2.taken)
 
 returns-3 : tie.Need-returns-3
 unfolding refusal
-returns-3 c = simp (le-ltb _ _ (c .before .before .if1 .left), le-ltb _ _ (c .before .if2 .left), c .if3 .taken)
+returns-3 c = simp (le-ltb _ _ c.before.before.if1.left, le-ltb _ _ c.before.if2.left, c.if3.taken)
 
 slice-aggregate-lent : tie.Need-slice-aggregate-lent
-slice-aggregate-lent c = sym (length-take-le _ _ (c .before .before .if2 .left))
-
-check-text-requires : tie.Need-check-text-requires
-check-text-requires c κs = search needs
+slice-aggregate-lent c = sym (length-take-le _ _ c.before.before.if2.left)
 
 returns-4 : tie.Need-returns-4
 unfolding refusal
 returns-4 c =
-    let else3 = c .before .before .before in
+    let else3 = c.before.before.before in
     let else2 = else3.before in
     let else1 = else2.before in
     simp (le-ltb _ _ else1.if1.left, le-ltb _ _ else2.if2.left, else3.if3.left, sym c.before.check-text.ensures ∙ not-true _ c.if4.taken)
@@ -37,7 +34,7 @@ returns-4 c =
 returns-5 : tie.Need-returns-5
 unfolding refusal
 returns-5 c =
-    let else3 = c .before .before .before .before in
+    let else3 = c.before.before.before.before in
     let else2 = else3.before in
     let else1 = else2.before in
     simp (
@@ -51,7 +48,7 @@ returns-5 c =
 returns-6 : tie.Need-returns-6
 unfolding refusal
 returns-6 c =
-    let after-check-text = c .before .before .before in
+    let after-check-text = c.before.before.before in
     let else3 = after-check-text.before.before in
     let else2 = else3.before in
     let else1 = else2.before in
@@ -67,7 +64,7 @@ returns-6 c =
 returns-7 : tie.Need-returns-7
 unfolding refusal
 returns-7 c =
-    let else4 = c .before .before .before in
+    let else4 = c.before.before.before in
     let after-check-text = else4.before in
     let else3 = after-check-text.before.before in
     let else2 = else3.before in
@@ -82,13 +79,10 @@ returns-7 c =
       c.if7.taken,
     )
 
-is-boundary-requires : tie.Need-is-boundary-requires
-is-boundary-requires c κs = search needs
-
 returns-8 : tie.Need-returns-8
 unfolding refusal
 returns-8 c =
-    let else6 = c .before .before .before in
+    let else6 = c.before.before.before in
     let else5 = else6.before in
     let else4 = else5.before in
     let after-check-text = else4.before in
@@ -110,7 +104,7 @@ returns-8 c =
 returns-9 : tie.Need-returns-9
 unfolding refusal
 returns-9 c =
-    let else6 = c .before .before .before in
+    let else6 = c.before.before.before in
     let else5 = else6.before in
     let else4 = else5.before in
     let after-check-text = else4.before in
@@ -137,11 +131,11 @@ refusal-in-spec =
     returns-2
     returns-3
     slice-aggregate-lent
-    check-text-requires
+    (λ check-text-requires κs. search needs)
     returns-4
     returns-5
     returns-6
     returns-7
-    is-boundary-requires
+    (λ is-boundary-requires κs. search needs)
     returns-8
     returns-9)

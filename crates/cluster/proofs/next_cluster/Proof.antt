@@ -19,64 +19,37 @@ Inv-loop s cp len p₀ i₀ k₀ p i k = (i ≤ length s) × Scanned catalogue s
 abbrev μ-loop : tie.MeasureT-loop
 μ-loop s cp len p₀ i₀ k₀ p i k = length s - i
 
-decode-at-requires : tie.Need-decode-at-requires Inv-loop μ-loop
-decode-at-requires c κs = search needs
-
-enum-known-d : tie.Need-enum-known-d Inv-loop μ-loop
-enum-known-d c = search needs
-
-enum-told : tie.Need-enum-told Inv-loop μ-loop
-enum-told c = search needs
-
-empty-requires : tie.Need-empty-requires Inv-loop μ-loop
-empty-requires c κs = search needs
-
 returns : tie.Need-returns Inv-loop μ-loop
 returns c =
-    let after-decode-at = c .before .before .before in
+    let after-decode-at = c.before.before.before in
     let entry = after-decode-at.before.before in (
       c.empty.ensures
           ∙ scan-none catalogue entry.args.s.now (sym after-decode-at.decode-at.ensures ∙ ap asFirst c.before.enum-told.given.1),
       omega (arith, ap (λ x. x.len) c.empty.ensures),
     )
 
-of-requires : tie.Need-of-requires Inv-loop μ-loop
-of-requires c κs = search needs
-
 loop-holds : tie.Need-loop-holds Inv-loop μ-loop
 loop-holds c =
-    let after-decode-at = c .before .before .before .before in
+    let after-decode-at = c.before.before.before.before in
     let entry = after-decode-at.before.before in
     let e = sym after-decode-at.decode-at.ensures ∙ ap asFirst c.before.before.d.given.1 in
     ((first-within _ _ _ e) .fits, scan-start catalogue entry.args.s.now _ _ _ e c.of.ensures)
 
-decode-at-requires-2 : tie.Need-decode-at-requires-2 Inv-loop μ-loop
-decode-at-requires-2 c κs = search needs
-
-enum-known-e : tie.Need-enum-known-e Inv-loop μ-loop
-enum-known-e c = search needs
-
-enum-told-2 : tie.Need-enum-told-2 Inv-loop μ-loop
-enum-told-2 c = search needs
-
 returns-2 : tie.Need-returns-2 Inv-loop μ-loop
 returns-2 c =
-    let at-loop = c .before .before .before .before in
-    let entry = at-loop .before .before .before .before .before .before .before in
+    let at-loop = c.before.before.before.before in
+    let entry = at-loop.before.before.before.before.before.before.before in
     let z = at-loop.loop.inv.1 in (
       scan-end catalogue entry.args.s.now _ _ _ z (sym c.before.before.decode-at2.ensures ∙ ap asFirst c.enum-told2.given.1),
       omega (arith, z.sized, at-loop.loop.inv.0),
     )
 
-joins-requires : tie.Need-joins-requires Inv-loop μ-loop
-joins-requires c κs = search needs
-
 returns-3 : tie.Need-returns-3 Inv-loop μ-loop
 returns-3 c =
-    let after-e = c .before .before .before in
+    let after-e = c.before.before.before in
     let after-decode-at2 = after-e.before.before in
     let at-loop = after-decode-at2.before.before in
-    let entry = at-loop .before .before .before .before .before .before .before in
+    let entry = at-loop.before.before.before.before.before.before.before in
     let z = at-loop.loop.inv.1 in (
       scan-break catalogue entry.args.s.now _ _ _ z _ _ (sym after-decode-at2.decode-at2.ensures ∙ ap asFirst after-e.e.given.1)
           (sym c.before.joins.ensures ∙ not-true _ c.if1.taken),
@@ -85,10 +58,10 @@ returns-3 c =
 
 add-i : tie.Need-add-i Inv-loop μ-loop
 add-i c =
-    let after-e = c .before .before .before in
+    let after-e = c.before.before.before in
     let after-decode-at2 = after-e.before.before in
     let at-loop = after-decode-at2.before.before in
-    let entry = at-loop .before .before .before .before .before .before .before in
+    let entry = at-loop.before.before.before.before.before.before.before in
     omega (
       arith,
       within-at entry.args.s.now at-loop.loop.i _ _ at-loop.loop.inv.0
@@ -97,10 +70,10 @@ add-i c =
 
 with-requires : tie.Need-with-requires Inv-loop μ-loop
 with-requires c κs =
-    let after-e = c .before .before .before in
+    let after-e = c.before.before.before in
     let after-decode-at2 = after-e.before.before in
     let at-loop = after-decode-at2.before.before in
-    let entry = at-loop .before .before .before .before .before .before .before in
+    let entry = at-loop.before.before.before.before.before.before.before in
     omega (
       arith,
       at-loop.loop.inv.1.sized,
@@ -110,10 +83,10 @@ with-requires c κs =
 
 loop-less : tie.Need-loop-less Inv-loop μ-loop
 loop-less c =
-    let after-e = c .before .before .before .before in
+    let after-e = c.before.before.before.before in
     let after-decode-at2 = after-e.before.before in
     let at-loop = after-decode-at2.before.before in
-    let entry = at-loop .before .before .before .before .before .before .before in
+    let entry = at-loop.before.before.before.before.before.before.before in
     omega (
       arith,
       within-at entry.args.s.now at-loop.loop.i _ _ at-loop.loop.inv.0
@@ -122,10 +95,10 @@ loop-less c =
 
 loop-again : tie.Need-loop-again Inv-loop μ-loop
 loop-again c =
-    let after-e = c .before .before .before .before in
+    let after-e = c.before.before.before.before in
     let after-decode-at2 = after-e.before.before in
     let at-loop = after-decode-at2.before.before in
-    let entry = at-loop .before .before .before .before .before .before .before in
+    let entry = at-loop.before.before.before.before.before.before.before in
     let e = sym after-decode-at2.decode-at2.ensures ∙ ap asFirst after-e.e.given.1 in (
       (within-at entry.args.s.now at-loop.loop.i _ _ at-loop.loop.inv.0 e) .1,
       scan-more catalogue entry.args.s.now _ _ _ at-loop.loop.inv.1 _ _ _ e
@@ -134,7 +107,7 @@ loop-again c =
 
 returns-4 : tie.Need-returns-4 Inv-loop μ-loop
 returns-4 c =
-    let entry = c .before .before .before .before .before .before .before .before in
+    let entry = c.before.before.before.before.before.before.before.before in
     let z = c.before.loop.inv.1 in (
       scan-end catalogue entry.args.s.now _ _ _ z (first-end entry.args.s.now c.before.loop.i c.loop-test.left),
       omega (arith, z.sized, c.before.loop.inv.0),
@@ -146,18 +119,18 @@ next-cluster-spec =
     (tie.spec
     Inv-loop
     μ-loop
-    decode-at-requires
-    enum-known-d
-    enum-told
-    empty-requires
+    (λ decode-at-requires κs. search needs)
+    (λ enum-known-d. search needs)
+    (λ enum-told. search needs)
+    (λ empty-requires κs. search needs)
     returns
-    of-requires
+    (λ of-requires κs. search needs)
     loop-holds
-    decode-at-requires-2
-    enum-known-e
-    enum-told-2
+    (λ decode-at-requires-2 κs. search needs)
+    (λ enum-known-e. search needs)
+    (λ enum-told-2. search needs)
     returns-2
-    joins-requires
+    (λ joins-requires κs. search needs)
     returns-3
     add-i
     with-requires

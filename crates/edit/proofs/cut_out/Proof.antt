@@ -39,41 +39,35 @@ single s = isSingle catalogue (clustersOf catalogue s)
 
 joined : (c : tie.After-is-single) → c.is-single.result ≡ single (cut c.before.before.before.before.before.before)
 joined c =
-    let entry = c .before .before .before .before .before .before in
-    c.is-single.ensures
-    ∙ ap single (sym (raw-part (now entry.args.text) entry.args.line.len entry.args.from entry.args.to (within entry)))
+    let entry = c.before.before.before.before.before.before in
+    let a = entry.args in
+    c.is-single.ensures ∙ ap single (sym (raw-part (now a.text) a.line.len a.from a.to (within entry)))
 
 sub-is-single : tie.Need-sub-is-single
 sub-is-single c =
-    let entry = c .before .before .before in
+    let entry = c.before.before.before in
     entry.pre.1.1.0.0
 
 part-is-single-start : tie.Need-part-is-single-start
 part-is-single-start c =
-    let entry = c .before .before .before .before in
+    let entry = c.before.before.before.before in
     entry.pre.1.1.0.0
 
 part-is-single-end : tie.Need-part-is-single-end
 part-is-single-end c =
-    let entry = c .before .before .before .before in
+    let entry = c.before.before.before.before in
     omega (arith, within entry, entry.pre.1.0.used)
 
 is-single-requires : tie.Need-is-single-requires
 is-single-requires c κs =
-    let entry = c .before .before .before .before .before in
-    ap (isText catalogue) (sym (raw-part (now entry.args.text) entry.args.line.len entry.args.from entry.args.to (within entry)))
-    ∙ cut-text entry
-
-array-share-prefix-none : tie.Need-array-share-prefix-none
-array-share-prefix-none c = search needs
-
-slice-aggregate-change : tie.Need-slice-aggregate-change
-slice-aggregate-change c = search needs
+    let entry = c.before.before.before.before.before in
+    let a = entry.args in
+    ap (isText catalogue) (sym (raw-part (now a.text) a.line.len a.from a.to (within entry))) ∙ cut-text entry
 
 change-requires : tie.Need-change-requires
 change-requires c κs =
-    let after-is-single = c .before .before .before .before in
-    let entry = after-is-single .before .before .before .before .before .before in (
+    let after-is-single = c.before.before.before.before in
+    let entry = after-is-single.before.before.before.before.before.before in (
       entry.pre.0,
       (
         entry.pre.1.0,
@@ -87,30 +81,20 @@ change-requires c κs =
       ),
     )
 
-same-length : tie.Need-same-length
-same-length c = search needs
-
-same-length-2 : tie.Need-same-length-2
-same-length-2 c = search needs
-
-same-length-3 : tie.Need-same-length-3
-same-length-3 c = search needs
-
 returns : tie.Need-returns
 returns c =
-    let after-change = c .before .before .before .before .before .before in
-    let after-is-single = after-change .before .before .before .before .before in
-    let entry = after-is-single .before .before .before .before .before .before in
-    let l = lent (now entry.args.text) (now entry.args.records) (now entry.args.texts) entry.args.line entry.args.log in
-    let stateOf1 = stateOf catalogue entry.args.f l in
+    let after-change = c.before.before.before.before.before.before in
+    let after-is-single = after-change.before.before.before.before.before in
+    let entry = after-is-single.before.before.before.before.before.before in
+    let a = entry.args in
+    let l = lent (now a.text) (now a.records) (now a.texts) a.line a.log in
+    let stateOf1 = stateOf catalogue a.f l in
     let sizesOf1 = sizesOf l in
-    outcome-as entry.args.f l
-    (changeOut entry.args.f sizesOf1 (length (now entry.args.text)) after-is-single.is-single.result
-    (delete entry.args.from (cut entry)) entry.args.from stateOf1)
-    (edited catalogue entry.args.f sizesOf1 (length (now entry.args.text)) (once (cutting entry.args.from entry.args.to) entry.args.from)
-    stateOf1) _ _ _ _
-    (once-cut catalogue entry.args.f sizesOf1 (length (now entry.args.text)) entry.args.from stateOf1 entry.args.from entry.args.to
-    after-is-single.is-single.result entry.pre.1.1.0 (joined after-is-single)) after-change.change.ensures
+    outcome-as a.f l
+    (changeOut a.f sizesOf1 (length (now a.text)) after-is-single.is-single.result (delete a.from (cut entry)) a.from stateOf1)
+    (edited catalogue a.f sizesOf1 (length (now a.text)) (once (cutting a.from a.to) a.from) stateOf1) _ _ _ _
+    (once-cut catalogue a.f sizesOf1 (length (now a.text)) a.from stateOf1 a.from a.to after-is-single.is-single.result entry.pre.1.1.0
+    (joined after-is-single)) after-change.change.ensures
 
 pub cut-out-spec : {M : Type 1} → statement M
 cut-out-spec =
@@ -120,10 +104,10 @@ cut-out-spec =
     part-is-single-start
     part-is-single-end
     is-single-requires
-    array-share-prefix-none
-    slice-aggregate-change
+    (λ array-share-prefix-none. search needs)
+    (λ slice-aggregate-change. search needs)
     change-requires
-    same-length
-    same-length-2
-    same-length-3
+    (λ same-length. search needs)
+    (λ same-length-2. search needs)
+    (λ same-length-3. search needs)
     returns)

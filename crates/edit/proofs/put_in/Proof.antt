@@ -15,24 +15,21 @@ use Rattle.edit.proofs.put_in.Tie as tie
 
 change-requires : tie.Need-change-requires
 change-requires c κs =
-    let entry = c .before .before .before .before .before .before .before in
-    let z : entry.args.at - entry.args.at ≡ 0 = omega arith in (
+    let entry = c.before.before.before.before.before.before.before in
+    let a = entry.args in
+    let z : a.at - a.at ≡ 0 = omega arith in (
       entry.pre.0,
       (
         entry.pre.1.0,
         (
-          (
-            omega arith,
-            omega (arith, entry.pre.1.1.0.1, length-take-le entry.args.line.len (now entry.args.text) entry.pre.1.0.used),
-          ),
+          (omega arith, omega (arith, entry.pre.1.1.0.1, length-take-le a.line.len (now a.text) entry.pre.1.0.used)),
           (
             (λ e. never _ _ e refl),
             (
               record {
                 kind = refl;
                 place = refl;
-                old = sym
-                    (ap (λ (i : ℕ). take i (drop entry.args.at (take entry.args.line.len (now entry.args.text)))) z);
+                old = sym (ap (λ (i : ℕ). take i (drop a.at (take a.line.len (now a.text)))) z);
                 new = refl;
               },
               entry.pre.1.1.1,
@@ -42,28 +39,20 @@ change-requires c κs =
       ),
     )
 
-same-length : tie.Need-same-length
-same-length c = search needs
-
-same-length-2 : tie.Need-same-length-2
-same-length-2 c = search needs
-
-same-length-3 : tie.Need-same-length-3
-same-length-3 c = search needs
-
 returns : tie.Need-returns
 returns c =
-    let after-change = c .before .before .before .before .before .before in
-    let entry = after-change .before .before .before .before .before .before .before .before in
-    let l = lent (now entry.args.text) (now entry.args.records) (now entry.args.texts) entry.args.line entry.args.log in
-    outcome-as entry.args.f l _ _ _ _ _ _
-    (once-paste catalogue entry.args.f (sizesOf l) (length (now entry.args.text)) entry.args.cursor (stateOf catalogue entry.args.f l)
-    entry.args.at (now entry.args.new)) after-change.change.ensures
+    let after-change = c.before.before.before.before.before.before in
+    let entry = after-change.before.before.before.before.before.before.before.before in
+    let a = entry.args in
+    let l = lent (now a.text) (now a.records) (now a.texts) a.line a.log in
+    outcome-as a.f l _ _ _ _ _ _
+    (once-paste catalogue a.f (sizesOf l) (length (now a.text)) a.cursor (stateOf catalogue a.f l) a.at (now a.new))
+    after-change.change.ensures
 
 pub put-in-spec : {M : Type 1} → statement M
 put-in-spec = tie.close (tie.spec
     change-requires
-    same-length
-    same-length-2
-    same-length-3
+    (λ same-length. search needs)
+    (λ same-length-2. search needs)
+    (λ same-length-3. search needs)
     returns)

@@ -11,19 +11,20 @@ use Rattle.edit.proofs.room_now.Tie as tie
 
 slice-aggregate-tail-at : tie.Need-slice-aggregate-tail-at
 slice-aggregate-tail-at c =
-    let entry = c .before .before .before .before in
+    let entry = c.before.before.before.before in
     sym (length-take-le _ _ (omega (arith, entry.pre.1.0.hold.room)))
 
 tail-at-requires : tie.Need-tail-at-requires
 tail-at-requires c κs =
-    let entry = c .before .before .before .before in
+    let entry = c.before.before.before.before in
     (entry.pre.0, entry.pre.1.1)
 
 returns : tie.Need-returns
 returns c =
-    let entry = c .before .before .before .before .before in
+    let entry = c.before.before.before.before.before in
+    let a = entry.args in
     ap (λ (t : Tail). record { fits = true; tail = t })
-    (tail-now entry.args.f (lent (now entry.args.records) (now entry.args.texts) entry.args.log) entry.pre.1.0 _ c.tail-at.ensures)
+    (tail-now a.f (lent (now a.records) (now a.texts) a.log) entry.pre.1.0 _ c.tail-at.ensures)
 
 pub room-now-spec : {M : Type 1} → statement M
 room-now-spec = tie.close (tie.spec slice-aggregate-tail-at tail-at-requires returns)

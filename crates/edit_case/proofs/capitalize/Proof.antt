@@ -8,41 +8,29 @@ use borrow.Author.Needs.{needs}
 use Rattle.edit_case.proofs.capitalize.Statement.{statement}
 use Rattle.edit_case.proofs.capitalize.Tie as tie
 
-next-cluster-requires : tie.Need-next-cluster-requires
-next-cluster-requires c κs = search needs
-
 slice-aggregate-case-at : tie.Need-slice-aggregate-case-at
-slice-aggregate-case-at c = sym (length-take-le _ _ ((c .before .next-cluster .ensures .1)))
+slice-aggregate-case-at c = sym (length-take-le _ _ c.before.next-cluster.ensures.1)
 
 case-at-requires : tie.Need-case-at-requires
 case-at-requires c κs =
-    let entry = c .before .before .before .before .before in
+    let entry = c.before.before.before.before.before in
     omega
     (arith, entry.pre.0, length-take-le c.before.before.next-cluster.result.len (now entry.args.s) c.before.before.next-cluster.ensures.1)
 
-sub-case-at : tie.Need-sub-case-at
-sub-case-at c = search needs
-
-part-case-at-start : tie.Need-part-case-at-start
-part-case-at-start c = search needs
-
-part-case-at-end : tie.Need-part-case-at-end
-part-case-at-end c = search needs
-
 case-at-requires-2 : tie.Need-case-at-requires-2
 case-at-requires-2 c κs =
-    let after-case-at = c .before .before .before .before in
-    let after-next-cluster = after-case-at .before .before .before in
-    let entry = after-next-cluster .before .before .before in
+    let after-case-at = c.before.before.before.before in
+    let after-next-cluster = after-case-at.before.before.before in
+    let entry = after-next-cluster.before.before.before in
     room-behind (now entry.args.s) (now entry.args.out) after-next-cluster.next-cluster.result.len
     (ap (λ (k : Cluster). k.len) after-next-cluster.next-cluster.ensures.0) after-next-cluster.next-cluster.ensures.1 entry.pre.0 _ _
     after-case-at.case-at.ensures
 
 add-result : tie.Need-add-result
 add-result c =
-    let after-case-at = c .before .before .before .before .before .before .before in
-    let after-next-cluster = after-case-at .before .before .before in
-    let entry = after-next-cluster .before .before .before in
+    let after-case-at = c.before.before.before.before.before.before.before in
+    let after-next-cluster = after-case-at.before.before.before in
+    let entry = after-next-cluster.before.before.before in
     omega (
       arith,
       count-small (now entry.args.s) (now entry.args.out) after-next-cluster.next-cluster.result.len
@@ -52,14 +40,11 @@ add-result c =
       entry.pre.1,
     )
 
-same-length : tie.Need-same-length
-same-length c = search needs
-
 returns : tie.Need-returns
 returns c =
-    let after-case-at = c .before .before .before .before .before .before .before in
-    let after-next-cluster = after-case-at .before .before .before in
-    let entry = after-next-cluster .before .before .before in
+    let after-case-at = c.before.before.before.before.before.before.before in
+    let after-next-cluster = after-case-at.before.before.before in
+    let entry = after-next-cluster.before.before.before in
     capital-written (now entry.args.s) (now entry.args.out) after-next-cluster.next-cluster.result.len
     (ap (λ (k : Cluster). k.len) after-next-cluster.next-cluster.ensures.0) after-next-cluster.next-cluster.ensures.1 entry.pre.0 _ _ _ _
     after-case-at.case-at.ensures c.before.before.case-at2.ensures
@@ -68,13 +53,13 @@ pub capitalize-spec : {M : Type 1} → statement M
 capitalize-spec =
     tie.close
     (tie.spec
-    next-cluster-requires
+    (λ next-cluster-requires κs. search needs)
     slice-aggregate-case-at
     case-at-requires
-    sub-case-at
-    part-case-at-start
-    part-case-at-end
+    (λ sub-case-at. search needs)
+    (λ part-case-at-start. search needs)
+    (λ part-case-at-end. search needs)
     case-at-requires-2
     add-result
-    same-length
+    (λ same-length. search needs)
     returns)

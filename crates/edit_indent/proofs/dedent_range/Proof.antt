@@ -15,77 +15,46 @@ asked s =
 tried : (c : tie.After-has-room) → Tried (asked (c .before .before .before .before .before .before .before .before .before)) true
     c.has-room.result
 tried c =
-    let count = c .before .before .before in
-    let entry = count .before .before .before .before .before .before in
+    let count = c.before.before.before in
+    let entry = count.before.before.before.before.before.before in
     dedent-tried (asked entry) entry.pre.1.1 count.count-cuts.ensures.0 count.count-cuts.ensures.1 c.has-room.ensures
 
-sub-count-cuts : tie.Need-sub-count-cuts
-sub-count-cuts c = search needs
-
-part-count-cuts-start : tie.Need-part-count-cuts-start
-part-count-cuts-start c = search needs
-
 part-count-cuts-end : tie.Need-part-count-cuts-end
-part-count-cuts-end c = to-within (asked (c .before .before .before .before)) .1
-
-count-cuts-requires : tie.Need-count-cuts-requires
-count-cuts-requires c κs = search needs
+part-count-cuts-end c =
+    let entry = c.before.before.before.before in
+    (to-within (asked entry)) .1
 
 has-room-requires : tie.Need-has-room-requires
 has-room-requires c κs =
-    let entry = c .before .before .before .before .before .before .before .before in
+    let entry = c.before.before.before.before.before.before.before.before in
     let x = asked entry in
-    (x.ready.log.fit, (log-within x .0, log-within x .1, cuts-few x c.before.before.count-cuts.ensures.0))
-
-says-requires : tie.Need-says-requires
-says-requires c κs = search needs
-
-same-length : tie.Need-same-length
-same-length c = search needs
-
-same-length-2 : tie.Need-same-length-2
-same-length-2 c = search needs
-
-same-length-3 : tie.Need-same-length-3
-same-length-3 c = search needs
+    (x.ready.log.fit, ((log-within x) .0, (log-within x) .1, cuts-few x c.before.before.count-cuts.ensures.0))
 
 returns : tie.Need-returns
 returns c = full _ (tried c.before.before) (not-true _ c.before.if1.taken) c.says.ensures
 
 dedent-lines-requires : tie.Need-dedent-lines-requires
 dedent-lines-requires c κs =
-    let else1 = c .before .before .before in
+    let else1 = c.before.before.before in
     let after-has-room = else1.before in
     begin _ (tried after-has-room) (not-false _ else1.if1.left)
-
-same-length-4 : tie.Need-same-length-4
-same-length-4 c = search needs
-
-same-length-5 : tie.Need-same-length-5
-same-length-5 c = search needs
-
-same-length-6 : tie.Need-same-length-6
-same-length-6 c = search needs
-
-returns-2 : tie.Need-returns-2
-returns-2 c = search needs
 
 pub dedent-range-spec : {M : Type 1} → statement M
 dedent-range-spec =
     tie.close
     (tie.spec
-    sub-count-cuts
-    part-count-cuts-start
+    (λ sub-count-cuts. search needs)
+    (λ part-count-cuts-start. search needs)
     part-count-cuts-end
-    count-cuts-requires
+    (λ count-cuts-requires κs. search needs)
     has-room-requires
-    says-requires
-    same-length
-    same-length-2
-    same-length-3
+    (λ says-requires κs. search needs)
+    (λ same-length. search needs)
+    (λ same-length-2. search needs)
+    (λ same-length-3. search needs)
     returns
     dedent-lines-requires
-    same-length-4
-    same-length-5
-    same-length-6
-    returns-2)
+    (λ same-length-4. search needs)
+    (λ same-length-5. search needs)
+    (λ same-length-6. search needs)
+    (λ returns-2. search needs))

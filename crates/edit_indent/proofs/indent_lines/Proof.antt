@@ -40,85 +40,87 @@ abbrev μ-loop : tie.MeasureT-loop
 
 indented-requires : tie.Need-indented-requires Inv-loop μ-loop
 indented-requires c κs =
-    let p = c .before .before .before .pre in
+    let p = c.before.before.before.pre in
     omega (arith, p.0, p.1.0.within, p.1.0.used, p.1.0.small, p.1.0.log.fit.text)
 
 loop-holds : tie.Need-loop-holds Inv-loop μ-loop
 loop-holds c =
-    let s = c .before .before .before .before in
+    let s = c.before.before.before.before in
     opens
     (lines-begin (lent (now s.args.text) (now s.args.records) (now s.args.texts) s.args.line s.args.log) s.args.m false s.args.from
     s.args.to s.pre.1) (omega arith) c.indented.ensures
 
 slice-reshare-prefix-end-of-line : tie.Need-slice-reshare-prefix-end-of-line Inv-loop μ-loop
-slice-reshare-prefix-end-of-line c = end-in c.before.loop.inv.lines .0
+slice-reshare-prefix-end-of-line c = (end-in c.before.loop.inv.lines) .0
 
 slice-aggregate-end-of-line : tie.Need-slice-aggregate-end-of-line Inv-loop μ-loop
-slice-aggregate-end-of-line c = sym (length-take-le _ _ (end-in c.before.before.loop.inv.lines .0))
+slice-aggregate-end-of-line c = sym (length-take-le _ _ ((end-in c.before.before.loop.inv.lines) .0))
 
 add-end-of-line : tie.Need-add-end-of-line Inv-loop μ-loop
-add-end-of-line c = let k = c .before .before .loop .inv .lines in omega (arith, end-in k, k.order, c.before.if1.taken)
+add-end-of-line c =
+    let k = c.before.before.loop.inv.lines in
+    omega (arith, end-in k, k.order, c.before.if1.taken)
 
 end-of-line-requires : tie.Need-end-of-line-requires Inv-loop μ-loop
 end-of-line-requires c κs =
-    let b = c .before .before .loop in
-    omega (arith, b.inv.lines.order, c.before.if1.taken, length-take-le b.end b.text (end-in b.inv.lines .0))
-
-says-requires : tie.Need-says-requires Inv-loop μ-loop
-says-requires c κs = search needs
+    let b = c.before.before.loop in
+    omega (arith, b.inv.lines.order, c.before.if1.taken, length-take-le b.end b.text ((end-in b.inv.lines) .0))
 
 same-length : tie.Need-same-length Inv-loop μ-loop
-same-length c = c .before .before .before .before .before .loop .inv .lines .left .text
+same-length c =
+    let at-loop = c.before.before.before.before.before in
+    at-loop.loop.inv.lines.left.text
 
 same-length-2 : tie.Need-same-length-2 Inv-loop μ-loop
-same-length-2 c = c .before .before .before .before .before .loop .inv .lines .left .records
+same-length-2 c =
+    let at-loop = c.before.before.before.before.before in
+    at-loop.loop.inv.lines.left.records
 
 same-length-3 : tie.Need-same-length-3 Inv-loop μ-loop
-same-length-3 c = c .before .before .before .before .before .loop .inv .lines .left .texts
+same-length-3 c =
+    let at-loop = c.before.before.before.before.before in
+    at-loop.loop.inv.lines.left.texts
 
 returns : tie.Need-returns Inv-loop μ-loop
 returns c =
-    let at-loop = c .before .before .before .before .before in
+    let at-loop = c.before.before.before.before.before in
     let e = c.before.before in
     lines-end (last-done at-loop.loop.inv e.before.before.if1.taken e.end-of-line.ensures.0 c.before.if2.taken) c.says.ensures
 
 add-at : tie.Need-add-at Inv-loop μ-loop
 add-at c =
-    let at-loop = c .before .before .before .before in
+    let at-loop = c.before.before.before.before in
     let e = c.before in
     omega (arith, done-in at-loop.loop.inv e.before.before.if1.taken e.end-of-line.ensures.0)
 
 indented-requires-2 : tie.Need-indented-requires-2 Inv-loop μ-loop
 indented-requires-2 c κs =
     let e = c.before in
-    let k = e .before .before .before .loop .inv in
-    let p = e .before .before .before .before .before .before .before .before .pre in
+    let k = e.before.before.before.loop.inv in
+    let p = e.before.before.before.before.before.before.before.before.pre in
     let w = done-in k e.before.before.if1.taken e.end-of-line.ensures.0 in
     omega (arith, w, k.low, p.0, p.1.0.within, p.1.0.used, p.1.0.small, p.1.0.log.fit.text)
 
 loop-less : tie.Need-loop-less Inv-loop μ-loop
 loop-less c =
-    let at-loop = c .before .before .before .before .before in
-    let entry = at-loop .before .before .before .before .before in
+    let at-loop = c.before.before.before.before.before in
+    let entry = at-loop.before.before.before.before.before in
     let e = c.before.before in
     let z = e.before.before.if1.taken in
     turns-line _ _ _ _ _ z entry.pre.0 (done-in at-loop.loop.inv z e.end-of-line.ensures.0) c.before.if2.left
 
 loop-again : tie.Need-loop-again Inv-loop μ-loop
 loop-again c =
-    let at-loop = c .before .before .before .before .before in
+    let at-loop = c.before.before.before.before.before in
     let e = c.before.before in
     next-done at-loop.loop.inv e.before.before.if1.taken e.end-of-line.ensures.0 c.before.if2.left c.indented2.ensures
 
-piece-requires : tie.Need-piece-requires Inv-loop μ-loop
-piece-requires c κs = search needs
-
 -- the turn's piece, from where it is put in
 abbrev piece : tie.After-put-in Inv-loop μ-loop → tie.After-piece Inv-loop μ-loop
-piece c = c .before .before .before .before .before
+piece c = c.before.before.before.before.before
 
 abbrev put : tie.After-log-now Inv-loop μ-loop → tie.After-put-in Inv-loop μ-loop
-put c = c .before .before .before .before .before .before .before .before
+put c = c.before.before.before.before.before.before.before.before
 
 sizes : (c : tie.After-piece Inv-loop μ-loop) → (0 < c .piece .result) × (c .piece .result ≤ 32)
     × (c .piece .result ≤ c .before .before
@@ -126,25 +128,31 @@ sizes : (c : tie.After-piece Inv-loop μ-loop) → (0 < c .piece .result) × (c 
 sizes c = piece-within c.before.before.loop.inv c.before.if1.left c.piece.ensures
 
 array-share-prefix-spaces : tie.Need-array-share-prefix-spaces Inv-loop μ-loop
-array-share-prefix-spaces c = sizes c.before.before.before .1
+array-share-prefix-spaces c =
+    let after-piece = c.before.before.before in
+    (sizes after-piece) .1
 
 slice-aggregate-put-in : tie.Need-slice-aggregate-put-in Inv-loop μ-loop
-slice-aggregate-put-in c = sym (length-take-le _ _ (sizes (c .before .before .before .before) .1))
+slice-aggregate-put-in c =
+    let after-piece = c.before.before.before.before in
+    sym (length-take-le _ _ ((sizes after-piece) .1))
 
 put-in-requires : tie.Need-put-in-requires Inv-loop μ-loop
 put-in-requires c κs =
-    let n = c .before .before .before .before in
-    let k = n .before .before .loop .inv in
+    let n = c.before.before.before.before in
+    let k = n.before.before.loop.inv in
     (k.lines.left.ready.log.fit, (k.lines.left.ready, put-suits k n.before.if1.left n.piece.ensures))
 
 add-end : tie.Need-add-end Inv-loop μ-loop
 add-end c = omega (arith, sizes (piece (put c)))
 
 sub-left : tie.Need-sub-left Inv-loop μ-loop
-sub-left c = sizes (piece (put c)) .2
+sub-left c = (sizes (piece (put c))) .2
 
 loop-less-2 : tie.Need-loop-less-2 Inv-loop μ-loop
-loop-less-2 c = let n = piece (put c) in turns-put _ _ _ _ _ (sizes n .0) (sizes n .2)
+loop-less-2 c =
+    let n = piece (put c) in
+    turns-put _ _ _ _ _ ((sizes n) .0) ((sizes n) .2)
 
 loop-again-2 : tie.Need-loop-again-2 Inv-loop μ-loop
 loop-again-2 c =
@@ -165,7 +173,7 @@ indent-lines-spec =
     slice-aggregate-end-of-line
     add-end-of-line
     end-of-line-requires
-    says-requires
+    (λ says-requires κs. search needs)
     same-length
     same-length-2
     same-length-3
@@ -174,7 +182,7 @@ indent-lines-spec =
     indented-requires-2
     loop-less
     loop-again
-    piece-requires
+    (λ piece-requires κs. search needs)
     array-share-prefix-spaces
     slice-aggregate-put-in
     put-in-requires

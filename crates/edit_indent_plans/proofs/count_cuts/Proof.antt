@@ -24,25 +24,16 @@ loop-holds : tie.Need-loop-holds Inv-loop μ-loop
 loop-holds c = (omega arith, omega arith, omega arith, omega arith, omega arith)
 
 end-of-line-requires : tie.Need-end-of-line-requires Inv-loop μ-loop
-end-of-line-requires c κs = c .loop .inv .0
+end-of-line-requires c κs = c.loop.inv.0
 
 sub-deleting : tie.Need-sub-deleting Inv-loop μ-loop
 sub-deleting c =
-    let entry = c .before .before .before in
+    let entry = c.before.before.before in
     omega (arith, line-in entry.args.p.now c.before.loop.i c.end-of-line.result c.before.loop.inv.0 c.end-of-line.ensures.0)
-
-part-deleting-start : tie.Need-part-deleting-start Inv-loop μ-loop
-part-deleting-start c = search needs
-
-part-deleting-end : tie.Need-part-deleting-end Inv-loop μ-loop
-part-deleting-end c = search needs
-
-deleting-requires : tie.Need-deleting-requires Inv-loop μ-loop
-deleting-requires c κs = search needs
 
 add-records : tie.Need-add-records Inv-loop μ-loop
 add-records c =
-    let after-end-of-line = c .before .before .before in
+    let after-end-of-line = c.before.before.before in
     let at-loop = after-end-of-line.before in
     let entry = at-loop.before.before in
     omega (
@@ -54,7 +45,7 @@ add-records c =
 
 add-bytes : tie.Need-add-bytes Inv-loop μ-loop
 add-bytes c =
-    let after-end-of-line = c .before .before .before in
+    let after-end-of-line = c.before.before.before in
     let at-loop = after-end-of-line.before in
     let entry = at-loop.before.before in
     omega (
@@ -69,20 +60,19 @@ add-bytes c =
 
 returns : tie.Need-returns Inv-loop μ-loop
 returns c =
-    let after-end-of-line = c .before .before .before .before in
+    let after-end-of-line = c.before.before.before.before in
     let at-loop = after-end-of-line.before in
     let entry = at-loop.before.before in
-    let cuts-last1 = cuts-last entry.args.p.now at-loop.loop.i after-end-of-line.end-of-line.result at-loop.loop.inv.0
-    after-end-of-line.end-of-line.ensures.0 catalogue entry.args.m c.before.before.deleting.result c.before.before.deleting.ensures.0
-    c.if2.taken in
+    let a = entry.args in
+    let cuts-last1 = cuts-last a.p.now at-loop.loop.i after-end-of-line.end-of-line.result at-loop.loop.inv.0
+    after-end-of-line.end-of-line.ensures.0 catalogue a.m c.before.before.deleting.result c.before.before.deleting.ensures.0 c.if2.taken in
     ⊎-elim
     (λ w. (
       omega (
         arith,
         cuts-last1.0,
-        one-some entry.args.p.now at-loop.loop.i after-end-of-line.end-of-line.result at-loop.loop.inv.0
-            after-end-of-line.end-of-line.ensures.0 catalogue entry.args.m c.before.before.deleting.result
-            c.before.before.deleting.ensures.0 w.0.taken,
+        one-some a.p.now at-loop.loop.i after-end-of-line.end-of-line.result at-loop.loop.inv.0 after-end-of-line.end-of-line.ensures.0
+            catalogue a.m c.before.before.deleting.result c.before.before.deleting.ensures.0 w.0.taken,
         at-loop.loop.inv.3,
       ),
       omega (arith, cuts-last1.1, at-loop.loop.inv.4),
@@ -91,9 +81,8 @@ returns c =
       omega (
         arith,
         cuts-last1.0,
-        one-none entry.args.p.now at-loop.loop.i after-end-of-line.end-of-line.result at-loop.loop.inv.0
-            after-end-of-line.end-of-line.ensures.0 catalogue entry.args.m c.before.before.deleting.result
-            c.before.before.deleting.ensures.0 w.0.left,
+        one-none a.p.now at-loop.loop.i after-end-of-line.end-of-line.result at-loop.loop.inv.0 after-end-of-line.end-of-line.ensures.0
+            catalogue a.m c.before.before.deleting.result c.before.before.deleting.ensures.0 w.0.left,
         at-loop.loop.inv.3,
       ),
       omega (arith, cuts-last1.1, at-loop.loop.inv.4),
@@ -101,7 +90,7 @@ returns c =
 
 add-i : tie.Need-add-i Inv-loop μ-loop
 add-i c =
-    let after-end-of-line = c .before .before .before .before in
+    let after-end-of-line = c.before.before.before.before in
     let at-loop = after-end-of-line.before in
     let entry = at-loop.before.before in
     omega (
@@ -112,7 +101,7 @@ add-i c =
 
 loop-less : tie.Need-loop-less Inv-loop μ-loop
 loop-less c =
-    let after-end-of-line = c .before .before .before .before in
+    let after-end-of-line = c.before.before.before.before in
     let at-loop = after-end-of-line.before in
     let entry = at-loop.before.before in
     omega (
@@ -124,15 +113,15 @@ loop-less c =
 
 loop-again : tie.Need-loop-again Inv-loop μ-loop
 loop-again c =
-    let after-end-of-line = c .before .before .before .before in
+    let after-end-of-line = c.before.before.before.before in
     let at-loop = after-end-of-line.before in
     let entry = at-loop.before.before in
-    let line-in1 = line-in entry.args.p.now at-loop.loop.i after-end-of-line.end-of-line.result at-loop.loop.inv.0
+    let a = entry.args in
+    let line-in1 = line-in a.p.now at-loop.loop.i after-end-of-line.end-of-line.result at-loop.loop.inv.0
     after-end-of-line.end-of-line.ensures.0 in
-    let g = cuts-more entry.args.p.now at-loop.loop.i after-end-of-line.end-of-line.result at-loop.loop.inv.0
-    after-end-of-line.end-of-line.ensures.0 catalogue entry.args.m c.before.before.deleting.result c.before.before.deleting.ensures.0
-    (omega (arith, line-in1, c.if2.left)) in
-    let line-width1 = line-width entry.args.p.now at-loop.loop.i after-end-of-line.end-of-line.result at-loop.loop.inv.0
+    let g = cuts-more a.p.now at-loop.loop.i after-end-of-line.end-of-line.result at-loop.loop.inv.0 after-end-of-line.end-of-line.ensures.0
+    catalogue a.m c.before.before.deleting.result c.before.before.deleting.ensures.0 (omega (arith, line-in1, c.if2.left)) in
+    let line-width1 = line-width a.p.now at-loop.loop.i after-end-of-line.end-of-line.result at-loop.loop.inv.0
     after-end-of-line.end-of-line.ensures.0 in
     ⊎-elim
     (λ w. (
@@ -142,9 +131,8 @@ loop-again c =
       omega (
         arith,
         g.0,
-        one-some entry.args.p.now at-loop.loop.i after-end-of-line.end-of-line.result at-loop.loop.inv.0
-            after-end-of-line.end-of-line.ensures.0 catalogue entry.args.m c.before.before.deleting.result
-            c.before.before.deleting.ensures.0 w.0.taken,
+        one-some a.p.now at-loop.loop.i after-end-of-line.end-of-line.result at-loop.loop.inv.0 after-end-of-line.end-of-line.ensures.0
+            catalogue a.m c.before.before.deleting.result c.before.before.deleting.ensures.0 w.0.taken,
         at-loop.loop.inv.3,
       ),
       omega (arith, g.1, at-loop.loop.inv.4),
@@ -156,9 +144,8 @@ loop-again c =
       omega (
         arith,
         g.0,
-        one-none entry.args.p.now at-loop.loop.i after-end-of-line.end-of-line.result at-loop.loop.inv.0
-            after-end-of-line.end-of-line.ensures.0 catalogue entry.args.m c.before.before.deleting.result
-            c.before.before.deleting.ensures.0 w.0.left,
+        one-none a.p.now at-loop.loop.i after-end-of-line.end-of-line.result at-loop.loop.inv.0 after-end-of-line.end-of-line.ensures.0
+            catalogue a.m c.before.before.deleting.result c.before.before.deleting.ensures.0 w.0.left,
         at-loop.loop.inv.3,
       ),
       omega (arith, g.1, at-loop.loop.inv.4),
@@ -173,9 +160,9 @@ count-cuts-spec =
     loop-holds
     end-of-line-requires
     sub-deleting
-    part-deleting-start
-    part-deleting-end
-    deleting-requires
+    (λ part-deleting-start. search needs)
+    (λ part-deleting-end. search needs)
+    (λ deleting-requires κs. search needs)
     add-records
     add-bytes
     returns

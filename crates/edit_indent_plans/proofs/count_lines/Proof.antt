@@ -19,24 +19,16 @@ abbrev μ-loop : tie.MeasureT-loop
 loop-holds : tie.Need-loop-holds Inv-loop μ-loop
 loop-holds c = (omega arith, omega arith, refl)
 
-shared-slice-read-if1 : tie.Need-shared-slice-read-if1 Inv-loop μ-loop
-shared-slice-read-if1 c = search needs
-
 add-n : tie.Need-add-n Inv-loop μ-loop
 add-n c =
-    let at-loop = c .before .before .before in
+    let at-loop = c.before.before.before in
     omega (arith, at-loop.loop.inv.1, c.before.before.loop-test.taken)
-
-add-i : tie.Need-add-i Inv-loop μ-loop
-add-i c = search needs
-
-loop-less : tie.Need-loop-less Inv-loop μ-loop
-loop-less c = search needs
 
 loop-again : tie.Need-loop-again Inv-loop μ-loop
 loop-again c =
-    let at-loop = c .before .before .before in
+    let at-loop = c.before.before.before in
     let entry = at-loop.before in
+    let a = entry.args in
     ⊎-elim
     (λ w. (
       omega (arith, c.before.before.loop-test.taken),
@@ -44,8 +36,8 @@ loop-again c =
       omega (
         arith,
         at-loop.loop.inv.2,
-        count-newline entry.args.p.now at-loop.loop.i c.before.before.loop-test.taken
-            (getD-any entry.args.p.now at-loop.loop.i 256 0 c.before.before.loop-test.taken ∙ w.0.taken),
+        count-newline a.p.now at-loop.loop.i c.before.before.loop-test.taken
+            (getD-any a.p.now at-loop.loop.i 256 0 c.before.before.loop-test.taken ∙ w.0.taken),
       ),
     ))
     (λ w. (
@@ -54,13 +46,13 @@ loop-again c =
       omega (
         arith,
         at-loop.loop.inv.2,
-        count-other entry.args.p.now at-loop.loop.i c.before.before.loop-test.taken
-            (λ x. w.0.left (getD-any entry.args.p.now at-loop.loop.i 0 256 c.before.before.loop-test.taken ∙ x)),
+        count-other a.p.now at-loop.loop.i c.before.before.loop-test.taken
+            (λ x. w.0.left (getD-any a.p.now at-loop.loop.i 0 256 c.before.before.loop-test.taken ∙ x)),
       ),
     )) c.if1.came
 
 returns : tie.Need-returns Inv-loop μ-loop
-returns c = omega (arith, c .before .loop .inv .2, count-end (c .before .before .args .p .now) (c .before .loop .i) (c .loop-test .left))
+returns c = omega (arith, c.before.loop.inv.2, count-end c.before.before.args.p.now c.before.loop.i c.loop-test.left)
 
 pub count-lines-spec : {M : Type 1} → statement M
 count-lines-spec =
@@ -69,9 +61,9 @@ count-lines-spec =
     Inv-loop
     μ-loop
     loop-holds
-    shared-slice-read-if1
+    (λ shared-slice-read-if1. search needs)
     add-n
-    add-i
-    loop-less
+    (λ add-i. search needs)
+    (λ loop-less. search needs)
     loop-again
     returns)

@@ -21,18 +21,9 @@ abbrev μ-loop : tie.MeasureT-loop
 loop-holds : tie.Need-loop-holds Inv-loop μ-loop
 loop-holds c = (omega arith, omega arith)
 
-decode-at-requires : tie.Need-decode-at-requires Inv-loop μ-loop
-decode-at-requires c κs = search needs
-
-enum-known-d : tie.Need-enum-known-d Inv-loop μ-loop
-enum-known-d c = search needs
-
-enum-told : tie.Need-enum-told Inv-loop μ-loop
-enum-told c = search needs
-
 returns : tie.Need-returns Inv-loop μ-loop
 returns c =
-    let in-loop = c .before .before .before in
+    let in-loop = c.before.before.before in
     let at-loop = in-loop.before in
     let entry = at-loop.before.before in (
       stops-bad catalogue entry.args.x.now at-loop.loop.i entry.args.m at-loop.loop.inv.1 in-loop.loop-test.taken
@@ -40,12 +31,9 @@ returns c =
       at-loop.loop.inv.0,
     )
 
-is-white-requires : tie.Need-is-white-requires Inv-loop μ-loop
-is-white-requires c κs = search needs
-
 returns-2 : tie.Need-returns-2 Inv-loop μ-loop
 returns-2 c =
-    let after-d = c .before .before .before in
+    let after-d = c.before.before.before in
     let after-decode-at = after-d.before.before in
     let in-loop = after-decode-at.before in
     let at-loop = in-loop.before in
@@ -58,7 +46,7 @@ returns-2 c =
 
 add-i : tie.Need-add-i Inv-loop μ-loop
 add-i c =
-    let after-d = c .before .before .before in
+    let after-d = c.before.before.before in
     let after-decode-at = after-d.before.before in
     let at-loop = after-decode-at.before.before in
     let entry = at-loop.before.before in
@@ -71,7 +59,7 @@ add-i c =
 
 loop-less : tie.Need-loop-less Inv-loop μ-loop
 loop-less c =
-    let after-d = c .before .before .before in
+    let after-d = c.before.before.before in
     let after-decode-at = after-d.before.before in
     let in-loop = after-decode-at.before in
     let at-loop = in-loop.before in
@@ -86,7 +74,7 @@ loop-less c =
 
 loop-again : tie.Need-loop-again Inv-loop μ-loop
 loop-again c =
-    let after-d = c .before .before .before in
+    let after-d = c.before.before.before in
     let after-decode-at = after-d.before.before in
     let at-loop = after-decode-at.before.before in
     let entry = at-loop.before.before in
@@ -96,7 +84,7 @@ loop-again c =
 
 returns-3 : tie.Need-returns-3 Inv-loop μ-loop
 returns-3 c =
-    let entry = c .before .before .before in (
+    let entry = c.before.before.before in (
       stops-enough catalogue entry.args.x.now c.before.loop.i entry.args.m c.before.loop.inv.1 c.loop-test.left,
       omega (arith, c.before.loop.inv.0, c.loop-test.left),
     )
@@ -108,11 +96,11 @@ deleting-spec =
     Inv-loop
     μ-loop
     loop-holds
-    decode-at-requires
-    enum-known-d
-    enum-told
+    (λ decode-at-requires κs. search needs)
+    (λ enum-known-d. search needs)
+    (λ enum-told. search needs)
     returns
-    is-white-requires
+    (λ is-white-requires κs. search needs)
     returns-2
     add-i
     loop-less

@@ -17,38 +17,30 @@ abbrev μ-loop : tie.MeasureT-loop
 μ-loop s pos last₀ i₀ last i = length s - i
 
 loop-holds : tie.Need-loop-holds Inv-loop μ-loop
-loop-holds c = (omega arith, c .pre, omega arith, last-all (c .args .s .now) (c .args .pos) (c .pre))
-
-shared-slice-read-if1 : tie.Need-shared-slice-read-if1 Inv-loop μ-loop
-shared-slice-read-if1 c = search needs
-
-add-i : tie.Need-add-i Inv-loop μ-loop
-add-i c = search needs
-
-loop-less : tie.Need-loop-less Inv-loop μ-loop
-loop-less c = search needs
+loop-holds c = (omega arith, c.pre, omega arith, last-all c.args.s.now c.args.pos c.pre)
 
 loop-again : tie.Need-loop-again Inv-loop μ-loop
 loop-again c =
-    let at-loop = c .before .before .before in
+    let at-loop = c.before.before.before in
     let entry = at-loop.before in
-    let l : at-loop.loop.i < length entry.args.s.now = omega arith in
+    let a = entry.args in
+    let l : at-loop.loop.i < length a.s.now = omega arith in
     ⊎-elim
     (λ w. (
       omega (arith, at-loop.loop.inv.0),
       omega (arith, l),
       omega (arith, w.1, l),
       at-loop.loop.inv.3
-          ∙ last-here entry.args.s.now at-loop.loop.i at-loop.loop.last c.if1.last l
-          (getD-any entry.args.s.now at-loop.loop.i 256 0 l ∙ w.0.taken) (omega (arith, w.1)),
+          ∙ last-here a.s.now at-loop.loop.i at-loop.loop.last c.if1.last l (getD-any a.s.now at-loop.loop.i 256 0 l ∙ w.0.taken)
+          (omega (arith, w.1)),
     ))
     (λ w. (
       omega (arith, at-loop.loop.inv.0),
       omega (arith, l),
       omega (arith, w.1, at-loop.loop.inv.2),
       at-loop.loop.inv.3
-          ∙ last-on entry.args.s.now at-loop.loop.i at-loop.loop.last c.if1.last l
-          (λ x. w.0.left (getD-any entry.args.s.now at-loop.loop.i 0 256 l ∙ x)) (omega (arith, w.1)),
+          ∙ last-on a.s.now at-loop.loop.i at-loop.loop.last c.if1.last l (λ x. w.0.left (getD-any a.s.now at-loop.loop.i 0 256 l ∙ x))
+          (omega (arith, w.1)),
     )) c.if1.came
 
 returns : tie.Need-returns Inv-loop μ-loop
@@ -58,4 +50,12 @@ returns c =
 pub last-newline-spec : {M : Type 1} → statement M
 last-newline-spec =
     tie.close
-    (tie.spec Inv-loop μ-loop loop-holds shared-slice-read-if1 add-i loop-less loop-again returns)
+    (tie.spec
+    Inv-loop
+    μ-loop
+    loop-holds
+    (λ shared-slice-read-if1. search needs)
+    (λ add-i. search needs)
+    (λ loop-less. search needs)
+    loop-again
+    returns)

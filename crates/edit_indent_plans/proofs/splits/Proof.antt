@@ -20,40 +20,19 @@ abbrev μ-loop : tie.MeasureT-loop
 μ-loop p m i₀ i = length p + 1 - i
 
 loop-holds : tie.Need-loop-holds Inv-loop μ-loop
-loop-holds c = (omega arith, c .before .pre, refl)
+loop-holds c = (omega arith, c.before.pre, refl)
 
 end-of-line-requires : tie.Need-end-of-line-requires Inv-loop μ-loop
-end-of-line-requires c κs = c .loop .inv .0
+end-of-line-requires c κs = c.loop.inv.0
 
 sub-deleting : tie.Need-sub-deleting Inv-loop μ-loop
 sub-deleting c =
-    let entry = c .before .before .before in
+    let entry = c.before.before.before in
     omega (arith, line-in entry.args.p.now c.before.loop.i c.end-of-line.result c.before.loop.inv.0 c.end-of-line.ensures.0)
-
-part-deleting-start : tie.Need-part-deleting-start Inv-loop μ-loop
-part-deleting-start c = search needs
-
-part-deleting-end : tie.Need-part-deleting-end Inv-loop μ-loop
-part-deleting-end c = search needs
-
-deleting-requires : tie.Need-deleting-requires Inv-loop μ-loop
-deleting-requires c κs = search needs
-
-sub-is-boundary : tie.Need-sub-is-boundary Inv-loop μ-loop
-sub-is-boundary c = search needs
-
-part-is-boundary-start : tie.Need-part-is-boundary-start Inv-loop μ-loop
-part-is-boundary-start c = search needs
-
-part-is-boundary-end : tie.Need-part-is-boundary-end Inv-loop μ-loop
-part-is-boundary-end c = search needs
-
-is-boundary-requires : tie.Need-is-boundary-requires Inv-loop μ-loop
-is-boundary-requires c κs = search needs
 
 returns : tie.Need-returns Inv-loop μ-loop
 returns c =
-    let after-deleting = c .before .before .before in
+    let after-deleting = c.before.before.before in
     let after-end-of-line = after-deleting.before.before in
     let at-loop = after-end-of-line.before in
     let entry = at-loop.before.before in
@@ -68,7 +47,7 @@ returns c =
 
 returns-2 : tie.Need-returns-2 Inv-loop μ-loop
 returns-2 c =
-    let after-deleting = c .before .before .before .before in
+    let after-deleting = c.before.before.before.before in
     let after-end-of-line = after-deleting.before.before in
     let at-loop = after-end-of-line.before in
     let entry = at-loop.before.before in
@@ -83,7 +62,7 @@ returns-2 c =
 
 add-i : tie.Need-add-i Inv-loop μ-loop
 add-i c =
-    let after-end-of-line = c .before .before .before .before .before .before in
+    let after-end-of-line = c.before.before.before.before.before.before in
     let at-loop = after-end-of-line.before in
     let entry = at-loop.before.before in
     omega (
@@ -94,7 +73,7 @@ add-i c =
 
 loop-less : tie.Need-loop-less Inv-loop μ-loop
 loop-less c =
-    let after-end-of-line = c .before .before .before .before .before .before in
+    let after-end-of-line = c.before.before.before.before.before.before in
     let at-loop = after-end-of-line.before in
     let entry = at-loop.before.before in
     omega (
@@ -106,23 +85,23 @@ loop-less c =
 
 loop-again : tie.Need-loop-again Inv-loop μ-loop
 loop-again c =
-    let after-deleting = c .before .before .before .before in
+    let after-deleting = c.before.before.before.before in
     let after-end-of-line = after-deleting.before.before in
     let at-loop = after-end-of-line.before in
     let entry = at-loop.before.before in
-    let line-in1 = line-in entry.args.p.now at-loop.loop.i after-end-of-line.end-of-line.result at-loop.loop.inv.0
+    let a = entry.args in
+    let line-in1 = line-in a.p.now at-loop.loop.i after-end-of-line.end-of-line.result at-loop.loop.inv.0
     after-end-of-line.end-of-line.ensures.0 in (
       omega (arith, line-in1, c.if2.left),
-      rest-valid entry.args.p.now at-loop.loop.i after-end-of-line.end-of-line.result at-loop.loop.inv.0
-          after-end-of-line.end-of-line.ensures.0 at-loop.loop.inv.1 (omega (arith, line-in1, c.if2.left)),
+      rest-valid a.p.now at-loop.loop.i after-end-of-line.end-of-line.result at-loop.loop.inv.0 after-end-of-line.end-of-line.ensures.0
+          at-loop.loop.inv.1 (omega (arith, line-in1, c.if2.left)),
       at-loop.loop.inv.2
-          ∙ splits-more entry.args.p.now at-loop.loop.i after-end-of-line.end-of-line.result at-loop.loop.inv.0
-          after-end-of-line.end-of-line.ensures.0 catalogue entry.args.m after-deleting.deleting.result after-deleting.deleting.ensures.0
+          ∙ splits-more a.p.now at-loop.loop.i after-end-of-line.end-of-line.result at-loop.loop.inv.0
+          after-end-of-line.end-of-line.ensures.0 catalogue a.m after-deleting.deleting.result after-deleting.deleting.ensures.0
           c.before.before.is-boundary.result
           (c.before.before.is-boundary.ensures.1
-          (line-valid entry.args.p.now at-loop.loop.i after-end-of-line.end-of-line.result at-loop.loop.inv.0
-          after-end-of-line.end-of-line.ensures.0 at-loop.loop.inv.1)) (not-false _ c.before.if1.left)
-          (omega (arith, line-in1, c.if2.left)),
+          (line-valid a.p.now at-loop.loop.i after-end-of-line.end-of-line.result at-loop.loop.inv.0 after-end-of-line.end-of-line.ensures.0
+          at-loop.loop.inv.1)) (not-false _ c.before.if1.left) (omega (arith, line-in1, c.if2.left)),
     )
 
 pub splits-spec : {M : Type 1} → statement M
@@ -134,13 +113,13 @@ splits-spec =
     loop-holds
     end-of-line-requires
     sub-deleting
-    part-deleting-start
-    part-deleting-end
-    deleting-requires
-    sub-is-boundary
-    part-is-boundary-start
-    part-is-boundary-end
-    is-boundary-requires
+    (λ part-deleting-start. search needs)
+    (λ part-deleting-end. search needs)
+    (λ deleting-requires κs. search needs)
+    (λ sub-is-boundary. search needs)
+    (λ part-is-boundary-start. search needs)
+    (λ part-is-boundary-end. search needs)
+    (λ is-boundary-requires κs. search needs)
     returns
     returns-2
     add-i

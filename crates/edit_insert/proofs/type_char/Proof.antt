@@ -13,17 +13,15 @@ use borrow.Author.Needs.{needs}
 use Rattle.edit_insert.proofs.type_char.Statement.{statement}
 use Rattle.edit_insert.proofs.type_char.Tie as tie
 
-is-alnum-requires : tie.Need-is-alnum-requires
-is-alnum-requires c κs = search needs
-
 add-change : tie.Need-add-change
 add-change c =
-    let entry = c .before .before .before .before .before .before .before .before in
+    let entry = c.before.before.before.before.before.before.before.before in
     omega (arith, ap length entry.pre.1.1.1, encode-max entry.args.ch)
 
 change-requires : tie.Need-change-requires
 change-requires c κs =
-    let entry = c .before .before .before .before .before .before .before .before in (
+    let entry = c.before.before.before.before.before.before.before.before in
+    let a = entry.args in (
       entry.pre.0.log.fit,
       (
         entry.pre.0,
@@ -32,40 +30,31 @@ change-requires c κs =
           (
             (λ e. entry.pre.1.0),
             (
-              an-insert (take entry.args.line.len (now entry.args.text)) entry.args.line.cursor (now entry.args.s),
-              ap (isText catalogue) entry.pre.1.1.1 ∙ typed-text entry.args.ch entry.pre.1.1.0,
+              an-insert (take a.line.len (now a.text)) a.line.cursor (now a.s),
+              ap (isText catalogue) entry.pre.1.1.1 ∙ typed-text a.ch entry.pre.1.1.0,
             ),
           ),
         ),
       ),
     )
 
-same-length : tie.Need-same-length
-same-length c = search needs
-
-same-length-2 : tie.Need-same-length-2
-same-length-2 c = search needs
-
-same-length-3 : tie.Need-same-length-3
-same-length-3 c = search needs
-
 returns : tie.Need-returns
 returns c =
-    let after-change = c .before .before .before .before .before .before in
+    let after-change = c.before.before.before.before.before.before in
     let after-is-alnum = after-change.before in
-    let entry = after-is-alnum .before .before .before .before .before .before .before .before in
-    char-put entry.args.f (lent (now entry.args.text) (now entry.args.records) (now entry.args.texts) entry.args.line entry.args.log)
-    (now entry.args.s) (length (now entry.args.s)) _ _ _ _ entry.args.ch after-is-alnum.is-alnum.result after-is-alnum.is-alnum.ensures
-    entry.pre.1.1.1 refl after-change.change.ensures
+    let entry = after-is-alnum.before.before.before.before.before.before.before.before in
+    let a = entry.args in
+    char-put a.f (lent (now a.text) (now a.records) (now a.texts) a.line a.log) (now a.s) (length (now a.s)) _ _ _ _ a.ch
+    after-is-alnum.is-alnum.result after-is-alnum.is-alnum.ensures entry.pre.1.1.1 refl after-change.change.ensures
 
 pub type-char-spec : {M : Type 1} → statement M
 type-char-spec =
     tie.close
     (tie.spec
-    is-alnum-requires
+    (λ is-alnum-requires κs. search needs)
     add-change
     change-requires
-    same-length
-    same-length-2
-    same-length-3
+    (λ same-length. search needs)
+    (λ same-length-2. search needs)
+    (λ same-length-3. search needs)
     returns)

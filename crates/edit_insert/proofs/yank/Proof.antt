@@ -13,76 +13,49 @@ use borrow.Author.Needs.{needs}
 use Rattle.edit_insert.proofs.yank.Statement.{statement}
 use Rattle.edit_insert.proofs.yank.Tie as tie
 
-check-text-requires : tie.Need-check-text-requires
-check-text-requires c κs = search needs
-
-format-for-requires : tie.Need-format-for-requires
-format-for-requires c κs = search needs
-
 check-requires : tie.Need-check-requires
 check-requires c κs =
-    let after-format-for = c .before .before .before in
+    let after-format-for = c.before.before.before in
     fit-for _ after-format-for.format-for.ensures
-
-says-requires : tie.Need-says-requires
-says-requires c κs = search needs
-
-same-length : tie.Need-same-length
-same-length c = search needs
-
-same-length-2 : tie.Need-same-length-2
-same-length-2 c = search needs
-
-same-length-3 : tie.Need-same-length-3
-same-length-3 c = search needs
 
 returns : tie.Need-returns
 returns c =
-    let after-format-for = c .before .before .before .before .before .before .before in
+    let after-check = c.before.before.before in
+    let after-format-for = c.before.before.before.before.before.before.before in
     let after-check-text = after-format-for.before in
-    let entry = after-check-text .before .before .before .before .before in
-    let l = lent (now entry.args.text) (now entry.args.records) (now entry.args.texts) entry.args.line entry.args.log in
-    in-format l (λ (F : Format). yankCall catalogue F l (now entry.args.buf) entry.args.n) after-format-for.format-for.ensures
-    (yank-refused after-format-for.format-for.result l (now entry.args.buf) entry.args.n c.before.before.before.check.result.number
-    (as-text after-format-for.format-for.result l (now entry.args.buf) false false c.before.before.before.check.result.number
-    after-check-text.check-text.result c.before.before.before.check.ensures.0 after-check-text.check-text.ensures) _ c.before.if1.taken
-    c.says.ensures)
-
-says-requires-2 : tie.Need-says-requires-2
-says-requires-2 c κs = search needs
-
-same-length-4 : tie.Need-same-length-4
-same-length-4 c = search needs
-
-same-length-5 : tie.Need-same-length-5
-same-length-5 c = search needs
-
-same-length-6 : tie.Need-same-length-6
-same-length-6 c = search needs
+    let entry = after-check-text.before.before.before.before.before in
+    let a = entry.args in
+    let l = lent (now a.text) (now a.records) (now a.texts) a.line a.log in
+    in-format l (λ (F : Format). yankCall catalogue F l (now a.buf) a.n) after-format-for.format-for.ensures
+    (yank-refused after-format-for.format-for.result l (now a.buf) a.n after-check.check.result.number
+    (as-text after-format-for.format-for.result l (now a.buf) false false after-check.check.result.number after-check-text.check-text.result
+    after-check.check.ensures.0 after-check-text.check-text.ensures) _ c.before.if1.taken c.says.ensures)
 
 returns-2 : tie.Need-returns-2
 returns-2 c =
-    let after-check = c .before .before .before .before .before in
-    let after-format-for = after-check .before .before .before .before in
+    let else1 = c.before.before.before in
+    let after-check = c.before.before.before.before.before in
+    let after-format-for = after-check.before.before.before.before in
     let after-check-text = after-format-for.before in
-    let entry = after-check-text .before .before .before .before .before in
-    let l = lent (now entry.args.text) (now entry.args.records) (now entry.args.texts) entry.args.line entry.args.log in
-    in-format l (λ (F : Format). yankCall catalogue F l (now entry.args.buf) entry.args.n) after-format-for.format-for.ensures
-    (yank-none after-format-for.format-for.result l (now entry.args.buf) entry.args.n after-check.check.result.number
-    (as-text after-format-for.format-for.result l (now entry.args.buf) false false after-check.check.result.number
-    after-check-text.check-text.result after-check.check.ensures.0 after-check-text.check-text.ensures) _ c.before.before.before.if1.left
-    (after-check.check.ensures.1.0 c.before.before.before.if1.left) c.before.if2.taken c.says2.ensures)
+    let entry = after-check-text.before.before.before.before.before in
+    let a = entry.args in
+    let l = lent (now a.text) (now a.records) (now a.texts) a.line a.log in
+    in-format l (λ (F : Format). yankCall catalogue F l (now a.buf) a.n) after-format-for.format-for.ensures
+    (yank-none after-format-for.format-for.result l (now a.buf) a.n after-check.check.result.number
+    (as-text after-format-for.format-for.result l (now a.buf) false false after-check.check.result.number after-check-text.check-text.result
+    after-check.check.ensures.0 after-check-text.check-text.ensures) _ else1.if1.left (after-check.check.ensures.1.0 else1.if1.left)
+    c.before.if2.taken c.says2.ensures)
 
 put-copies-requires : tie.Need-put-copies-requires
 put-copies-requires c κs =
-    let else1 = c .before .before .before .before .before in
+    let else1 = c.before.before.before.before.before in
     let after-check = else1.before.before in
-    let after-format-for = after-check .before .before .before .before in
+    let after-format-for = after-check.before.before.before.before in
     let after-check-text = after-format-for.before in
-    let entry = after-check-text .before .before .before .before .before in
-    let text-passed1 = text-passed after-format-for.format-for.result
-    (lent (now entry.args.text) (now entry.args.records) (now entry.args.texts) entry.args.line entry.args.log) (now entry.args.buf) false
-    false after-check.check.result.number after-check-text.check-text.result after-check.check.ensures.0
+    let entry = after-check-text.before.before.before.before.before in
+    let a = entry.args in
+    let text-passed1 = text-passed after-format-for.format-for.result (lent (now a.text) (now a.records) (now a.texts) a.line a.log)
+    (now a.buf) false false after-check.check.result.number after-check-text.check-text.result after-check.check.ensures.0
     after-check-text.check-text.ensures else1.if1.left in (
       after-check.check.ensures.1.0 else1.if1.left,
       (
@@ -102,50 +75,42 @@ put-copies-requires c κs =
       ),
     )
 
-same-length-7 : tie.Need-same-length-7
-same-length-7 c = search needs
-
-same-length-8 : tie.Need-same-length-8
-same-length-8 c = search needs
-
-same-length-9 : tie.Need-same-length-9
-same-length-9 c = search needs
-
 returns-3 : tie.Need-returns-3
 returns-3 c =
-    let after-put-copies = c .before .before .before .before .before .before in
-    let else2 = after-put-copies .before .before .before .before in
+    let after-put-copies = c.before.before.before.before.before.before in
+    let else2 = after-put-copies.before.before.before.before in
     let else1 = else2.before.before in
     let after-check = else1.before.before in
-    let after-format-for = after-check .before .before .before .before in
+    let after-format-for = after-check.before.before.before.before in
     let after-check-text = after-format-for.before in
-    let entry = after-check-text .before .before .before .before .before in
-    let l = lent (now entry.args.text) (now entry.args.records) (now entry.args.texts) entry.args.line entry.args.log in
-    in-format l (λ (F : Format). yankCall catalogue F l (now entry.args.buf) entry.args.n) after-format-for.format-for.ensures
-    (yank-some after-format-for.format-for.result l (now entry.args.buf) entry.args.n after-check.check.result.number
-    (as-text after-format-for.format-for.result l (now entry.args.buf) false false after-check.check.result.number
-    after-check-text.check-text.result after-check.check.ensures.0 after-check-text.check-text.ensures) _ else1.if1.left else2.if2.left
-    _ _ _ after-put-copies.put-copies.ensures)
+    let entry = after-check-text.before.before.before.before.before in
+    let a = entry.args in
+    let l = lent (now a.text) (now a.records) (now a.texts) a.line a.log in
+    in-format l (λ (F : Format). yankCall catalogue F l (now a.buf) a.n) after-format-for.format-for.ensures
+    (yank-some after-format-for.format-for.result l (now a.buf) a.n after-check.check.result.number
+    (as-text after-format-for.format-for.result l (now a.buf) false false after-check.check.result.number after-check-text.check-text.result
+    after-check.check.ensures.0 after-check-text.check-text.ensures) _ else1.if1.left else2.if2.left _ _ _
+    after-put-copies.put-copies.ensures)
 
 pub yank-spec : {M : Type 1} → statement M
 yank-spec =
     tie.close
     (tie.spec
-    check-text-requires
-    format-for-requires
+    (λ check-text-requires κs. search needs)
+    (λ format-for-requires κs. search needs)
     check-requires
-    says-requires
-    same-length
-    same-length-2
-    same-length-3
+    (λ says-requires κs. search needs)
+    (λ same-length. search needs)
+    (λ same-length-2. search needs)
+    (λ same-length-3. search needs)
     returns
-    says-requires-2
-    same-length-4
-    same-length-5
-    same-length-6
+    (λ says-requires-2 κs. search needs)
+    (λ same-length-4. search needs)
+    (λ same-length-5. search needs)
+    (λ same-length-6. search needs)
     returns-2
     put-copies-requires
-    same-length-7
-    same-length-8
-    same-length-9
+    (λ same-length-7. search needs)
+    (λ same-length-8. search needs)
+    (λ same-length-9. search needs)
     returns-3)

@@ -14,95 +14,57 @@ use borrow.Author.Needs.{needs}
 use Rattle.edit_kill.proofs.kill.Statement.{statement}
 use Rattle.edit_kill.proofs.kill.Tie as tie
 
-from-codes-requires : tie.Need-from-codes-requires
-from-codes-requires c κs = search needs
-
-enum-known-code : tie.Need-enum-known-code
-enum-known-code c = search needs
-
-enum-told : tie.Need-enum-told
-enum-told c = search needs
-
-format-for-requires : tie.Need-format-for-requires
-format-for-requires c κs = search needs
-
 refusal-requires : tie.Need-refusal-requires
 refusal-requires c κs =
-    let after-format-for = c .before .before .before in
+    let after-format-for = c.before.before.before in
     fit-for _ after-format-for.format-for.ensures
-
-says-requires : tie.Need-says-requires
-says-requires c κs = search needs
-
-same-length : tie.Need-same-length
-same-length c = search needs
-
-same-length-2 : tie.Need-same-length-2
-same-length-2 c = search needs
-
-same-length-3 : tie.Need-same-length-3
-same-length-3 c = search needs
 
 returns : tie.Need-returns
 returns c =
-    let after-format-for = c .before .before .before .before .before in
+    let after-format-for = c.before.before.before.before.before in
     let after-enum-told = after-format-for.before in
     let after-from-codes = after-enum-told.before.before in
-    let entry = after-from-codes .before .before .before .before in
-    let l = lent (now entry.args.text) (now entry.args.records) (now entry.args.texts) entry.args.line entry.args.log in
-    in-format l
-    (λ (F : Format). killCall catalogue F l entry.args.mvt entry.args.n entry.args.at entry.args.word entry.args.search entry.args.ch)
-    after-format-for.format-for.ensures
+    let entry = after-from-codes.before.before.before.before in
+    let a = entry.args in
+    let l = lent (now a.text) (now a.records) (now a.texts) a.line a.log in
+    in-format l (λ (F : Format). killCall catalogue F l a.mvt a.n a.at a.word a.search a.ch) after-format-for.format-for.ensures
     (outcome-as after-format-for.format-for.result l _
-    (killBy catalogue after-format-for.format-for.result l
-    (movementOf entry.args.mvt entry.args.n entry.args.at entry.args.word entry.args.search entry.args.ch)) _ _ _ _
+    (killBy catalogue after-format-for.format-for.result l (movementOf a.mvt a.n a.at a.word a.search a.ch)) _ _ _ _
     (sym
     (ap (killBy catalogue after-format-for.format-for.result l)
     (sym after-from-codes.from-codes.ensures ∙ after-enum-told.enum-told.given.1)))
-    (unnamed after-format-for.format-for.result l (nothing entry.args.line.cursor) c.before.refusal.result _ c.before.refusal.ensures.0
+    (unnamed after-format-for.format-for.result l (nothing a.line.cursor) c.before.refusal.result _ c.before.refusal.ensures.0
     c.says.ensures))
-
-kill-movement-requires : tie.Need-kill-movement-requires
-kill-movement-requires c κs = search needs
-
-same-length-4 : tie.Need-same-length-4
-same-length-4 c = search needs
-
-same-length-5 : tie.Need-same-length-5
-same-length-5 c = search needs
-
-same-length-6 : tie.Need-same-length-6
-same-length-6 c = search needs
 
 returns-2 : tie.Need-returns-2
 returns-2 c =
-    let after-kill-movement = c .before .before .before .before .before .before in
-    let after-code = after-kill-movement .before .before .before .before .before in
+    let after-kill-movement = c.before.before.before.before.before.before in
+    let after-code = after-kill-movement.before.before.before.before.before in
     let after-from-codes = after-code.before.before in
-    let entry = after-from-codes .before .before .before .before in
-    let l = lent (now entry.args.text) (now entry.args.records) (now entry.args.texts) entry.args.line entry.args.log in
+    let entry = after-from-codes.before.before.before.before in
+    let a = entry.args in
+    let l = lent (now a.text) (now a.records) (now a.texts) a.line a.log in
     let F = formatOf l in
-    outcome-as F l (killOf catalogue F l after-code.code.given.0.0)
-    (killBy catalogue F l (movementOf entry.args.mvt entry.args.n entry.args.at entry.args.word entry.args.search entry.args.ch)) _
-    _ _ _ (sym (ap (killBy catalogue F l) (sym after-from-codes.from-codes.ensures ∙ after-code.code.given.1)))
+    outcome-as F l (killOf catalogue F l after-code.code.given.0.0) (killBy catalogue F l (movementOf a.mvt a.n a.at a.word a.search a.ch))
+    _ _ _ _ (sym (ap (killBy catalogue F l) (sym after-from-codes.from-codes.ensures ∙ after-code.code.given.1)))
     after-kill-movement.kill-movement.ensures
 
 pub kill-spec : {M : Type 1} → statement M
 kill-spec =
     tie.close
     (tie.spec
-    from-codes-requires
-    enum-known-code
-    enum-told
-    format-for-requires
+    (λ from-codes-requires κs. search needs)
+    (λ enum-known-code. search needs)
+    (λ enum-told. search needs)
+    (λ format-for-requires κs. search needs)
     refusal-requires
-    says-requires
-    same-length
-    same-length-2
-    same-length-3
+    (λ says-requires κs. search needs)
+    (λ same-length. search needs)
+    (λ same-length-2. search needs)
+    (λ same-length-3. search needs)
     returns
-    kill-movement-requires
-    same-length-4
-    same-length-5
-    same-length-6
+    (λ kill-movement-requires κs. search needs)
+    (λ same-length-4. search needs)
+    (λ same-length-5. search needs)
+    (λ same-length-6. search needs)
     returns-2)

@@ -13,141 +13,109 @@ use borrow.Author.Needs.{needs}
 use Rattle.edit_range.proofs.replace.Statement.{statement}
 use Rattle.edit_range.proofs.replace.Tie as tie
 
-is-split-requires : tie.Need-is-split-requires
-is-split-requires c κs = search needs
-
-is-split-requires-2 : tie.Need-is-split-requires-2
-is-split-requires-2 c κs = search needs
-
-check-text-requires : tie.Need-check-text-requires
-check-text-requires c κs = search needs
-
-format-for-requires : tie.Need-format-for-requires
-format-for-requires c κs = search needs
-
 check-requires : tie.Need-check-requires
 check-requires c κs =
-    let after-format-for = c .before .before .before in
+    let after-format-for = c.before.before.before in
     fit-for _ after-format-for.format-for.ensures
-
-says-requires : tie.Need-says-requires
-says-requires c κs = search needs
-
-same-length : tie.Need-same-length
-same-length c = search needs
-
-same-length-2 : tie.Need-same-length-2
-same-length-2 c = search needs
-
-same-length-3 : tie.Need-same-length-3
-same-length-3 c = search needs
 
 returns : tie.Need-returns
 returns c =
-    let after-format-for = c .before .before .before .before .before .before .before in
+    let after-check = c.before.before.before in
+    let after-format-for = c.before.before.before.before.before.before.before in
     let after-check-text = after-format-for.before in
     let after-is-split2 = after-check-text.before in
     let after-is-split = after-is-split2.before.before in
-    let entry = after-is-split .before .before .before .before .before .before in
-    let l = lent (now entry.args.text) (now entry.args.records) (now entry.args.texts) entry.args.line entry.args.log in
-    in-format l (λ (F : Format). replaceCall catalogue F l entry.args.start entry.args.end (now entry.args.buf))
-    after-format-for.format-for.ensures
-    (replace-refused after-format-for.format-for.result l entry.args.start entry.args.end _ _ after-is-split.is-split.ensures
-    after-is-split2.is-split2.ensures (now entry.args.buf) _ after-check-text.check-text.ensures _ c.before.before.before.check.ensures.0
-    c.before.if1.taken _ c.says.ensures)
+    let entry = after-is-split.before.before.before.before.before.before in
+    let a = entry.args in
+    let l = lent (now a.text) (now a.records) (now a.texts) a.line a.log in
+    in-format l (λ (F : Format). replaceCall catalogue F l a.start a.end (now a.buf)) after-format-for.format-for.ensures
+    (replace-refused after-format-for.format-for.result l a.start a.end _ _ after-is-split.is-split.ensures
+    after-is-split2.is-split2.ensures (now a.buf) _ after-check-text.check-text.ensures _ after-check.check.ensures.0 c.before.if1.taken _
+    c.says.ensures)
 
 add-change : tie.Need-add-change
 add-change c =
-    let else1 = c .before .before .before .before in
+    let else1 = c.before.before.before.before in
     let after-check = else1.before.before in
-    let after-format-for = after-check .before .before .before .before in
+    let after-format-for = after-check.before.before.before.before in
     let after-check-text = after-format-for.before in
     let after-is-split2 = after-check-text.before in
     let after-is-split = after-is-split2.before.before in
-    let entry = after-is-split .before .before .before .before .before .before in
+    let entry = after-is-split.before.before.before.before.before.before in
+    let a = entry.args in
     omega (
       arith,
-      replace-cursor after-format-for.format-for.result
-          (lent (now entry.args.text) (now entry.args.records) (now entry.args.texts) entry.args.line entry.args.log) entry.args.start
-          entry.args.end _ _ after-is-split.is-split.ensures after-is-split2.is-split2.ensures (now entry.args.buf) _
-          after-check-text.check-text.ensures _ after-check.check.ensures.0 else1.if1.left
-          (after-check.check.ensures.1.0 else1.if1.left),
+      replace-cursor after-format-for.format-for.result (lent (now a.text) (now a.records) (now a.texts) a.line a.log) a.start a.end _ _
+          after-is-split.is-split.ensures after-is-split2.is-split2.ensures (now a.buf) _ after-check-text.check-text.ensures _
+          after-check.check.ensures.0 else1.if1.left (after-check.check.ensures.1.0 else1.if1.left),
     )
 
 change-requires : tie.Need-change-requires
 change-requires c κs =
-    let else1 = c .before .before .before .before in
+    let else1 = c.before.before.before.before in
     let after-check = else1.before.before in
-    let after-format-for = after-check .before .before .before .before in
+    let after-format-for = after-check.before.before.before.before in
     let after-check-text = after-format-for.before in
     let after-is-split2 = after-check-text.before in
     let after-is-split = after-is-split2.before.before in
-    let entry = after-is-split .before .before .before .before .before .before in
-    let l = lent (now entry.args.text) (now entry.args.records) (now entry.args.texts) entry.args.line entry.args.log in (
+    let entry = after-is-split.before.before.before.before.before.before in
+    let a = entry.args in
+    let l = lent (now a.text) (now a.records) (now a.texts) a.line a.log in (
       fit-for _ after-format-for.format-for.ensures,
       (
         (after-check.check.ensures.1.0 else1.if1.left),
         (
-          replace-places after-format-for.format-for.result l entry.args.start entry.args.end _ _ after-is-split.is-split.ensures
-              after-is-split2.is-split2.ensures (now entry.args.buf) _ after-check-text.check-text.ensures _
-              after-check.check.ensures.0 else1.if1.left (after-check.check.ensures.1.0 else1.if1.left),
+          replace-places after-format-for.format-for.result l a.start a.end _ _ after-is-split.is-split.ensures
+              after-is-split2.is-split2.ensures (now a.buf) _ after-check-text.check-text.ensures _ after-check.check.ensures.0
+              else1.if1.left (after-check.check.ensures.1.0 else1.if1.left),
           (
-            (λ e. newest-last catalogue after-format-for.format-for.result _ _ (after-check.check.ensures.1.1 else1.if1.left)),
+            (λ e. newest-last catalogue after-format-for.format-for.result _ _
+                (after-check.check.ensures.1.1 else1.if1.left)),
             (
               record { kind = refl; place = refl; old = refl; new = refl },
-              replace-texts after-format-for.format-for.result l entry.args.start entry.args.end _ _
-                  after-is-split.is-split.ensures after-is-split2.is-split2.ensures (now entry.args.buf) _
-                  after-check-text.check-text.ensures _ after-check.check.ensures.0 else1.if1.left
-                  (after-check.check.ensures.1.0 else1.if1.left),
+              replace-texts after-format-for.format-for.result l a.start a.end _ _ after-is-split.is-split.ensures
+                  after-is-split2.is-split2.ensures (now a.buf) _ after-check-text.check-text.ensures _
+                  after-check.check.ensures.0 else1.if1.left (after-check.check.ensures.1.0 else1.if1.left),
             ),
           ),
         ),
       ),
     )
 
-same-length-4 : tie.Need-same-length-4
-same-length-4 c = search needs
-
-same-length-5 : tie.Need-same-length-5
-same-length-5 c = search needs
-
-same-length-6 : tie.Need-same-length-6
-same-length-6 c = search needs
-
 returns-2 : tie.Need-returns-2
 returns-2 c =
-    let after-change = c .before .before .before .before .before .before in
-    let else1 = c .before .before .before .before .before .before .before .before .before .before .before in
+    let after-change = c.before.before.before.before.before.before in
+    let else1 = c.before.before.before.before.before.before.before.before.before.before.before in
     let after-check = else1.before.before in
-    let after-format-for = after-check .before .before .before .before in
+    let after-format-for = after-check.before.before.before.before in
     let after-check-text = after-format-for.before in
     let after-is-split2 = after-check-text.before in
     let after-is-split = after-is-split2.before.before in
-    let entry = after-is-split .before .before .before .before .before .before in
-    let l = lent (now entry.args.text) (now entry.args.records) (now entry.args.texts) entry.args.line entry.args.log in
-    in-format l (λ (F : Format). replaceCall catalogue F l entry.args.start entry.args.end (now entry.args.buf))
-    after-format-for.format-for.ensures
-    (replace-done after-format-for.format-for.result l entry.args.start entry.args.end _ _ after-is-split.is-split.ensures
-    after-is-split2.is-split2.ensures (now entry.args.buf) _ after-check-text.check-text.ensures _ after-check.check.ensures.0
-    else1.if1.left (after-check.check.ensures.1.0 else1.if1.left) _ _ _ _ after-change.change.ensures)
+    let entry = after-is-split.before.before.before.before.before.before in
+    let a = entry.args in
+    let l = lent (now a.text) (now a.records) (now a.texts) a.line a.log in
+    in-format l (λ (F : Format). replaceCall catalogue F l a.start a.end (now a.buf)) after-format-for.format-for.ensures
+    (replace-done after-format-for.format-for.result l a.start a.end _ _ after-is-split.is-split.ensures after-is-split2.is-split2.ensures
+    (now a.buf) _ after-check-text.check-text.ensures _ after-check.check.ensures.0 else1.if1.left
+    (after-check.check.ensures.1.0 else1.if1.left) _ _ _ _ after-change.change.ensures)
 
 pub replace-spec : {M : Type 1} → statement M
 replace-spec =
     tie.close
     (tie.spec
-    is-split-requires
-    is-split-requires-2
-    check-text-requires
-    format-for-requires
+    (λ is-split-requires κs. search needs)
+    (λ is-split-requires-2 κs. search needs)
+    (λ check-text-requires κs. search needs)
+    (λ format-for-requires κs. search needs)
     check-requires
-    says-requires
-    same-length
-    same-length-2
-    same-length-3
+    (λ says-requires κs. search needs)
+    (λ same-length. search needs)
+    (λ same-length-2. search needs)
+    (λ same-length-3. search needs)
     returns
     add-change
     change-requires
-    same-length-4
-    same-length-5
-    same-length-6
+    (λ same-length-4. search needs)
+    (λ same-length-5. search needs)
+    (λ same-length-6. search needs)
     returns-2)

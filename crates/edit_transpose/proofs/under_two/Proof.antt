@@ -5,13 +5,10 @@ use borrow.Author.Needs.{needs}
 use Rattle.edit_transpose.proofs.under_two.Statement.{statement}
 use Rattle.edit_transpose.proofs.under_two.Tie as tie
 
-next-cluster-requires : tie.Need-next-cluster-requires
-next-cluster-requires c κs = search needs
-
 returns : tie.Need-returns
 returns c =
-    let entry = c .before .before .before in
+    let entry = c.before.before.before in
     λ v. under-two catalogue (now entry.args.s) v _ c.before.next-cluster.ensures.0
 
 pub under-two-spec : {M : Type 1} → statement M
-under-two-spec = tie.close (tie.spec next-cluster-requires returns)
+under-two-spec = tie.close (tie.spec (λ next-cluster-requires κs. search needs) returns)

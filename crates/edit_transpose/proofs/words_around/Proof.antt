@@ -6,9 +6,6 @@ use borrow.Author.Needs.{needs}
 use Rattle.edit_transpose.proofs.words_around.Statement.{statement}
 use Rattle.edit_transpose.proofs.words_around.Tie as tie
 
-words-on-requires : tie.Need-words-on-requires
-words-on-requires c κs = search needs
-
 words-back-requires : tie.Need-words-back-requires
 words-back-requires c κs =
     place-d catalogue (now c.before.before.args.s) c.before.before.pre.0 c.before.before.args.n c.before.before.args.pos
@@ -16,19 +13,19 @@ words-back-requires c κs =
 
 words-back-requires-2 : tie.Need-words-back-requires-2
 words-back-requires-2 c κs =
-    let entry = c .before .before .before in
+    let entry = c.before.before.before in
     place-c catalogue (now entry.args.s) entry.pre.0 entry.args.n entry.args.pos (omega arith, entry.pre.2, entry.pre.1, entry.pre.1) _
     c.before.words-on.ensures _ c.words-back.ensures
 
 words-on-requires-2 : tie.Need-words-on-requires-2
 words-on-requires-2 c κs =
-    let entry = c .before .before .before .before in
+    let entry = c.before.before.before.before in
     within-a catalogue (now entry.args.s) entry.pre.0 entry.args.n entry.args.pos (omega arith, entry.pre.2, entry.pre.1, entry.pre.1) _
     c.before.before.words-on.ensures _ c.before.words-back.ensures _ c.words-back2.ensures
 
 returns : tie.Need-returns
 returns c =
-    let after-words-on = c .before .before .before in
+    let after-words-on = c.before.before.before in
     let entry = after-words-on.before.before in
     around-is catalogue (now entry.args.s) entry.pre.0 entry.args.n entry.args.pos (omega arith, entry.pre.2, entry.pre.1, entry.pre.1) _
     after-words-on.words-on.ensures _ c.before.before.words-back.ensures _ c.before.words-back2.ensures _ c.words-on2.ensures
@@ -37,7 +34,7 @@ pub words-around-spec : {M : Type 1} → statement M
 words-around-spec =
     tie.close
     (tie.spec
-    words-on-requires
+    (λ words-on-requires κs. search needs)
     words-back-requires
     words-back-requires-2
     words-on-requires-2

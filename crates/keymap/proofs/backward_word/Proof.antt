@@ -4,27 +4,24 @@ use borrow.Author.Needs.{needs}
 use Rattle.keymap.proofs.backward_word.Statement.{statement}
 use Rattle.keymap.proofs.backward_word.Tie as tie
 
-from-code-requires : tie.Need-from-code-requires
-from-code-requires c κs = search needs
-
-enum-known-w : tie.Need-enum-known-w
-enum-known-w c = search needs
-
-enum-told : tie.Need-enum-told
-enum-told c = search needs
-
 returns : tie.Need-returns
 returns c =
-    let entry = c .before .before .before .before in
-    let e = c .before .before .before .from-code .ensures in
+    let entry = c.before.before.before.before in
+    let e = c.before.before.before.from-code.ensures in
     let w = c.before.w.given in
     sym (ap (backwardWord entry.args.n) (sym e ∙ w.1))
 
 returns-2 : tie.Need-returns-2
 returns-2 c =
-    let entry = c .before .before .before in
+    let entry = c.before.before.before in
     sym (ap (backwardWord entry.args.n) (sym c.before.before.from-code.ensures ∙ c.enum-told.given.1))
 
 pub backward-word-spec : {M : Type 1} → statement M
 backward-word-spec =
-    tie.close (tie.spec from-code-requires enum-known-w enum-told returns returns-2)
+    tie.close
+    (tie.spec
+    (λ from-code-requires κs. search needs)
+    (λ enum-known-w. search needs)
+    (λ enum-told. search needs)
+    returns
+    returns-2)

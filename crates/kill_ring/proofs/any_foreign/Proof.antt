@@ -23,8 +23,8 @@ text : (c : tie.After-check-text Inv-loop μ-loop) → isText catalogue (slotByt
     .before .args .slots)) (now (c .before .before .before .before .before .before .before .args .lens)) (c .before .before .before .before
     .loop .i)) ≡ c .check-text .result
 text c =
-    let at-loop = c .before .before .before .before in
-    let entry = at-loop .before .before .before in
+    let at-loop = c.before.before.before.before in
+    let entry = at-loop.before.before.before in
     sym
     (ap (isText catalogue)
     (slot-part (now entry.args.slots) (now entry.args.lens) at-loop.loop.i c.before.before.slot-len.result
@@ -38,52 +38,28 @@ loop-holds c = (
       c.before.before.args.n,
 )
 
-mul-from : tie.Need-mul-from Inv-loop μ-loop
-mul-from c = search needs
-
-slot-len-requires : tie.Need-slot-len-requires Inv-loop μ-loop
-slot-len-requires c κs = search needs
-
-add-to : tie.Need-add-to Inv-loop μ-loop
-add-to c = search needs
-
-sub-check-text : tie.Need-sub-check-text Inv-loop μ-loop
-sub-check-text c = search needs
-
-part-check-text-start : tie.Need-part-check-text-start Inv-loop μ-loop
-part-check-text-start c = search needs
-
 part-check-text-end : tie.Need-part-check-text-end Inv-loop μ-loop
 part-check-text-end c =
-    let entry = c .before .before .before .before .before in
+    let entry = c.before.before.before.before.before in
     let s : c.slot-len.result ≤ 4096 = short-at (now entry.args.lens) entry.args.n c.before.before.loop.i _ entry.pre.1.1
     c.before.loop-test.taken c.slot-len.ensures.0 in
     omega arith
 
-check-text-requires : tie.Need-check-text-requires Inv-loop μ-loop
-check-text-requires c κs = search needs
-
 returns : tie.Need-returns Inv-loop μ-loop
 returns c =
-    let in-loop = c .before .before .before .before in
+    let in-loop = c.before.before.before.before in
     let at-loop = in-loop.before in
-    let entry = at-loop .before .before .before in
+    let entry = at-loop.before.before.before in
     sym
     (foreign-here catalogue (now entry.args.slots) (now entry.args.lens) at-loop.loop.i entry.args.n in-loop.loop-test.taken
     (text c.before ∙ not-true _ c.if1.taken))
     ∙ at-loop.loop.inv.1
 
-add-i : tie.Need-add-i Inv-loop μ-loop
-add-i c = search needs
-
-loop-less : tie.Need-loop-less Inv-loop μ-loop
-loop-less c = search needs
-
 loop-again : tie.Need-loop-again Inv-loop μ-loop
 loop-again c =
-    let in-loop = c .before .before .before .before in
+    let in-loop = c.before.before.before.before in
     let at-loop = in-loop.before in
-    let entry = at-loop .before .before .before in (
+    let entry = at-loop.before.before.before in (
       omega arith,
       sym
           (foreign-on catalogue (now entry.args.slots) (now entry.args.lens) at-loop.loop.i entry.args.n in-loop.loop-test.taken
@@ -93,7 +69,7 @@ loop-again c =
 
 returns-2 : tie.Need-returns-2 Inv-loop μ-loop
 returns-2 c =
-    let entry = c .before .before .before .before in
+    let entry = c.before.before.before.before in
     sym (foreign-end catalogue (now entry.args.slots) (now entry.args.lens) c.before.loop.i entry.args.n (omega arith))
     ∙ c.before.loop.inv.1
 
@@ -104,15 +80,15 @@ any-foreign-spec =
     Inv-loop
     μ-loop
     loop-holds
-    mul-from
-    slot-len-requires
-    add-to
-    sub-check-text
-    part-check-text-start
+    (λ mul-from. search needs)
+    (λ slot-len-requires κs. search needs)
+    (λ add-to. search needs)
+    (λ sub-check-text. search needs)
+    (λ part-check-text-start. search needs)
     part-check-text-end
-    check-text-requires
+    (λ check-text-requires κs. search needs)
     returns
-    add-i
-    loop-less
+    (λ add-i. search needs)
+    (λ loop-less. search needs)
     loop-again
     returns-2)

@@ -15,26 +15,17 @@ abbrev μ-loop : tie.MeasureT-loop
 μ-loop lens n i₀ i = n - i
 
 loop-holds : tie.Need-loop-holds Inv-loop μ-loop
-loop-holds c = (omega arith, from-none (anyOver (now (c .before .args .lens)) 0) (c .before .args .n))
-
-slot-len-requires : tie.Need-slot-len-requires Inv-loop μ-loop
-slot-len-requires c κs = search needs
+loop-holds c = (omega arith, from-none (anyOver (now c.before.args.lens) 0) c.before.args.n)
 
 returns : tie.Need-returns Inv-loop μ-loop
 returns c =
-    let at-loop = c .before .before .before in
+    let at-loop = c.before.before.before in
     let entry = at-loop.before.before in
     sym (over-here (now entry.args.lens) at-loop.loop.i entry.args.n c.before.before.loop-test.taken (omega arith)) ∙ at-loop.loop.inv.1
 
-add-i : tie.Need-add-i Inv-loop μ-loop
-add-i c = search needs
-
-loop-less : tie.Need-loop-less Inv-loop μ-loop
-loop-less c = search needs
-
 loop-again : tie.Need-loop-again Inv-loop μ-loop
 loop-again c =
-    let at-loop = c .before .before .before in
+    let at-loop = c.before.before.before in
     let entry = at-loop.before.before in (
       omega arith,
       sym (over-on (now entry.args.lens) at-loop.loop.i entry.args.n c.before.before.loop-test.taken (omega arith)) ∙ at-loop.loop.inv.1,
@@ -42,7 +33,7 @@ loop-again c =
 
 returns-2 : tie.Need-returns-2 Inv-loop μ-loop
 returns-2 c =
-    let entry = c .before .before .before in
+    let entry = c.before.before.before in
     sym (over-end (now entry.args.lens) c.before.loop.i entry.args.n (omega arith)) ∙ c.before.loop.inv.1
 
 pub any-over-spec : {M : Type 1} → statement M
@@ -52,9 +43,9 @@ any-over-spec =
     Inv-loop
     μ-loop
     loop-holds
-    slot-len-requires
+    (λ slot-len-requires κs. search needs)
     returns
-    add-i
-    loop-less
+    (λ add-i. search needs)
+    (λ loop-less. search needs)
     loop-again
     returns-2)

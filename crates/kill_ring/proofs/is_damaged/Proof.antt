@@ -10,26 +10,20 @@ use Rattle.kill_ring.proofs.is_damaged.Tie as tie
 
 -- what the call is lent
 abbrev given : tie.Start → Lent
-given c = lent (now (c .args .slots)) (now (c .args .lens)) (c .args .ring)
+given c = lent (now c.args.slots) (now c.args.lens) c.args.ring
 
 returns : tie.Need-returns
 unfolding damaged
-returns c = simp (lt-ltb _ _ (c .if1 .taken))
-
-index-breaks-requires : tie.Need-index-breaks-requires
-index-breaks-requires c κs = search needs
+returns c = simp (lt-ltb _ _ c.if1.taken)
 
 returns-2 : tie.Need-returns-2
 unfolding damaged
-returns-2 c = simp (le-ltb _ _ (c .before .before .if1 .left), sym (c .before .index-breaks .ensures) ∙ c .if2 .taken)
-
-action-breaks-requires : tie.Need-action-breaks-requires
-action-breaks-requires c κs = search needs
+returns-2 c = simp (le-ltb _ _ c.before.before.if1.left, sym c.before.index-breaks.ensures ∙ c.if2.taken)
 
 returns-3 : tie.Need-returns-3
 unfolding damaged
 returns-3 c =
-    let after-index-breaks = c .before .before .before in
+    let after-index-breaks = c.before.before.before in
     let else1 = after-index-breaks.before in
     simp (
       le-ltb _ _ else1.if1.left,
@@ -39,15 +33,15 @@ returns-3 c =
 
 any-foreign-requires : tie.Need-any-foreign-requires
 any-foreign-requires c κs =
-    let else1 = c .before .before .before .before in
-    let entry = else1 .before .before .before .before in
+    let else1 = c.before.before.before.before in
+    let entry = else1.before.before.before.before in
     let s = sized (given entry) entry.pre in
     (omega (arith, s.slots, else1.if1.left), (omega (arith, s.lens, else1.if1.left), all-short (given entry) s else1.if1.left))
 
 returns-4 : tie.Need-returns-4
 unfolding damaged
 returns-4 c =
-    let else2 = c .before .before .before in
+    let else2 = c.before.before.before in
     let after-index-breaks = else2.before in
     let else1 = after-index-breaks.before in
     simp (
@@ -61,9 +55,9 @@ is-damaged-spec =
     tie.close
     (tie.spec
     returns
-    index-breaks-requires
+    (λ index-breaks-requires κs. search needs)
     returns-2
-    action-breaks-requires
+    (λ action-breaks-requires κs. search needs)
     returns-3
     any-foreign-requires
     returns-4)

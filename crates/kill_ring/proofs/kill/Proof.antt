@@ -10,57 +10,24 @@ use Rattle.kill_ring.proofs.kill.Tie as tie
 
 -- what the call is lent
 abbrev given : tie.Start → Lent
-given c = lent (now (c .args .slots)) (now (c .args .lens)) (c .args .ring)
-
-from-code-requires : tie.Need-from-code-requires
-from-code-requires c κs = search needs
-
-enum-known-code : tie.Need-enum-known-code
-enum-known-code c = search needs
-
-enum-told : tie.Need-enum-told
-enum-told c = search needs
-
-check-text-requires : tie.Need-check-text-requires
-check-text-requires c κs = search needs
-
-refusal-requires : tie.Need-refusal-requires
-refusal-requires c κs = search needs
-
-says-requires : tie.Need-says-requires
-says-requires c κs = search needs
-
-same-length : tie.Need-same-length
-same-length c = search needs
-
-same-length-2 : tie.Need-same-length-2
-same-length-2 c = search needs
+given c = lent (now c.args.slots) (now c.args.lens) c.args.ring
 
 returns : tie.Need-returns
 returns c =
-    let after-enum-told = c .before .before .before .before .before in
+    let after-enum-told = c.before.before.before.before.before in
     let after-from-code = after-enum-told.before.before in
-    let entry = after-from-code .before .before .before .before in
+    let entry = after-from-code.before.before.before.before in
     unnamed catalogue (given entry) (now entry.args.text) entry.args.mode c.before.refusal.result _
     (sym after-from-code.from-code.ensures ∙ after-enum-told.enum-told.given.1)
     (c.before.refusal.ensures ∙ ap (λ (b : Bool). checked catalogue (given entry) true (not b)) c.before.before.check-text.ensures)
     c.says.ensures
 
-kill-by-requires : tie.Need-kill-by-requires
-kill-by-requires c κs = search needs
-
-same-length-3 : tie.Need-same-length-3
-same-length-3 c = search needs
-
-same-length-4 : tie.Need-same-length-4
-same-length-4 c = search needs
-
 returns-2 : tie.Need-returns-2
 returns-2 c =
-    let after-kill-by = c .before .before .before .before in
-    let after-code = after-kill-by .before .before .before .before in
+    let after-kill-by = c.before.before.before.before in
+    let after-code = after-kill-by.before.before.before.before in
     let after-from-code = after-code.before.before in
-    let entry = after-from-code .before .before .before .before in
+    let entry = after-from-code.before.before.before.before in
     named catalogue (given entry) (now entry.args.text) entry.args.mode after-code.code.given.0.0 _ _ _
     (sym after-from-code.from-code.ensures ∙ after-code.code.given.1) after-kill-by.kill-by.ensures
 
@@ -68,16 +35,16 @@ pub kill-spec : {M : Type 1} → statement M
 kill-spec =
     tie.close
     (tie.spec
-    from-code-requires
-    enum-known-code
-    enum-told
-    check-text-requires
-    refusal-requires
-    says-requires
-    same-length
-    same-length-2
+    (λ from-code-requires κs. search needs)
+    (λ enum-known-code. search needs)
+    (λ enum-told. search needs)
+    (λ check-text-requires κs. search needs)
+    (λ refusal-requires κs. search needs)
+    (λ says-requires κs. search needs)
+    (λ same-length. search needs)
+    (λ same-length-2. search needs)
     returns
-    kill-by-requires
-    same-length-3
-    same-length-4
+    (λ kill-by-requires κs. search needs)
+    (λ same-length-3. search needs)
+    (λ same-length-4. search needs)
     returns-2)

@@ -12,37 +12,28 @@ use Rattle.kill_ring.proofs.over_sizes.Tie as tie
 
 returns : tie.Need-returns
 unfolding overSizes
-returns c = simp (lt-ltb _ _ (c .if1 .taken))
-
-mul-if2 : tie.Need-mul-if2
-mul-if2 c = search needs
+returns c = simp (lt-ltb _ _ c.if1.taken)
 
 returns-2 : tie.Need-returns-2
 unfolding overSizes
-returns-2 c = simp (le-ltb _ _ (c .before .if1 .left), lt-ltb _ _ (c .if2 .taken))
-
-mul-if3 : tie.Need-mul-if3
-mul-if3 c = search needs
+returns-2 c = simp (le-ltb _ _ c.before.if1.left, lt-ltb _ _ c.if2.taken)
 
 returns-3 : tie.Need-returns-3
 unfolding overSizes
-returns-3 c = simp (le-ltb _ _ (c .before .before .if1 .left), le-ltb _ _ (c .before .if2 .left), lt-ltb _ _ (c .if3 .taken))
-
-in-use-requires : tie.Need-in-use-requires
-in-use-requires c κs = search needs
+returns-3 c = simp (le-ltb _ _ c.before.before.if1.left, le-ltb _ _ c.before.if2.left, lt-ltb _ _ c.if3.taken)
 
 any-over-requires : tie.Need-any-over-requires
 any-over-requires c κs =
-    let entry = c .before .before .before .before .before .before in
+    let entry = c.before.before.before.before.before.before in
     let m : c.in-use.result ≤ entry.args.ring.size = omega (arith, c.in-use.ensures, in-use-most entry.args.ring) in
     omega arith
 
 returns-4 : tie.Need-returns-4
 unfolding overSizes
 returns-4 c =
-    let else2 = c .before .before .before in
+    let else2 = c.before.before.before in
     let else1 = else2.before in
-    let entry = else1 .before .before .before in
+    let entry = else1.before.before.before in
     simp (le-ltb _ _ else1.if1.left, le-ltb _ _ else2.if2.left, le-ltb _ _ c.before.before.if3.left)
     (c.any-over.ensures ∙ ap (anyOver (now entry.args.lens) 0) c.before.in-use.ensures)
 
@@ -51,10 +42,10 @@ over-sizes-spec =
     tie.close
     (tie.spec
     returns
-    mul-if2
+    (λ mul-if2. search needs)
     returns-2
-    mul-if3
+    (λ mul-if3. search needs)
     returns-3
-    in-use-requires
+    (λ in-use-requires κs. search needs)
     any-over-requires
     returns-4)

@@ -13,7 +13,7 @@ use Rattle.kill_ring.proofs.reset.Tie as tie
 
 -- what the call is lent, the number of its checks, and what it does where they pass
 abbrev given : tie.Start → Lent
-given c = lent (now (c .args .slots)) (now (c .args .lens)) (c .args .ring)
+given c = lent (now c.args.slots) (now c.args.lens) c.args.ring
 
 abbrev number : tie.Start → ℕ
 number c = checked catalogue (given c) false false
@@ -21,29 +21,17 @@ number c = checked catalogue (given c) false false
 abbrev resetting : tie.Start → Outcome KillRing
 resetting c = resetOut (valueOf (given c))
 
-refusal-requires : tie.Need-refusal-requires
-refusal-requires c κs = search needs
-
-says-requires : tie.Need-says-requires
-says-requires c κs = search needs
-
 returns : tie.Need-returns
 returns c =
-    let entry = c .before .before .before .before .before in
+    let entry = c.before.before.before.before.before in
     c.says.ensures
     ∙ left-refused entry.args.ring c.before.before.refusal.result (number entry) (resetting entry) c.before.before.refusal.ensures
     c.before.if1.taken
 
-with-action-requires : tie.Need-with-action-requires
-with-action-requires c κs = search needs
-
-says-requires-2 : tie.Need-says-requires-2
-says-requires-2 c κs = search needs
-
 returns-2 : tie.Need-returns-2
 returns-2 c =
-    let after-refusal = c .before .before .before in
-    let entry = after-refusal .before .before .before in
+    let after-refusal = c.before.before.before in
+    let entry = after-refusal.before.before.before in
     left-passed entry.args.ring after-refusal.refusal.result (number entry) (resetting entry) _ after-refusal.refusal.ensures
     c.before.before.if1.left (c.says2.ensures ∙ ap (alone 0) c.before.with-action.ensures ∙ reset-left (given entry))
 
@@ -51,9 +39,9 @@ pub reset-spec : {M : Type 1} → statement M
 reset-spec =
     tie.close
     (tie.spec
-    refusal-requires
-    says-requires
+    (λ refusal-requires κs. search needs)
+    (λ says-requires κs. search needs)
     returns
-    with-action-requires
-    says-requires-2
+    (λ with-action-requires κs. search needs)
+    (λ says-requires-2 κs. search needs)
     returns-2)

@@ -7,15 +7,12 @@ use borrow.Author.Needs.{needs}
 use Rattle.layout.proofs.advance.Statement.{statement}
 use Rattle.layout.proofs.advance.Tie as tie
 
-char-width-requires : tie.Need-char-width-requires
-char-width-requires c κs = search needs
-
 add-result : tie.Need-add-result
-add-result c = omega (arith, c .before .pre, c .char-width .ensures, catalogue-lawful .columns (c .before .args .cp))
+add-result c = omega (arith, c.before.pre, c.char-width.ensures, catalogue-lawful.columns c.before.args.cp)
 
 returns : tie.Need-returns
 unfolding advance
-returns c = ap (λ (w : ℕ). c .before .args .col + w) (c .char-width .ensures)
+returns c = ap (λ (w : ℕ). c.before.args.col + w) c.char-width.ensures
 
 pub advance-spec : {M : Type 1} → statement M
-advance-spec = tie.close (tie.spec char-width-requires add-result returns)
+advance-spec = tie.close (tie.spec (λ char-width-requires κs. search needs) add-result returns)

@@ -23,36 +23,24 @@ abbrev μ-loop : tie.MeasureT-loop
 μ-loop s col at₀ column₀ at column = length s - at
 
 loop-holds : tie.Need-loop-holds Inv-loop μ-loop
-loop-holds c = measure-start catalogue mostColumns reach (c .before .args .s .now) (c .before .args .col)
-
-decode-at-requires : tie.Need-decode-at-requires Inv-loop μ-loop
-decode-at-requires c κs = search needs
-
-enum-known-d : tie.Need-enum-known-d Inv-loop μ-loop
-enum-known-d c = search needs
-
-enum-told : tie.Need-enum-told Inv-loop μ-loop
-enum-told c = search needs
-
-sub-result : tie.Need-sub-result Inv-loop μ-loop
-sub-result c = search needs
+loop-holds c = measure-start catalogue mostColumns reach c.before.args.s.now c.before.args.col
 
 returns : tie.Need-returns Inv-loop μ-loop
 returns c =
-    let at-loop = c .before .before .before .before in
+    let at-loop = c.before.before.before.before in
     let entry = at-loop.before.before in
     measure-end catalogue mostColumns reach entry.args.s.now entry.args.col _ _ at-loop.loop.inv
     (sym c.before.before.decode-at.ensures ∙ ap asFirst c.enum-told.given.1)
 
 advance-requires : tie.Need-advance-requires Inv-loop μ-loop
 advance-requires c κs =
-    let at-loop = c .before .before .before .before .before in
+    let at-loop = c.before.before.before.before.before in
     let entry = at-loop.before.before in
     omega (arith, at-loop.loop.inv.high, at-loop.loop.inv.within, entry.pre)
 
 add-at : tie.Need-add-at Inv-loop μ-loop
 add-at c =
-    let after-decode-at = c .before .before .before .before in
+    let after-decode-at = c.before.before.before.before in
     let at-loop = after-decode-at.before.before in
     let entry = at-loop.before.before in
     omega (
@@ -63,7 +51,7 @@ add-at c =
 
 loop-less : tie.Need-loop-less Inv-loop μ-loop
 loop-less c =
-    let after-decode-at = c .before .before .before .before in
+    let after-decode-at = c.before.before.before.before in
     let at-loop = after-decode-at.before.before in
     let entry = at-loop.before.before in
     omega (
@@ -75,18 +63,15 @@ loop-less c =
 
 loop-again : tie.Need-loop-again Inv-loop μ-loop
 loop-again c =
-    let after-decode-at = c .before .before .before .before in
+    let after-decode-at = c.before.before.before.before in
     let at-loop = after-decode-at.before.before in
     let entry = at-loop.before.before in
     measure-on catalogue mostColumns reach entry.args.s.now entry.args.col _ _ at-loop.loop.inv _ _ _
     (sym after-decode-at.decode-at.ensures ∙ ap asFirst c.before.before.d.given.1) c.advance.ensures
 
-sub-result-2 : tie.Need-sub-result-2 Inv-loop μ-loop
-sub-result-2 c = search needs
-
 returns-2 : tie.Need-returns-2 Inv-loop μ-loop
 returns-2 c =
-    let entry = c .before .before .before in
+    let entry = c.before.before.before in
     measure-end catalogue mostColumns reach entry.args.s.now entry.args.col _ _ c.before.loop.inv
     (first-end entry.args.s.now c.before.loop.at c.loop-test.left)
 
@@ -97,14 +82,14 @@ width-spec =
     Inv-loop
     μ-loop
     loop-holds
-    decode-at-requires
-    enum-known-d
-    enum-told
-    sub-result
+    (λ decode-at-requires κs. search needs)
+    (λ enum-known-d. search needs)
+    (λ enum-told. search needs)
+    (λ sub-result. search needs)
     returns
     advance-requires
     add-at
     loop-less
     loop-again
-    sub-result-2
+    (λ sub-result-2. search needs)
     returns-2)

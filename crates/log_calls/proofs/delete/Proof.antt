@@ -25,111 +25,85 @@ use borrow.Author.Needs.{needs}
 use Rattle.log_calls.proofs.delete.Statement.{statement}
 use Rattle.log_calls.proofs.delete.Tie as tie
 
-format-for-requires : tie.Need-format-for-requires
-format-for-requires c κs = search needs
-
-check-text-requires : tie.Need-check-text-requires
-check-text-requires c κs = search needs
-
 check-requires : tie.Need-check-requires
 check-requires c κs =
-    let after-format-for = c .before .before .before in
+    let after-format-for = c.before.before.before in
     fit-for _ after-format-for.format-for.ensures
-
-says-requires : tie.Need-says-requires
-says-requires c κs = search needs
-
-same-length : tie.Need-same-length
-same-length c = search needs
-
-same-length-2 : tie.Need-same-length-2
-same-length-2 c = search needs
 
 returns : tie.Need-returns
 returns c =
-    let after-check = c .before .before .before in
+    let after-check = c.before.before.before in
     let after-check-text = after-check.before in
-    let after-format-for = after-check-text .before .before .before in
-    let entry = after-format-for .before .before .before .before in
-    let l = lent (now entry.args.records) (now entry.args.texts) entry.args.log in
+    let after-format-for = after-check-text.before.before.before in
+    let entry = after-format-for.before.before.before.before in
+    let a = entry.args in
+    let l = lent (now a.records) (now a.texts) a.log in
     let valueOf1 = valueOf catalogue after-format-for.format-for.result l in
-    let recordOut1 = recordOut after-format-for.format-for.result (sizesOf l)
-    (recordDelete catalogue entry.args.idx (now entry.args.buf) valueOf1.undo) valueOf1 in
+    let recordOut1 = recordOut after-format-for.format-for.result (sizesOf l) (recordDelete catalogue a.idx (now a.buf) valueOf1.undo)
+    valueOf1 in
     let checked1 = checked catalogue after-format-for.format-for.result l in
-    let checked11 = checked1 (not (isText catalogue (now entry.args.buf))) in
-    in-format l (λ (F : Format). deleteCall catalogue F l entry.args.idx (now entry.args.buf)) after-format-for.format-for.ensures
+    let checked11 = checked1 (not (isText catalogue (now a.buf))) in
+    in-format l (λ (F : Format). deleteCall catalogue F l a.idx (now a.buf)) after-format-for.format-for.ensures
     (answered-as after-format-for.format-for.result l (called checked11 recordOut1) _ _ _ _ c.says.ensures
     (refused-by after-format-for.format-for.result l after-check.check.result.number checked11 recordOut1
     (sym (after-check.check.ensures.0 ∙ ap (λ (b : Bool). checked1 (not b)) after-check-text.check-text.ensures)) c.before.if1.taken))
 
-drop-redo-requires : tie.Need-drop-redo-requires
-drop-redo-requires c κs = search needs
-
-says-requires-2 : tie.Need-says-requires-2
-says-requires-2 c κs = search needs
-
-same-length-3 : tie.Need-same-length-3
-same-length-3 c = search needs
-
-same-length-4 : tie.Need-same-length-4
-same-length-4 c = search needs
-
 returns-2 : tie.Need-returns-2
 returns-2 c =
-    let else1 = c .before .before .before in
+    let else1 = c.before.before.before in
     let after-check = else1.before.before in
     let after-check-text = after-check.before in
-    let after-format-for = after-check-text .before .before .before in
-    let entry = after-format-for .before .before .before .before in
-    let l = lent (now entry.args.records) (now entry.args.texts) entry.args.log in
+    let after-format-for = after-check-text.before.before.before in
+    let entry = after-format-for.before.before.before.before in
+    let a = entry.args in
+    let l = lent (now a.records) (now a.texts) a.log in
     let valueOf1 = valueOf catalogue after-format-for.format-for.result l in
-    let recordOut1 = recordOut after-format-for.format-for.result (sizesOf l)
-    (recordDelete catalogue entry.args.idx (now entry.args.buf) valueOf1.undo) valueOf1 in
+    let recordOut1 = recordOut after-format-for.format-for.result (sizesOf l) (recordDelete catalogue a.idx (now a.buf) valueOf1.undo)
+    valueOf1 in
     let checked1 = checked catalogue after-format-for.format-for.result l in
-    in-format l (λ (F : Format). deleteCall catalogue F l entry.args.idx (now entry.args.buf)) after-format-for.format-for.ensures
-    (passed-by after-format-for.format-for.result l after-check.check.result.number (checked1 (not (isText catalogue (now entry.args.buf))))
+    in-format l (λ (F : Format). deleteCall catalogue F l a.idx (now a.buf)) after-format-for.format-for.ensures
+    (passed-by after-format-for.format-for.result l after-check.check.result.number (checked1 (not (isText catalogue (now a.buf))))
     recordOut1 _ _ _ (sym (after-check.check.ensures.0 ∙ ap (λ (b : Bool). checked1 (not b)) after-check-text.check-text.ensures))
     else1.if1.left
     (answered-as after-format-for.format-for.result l recordOut1 _ _ _ _ (c.says2.ensures ∙ ap (says 0) c.before.drop-redo.ensures)
     (only-dropped after-format-for.format-for.result l (after-check.check.ensures.1.0 else1.if1.left) _
-    (delete-none entry.args.idx valueOf1.undo catalogue (now entry.args.buf) c.before.before.if2.taken))))
+    (delete-none a.idx valueOf1.undo catalogue (now a.buf) c.before.before.if2.taken))))
 
 is-single-requires : tie.Need-is-single-requires
 is-single-requires c κs =
-    let else1 = c .before .before .before .before in
+    let else1 = c.before.before.before.before in
     let after-check = else1.before.before in
     let after-check-text = after-check.before in
-    let after-format-for = after-check-text .before .before .before in
-    let entry = after-format-for .before .before .before .before in
-    let l = lent (now entry.args.records) (now entry.args.texts) entry.args.log in
+    let after-format-for = after-check-text.before.before.before in
+    let entry = after-format-for.before.before.before.before in
+    let a = entry.args in
+    let l = lent (now a.records) (now a.texts) a.log in
     (not-false _
-    (own-passed after-format-for.format-for.result l (not (isText catalogue (now entry.args.buf)))
+    (own-passed after-format-for.format-for.result l (not (isText catalogue (now a.buf)))
     (
     (sym
     (after-check.check.ensures.0
     ∙ ap (λ (b : Bool). (checked catalogue after-format-for.format-for.result l) (not b)) after-check-text.check-text.ensures))
     ∙ else1.if1.left)))
 
-slice-aggregate-record : tie.Need-slice-aggregate-record
-slice-aggregate-record c = search needs
-
 record-requires : tie.Need-record-requires
 record-requires c κs =
-    let else1 = c .before .before .before .before .before .before in
+    let else1 = c.before.before.before.before.before.before in
     let after-check = else1.before.before in
     let after-check-text = after-check.before in
-    let after-format-for = after-check-text .before .before .before in
-    let entry = after-format-for .before .before .before .before in
-    let l = lent (now entry.args.records) (now entry.args.texts) entry.args.log in (
+    let after-format-for = after-check-text.before.before.before in
+    let entry = after-format-for.before.before.before.before in
+    let a = entry.args in
+    let l = lent (now a.records) (now a.texts) a.log in (
       fit-for _ after-format-for.format-for.ensures,
       (
         after-check.check.ensures.1.0 else1.if1.left,
         (
           (λ e. newest-last catalogue after-format-for.format-for.result _ _ (after-check.check.ensures.1.1 else1.if1.left)),
           (
-            a-delete entry.args.idx (now entry.args.buf),
+            a-delete a.idx (now a.buf),
             (not-false _
-                (own-passed after-format-for.format-for.result l (not (isText catalogue (now entry.args.buf)))
+                (own-passed after-format-for.format-for.result l (not (isText catalogue (now a.buf)))
                 (
                 (sym
                 (after-check.check.ensures.0
@@ -141,55 +115,49 @@ record-requires c κs =
       ),
     )
 
-same-length-5 : tie.Need-same-length-5
-same-length-5 c = search needs
-
-same-length-6 : tie.Need-same-length-6
-same-length-6 c = search needs
-
 returns-3 : tie.Need-returns-3
 returns-3 c =
-    let after-record = c .before .before .before .before in
+    let after-record = c.before.before.before.before in
     let after-is-single = after-record.before.before in
-    let else2 = after-is-single .before .before .before .before in
+    let else2 = after-is-single.before.before.before.before in
     let else1 = else2.before in
     let after-check = else1.before.before in
     let after-check-text = after-check.before in
-    let after-format-for = after-check-text .before .before .before in
-    let entry = after-format-for .before .before .before .before in
-    let l = lent (now entry.args.records) (now entry.args.texts) entry.args.log in
+    let after-format-for = after-check-text.before.before.before in
+    let entry = after-format-for.before.before.before.before in
+    let a = entry.args in
+    let l = lent (now a.records) (now a.texts) a.log in
     let valueOf1 = valueOf catalogue after-format-for.format-for.result l in
-    let recordDelete1 = recordDelete catalogue entry.args.idx (now entry.args.buf) valueOf1.undo in
+    let recordDelete1 = recordDelete catalogue a.idx (now a.buf) valueOf1.undo in
     let checked1 = checked catalogue after-format-for.format-for.result l in
-    in-format l (λ (F : Format). deleteCall catalogue F l entry.args.idx (now entry.args.buf)) after-format-for.format-for.ensures
-    (passed-by after-format-for.format-for.result l after-check.check.result.number (checked1 (not (isText catalogue (now entry.args.buf))))
+    in-format l (λ (F : Format). deleteCall catalogue F l a.idx (now a.buf)) after-format-for.format-for.ensures
+    (passed-by after-format-for.format-for.result l after-check.check.result.number (checked1 (not (isText catalogue (now a.buf))))
     (recordOut after-format-for.format-for.result (sizesOf l) recordDelete1 valueOf1) _ _ _
     (sym (after-check.check.ensures.0 ∙ ap (λ (b : Bool). checked1 (not b)) after-check-text.check-text.ensures)) else1.if1.left
     (recorded-as catalogue after-format-for.format-for.result l
-    (note after-is-single.is-single.result (delete entry.args.idx (now entry.args.buf)) valueOf1.undo) valueOf1 recordDelete1 _ _ _
-    (ap (λ (b : Bool). note b (delete entry.args.idx (now entry.args.buf)) valueOf1.undo) after-is-single.is-single.ensures
-    ∙ delete-some entry.args.idx valueOf1.undo catalogue (now entry.args.buf) (omega (arith, else2.if2.left)))
-    after-record.«record».ensures))
+    (note after-is-single.is-single.result (delete a.idx (now a.buf)) valueOf1.undo) valueOf1 recordDelete1 _ _ _
+    (ap (λ (b : Bool). note b (delete a.idx (now a.buf)) valueOf1.undo) after-is-single.is-single.ensures
+    ∙ delete-some a.idx valueOf1.undo catalogue (now a.buf) (omega (arith, else2.if2.left))) after-record.«record».ensures))
 
 pub delete-spec : {M : Type 1} → statement M
 delete-spec =
     tie.close
     (tie.spec
-    format-for-requires
-    check-text-requires
+    (λ format-for-requires κs. search needs)
+    (λ check-text-requires κs. search needs)
     check-requires
-    says-requires
-    same-length
-    same-length-2
+    (λ says-requires κs. search needs)
+    (λ same-length. search needs)
+    (λ same-length-2. search needs)
     returns
-    drop-redo-requires
-    says-requires-2
-    same-length-3
-    same-length-4
+    (λ drop-redo-requires κs. search needs)
+    (λ says-requires-2 κs. search needs)
+    (λ same-length-3. search needs)
+    (λ same-length-4. search needs)
     returns-2
     is-single-requires
-    slice-aggregate-record
+    (λ slice-aggregate-record. search needs)
     record-requires
-    same-length-5
-    same-length-6
+    (λ same-length-5. search needs)
+    (λ same-length-6. search needs)
     returns-3)

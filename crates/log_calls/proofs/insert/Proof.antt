@@ -25,61 +25,39 @@ use borrow.Author.Needs.{needs}
 use Rattle.log_calls.proofs.insert.Statement.{statement}
 use Rattle.log_calls.proofs.insert.Tie as tie
 
-format-for-requires : tie.Need-format-for-requires
-format-for-requires c κs = search needs
-
-check-char-requires : tie.Need-check-char-requires
-check-char-requires c κs = search needs
-
 check-requires : tie.Need-check-requires
 check-requires c κs =
-    let after-format-for = c .before .before .before in
+    let after-format-for = c.before.before.before in
     fit-for _ after-format-for.format-for.ensures
-
-says-requires : tie.Need-says-requires
-says-requires c κs = search needs
-
-same-length : tie.Need-same-length
-same-length c = search needs
-
-same-length-2 : tie.Need-same-length-2
-same-length-2 c = search needs
 
 returns : tie.Need-returns
 returns c =
-    let after-check = c .before .before .before in
+    let after-check = c.before.before.before in
     let after-check-char = after-check.before in
-    let after-format-for = after-check-char .before .before .before in
-    let entry = after-format-for .before .before .before in
-    let l = lent (now entry.args.records) (now entry.args.texts) entry.args.log in
+    let after-format-for = after-check-char.before.before.before in
+    let entry = after-format-for.before.before.before in
+    let a = entry.args in
+    let l = lent (now a.records) (now a.texts) a.log in
     let valueOf1 = valueOf catalogue after-format-for.format-for.result l in
-    let recordOut1 = recordOut after-format-for.format-for.result (sizesOf l)
-    (recordInsert catalogue entry.args.idx entry.args.ch valueOf1.undo) valueOf1 in
+    let recordOut1 = recordOut after-format-for.format-for.result (sizesOf l) (recordInsert catalogue a.idx a.ch valueOf1.undo) valueOf1 in
     let checked1 = checked catalogue after-format-for.format-for.result l in
-    in-format l (λ (F : Format). insertCall catalogue F l entry.args.idx entry.args.ch) after-format-for.format-for.ensures
-    (answered-as after-format-for.format-for.result l (called (checked1 (not (isChar catalogue entry.args.ch))) recordOut1) _ _ _ _
-    c.says.ensures
-    (refused-by after-format-for.format-for.result l after-check.check.result.number (checked1 (not (isChar catalogue entry.args.ch)))
-    recordOut1 (sym (after-check.check.ensures.0 ∙ ap (λ (b : Bool). checked1 (not b)) after-check-char.check-char.ensures))
-    c.before.if1.taken))
-
-slice-aggregate-encode-at : tie.Need-slice-aggregate-encode-at
-slice-aggregate-encode-at c = search needs
-
-encode-at-requires : tie.Need-encode-at-requires
-encode-at-requires c κs = search needs
+    in-format l (λ (F : Format). insertCall catalogue F l a.idx a.ch) after-format-for.format-for.ensures
+    (answered-as after-format-for.format-for.result l (called (checked1 (not (isChar catalogue a.ch))) recordOut1) _ _ _ _ c.says.ensures
+    (refused-by after-format-for.format-for.result l after-check.check.result.number (checked1 (not (isChar catalogue a.ch))) recordOut1
+    (sym (after-check.check.ensures.0 ∙ ap (λ (b : Bool). checked1 (not b)) after-check-char.check-char.ensures)) c.before.if1.taken))
 
 array-share-prefix-buf : tie.Need-array-share-prefix-buf
 array-share-prefix-buf c =
-    let else1 = c .before .before .before in
+    let else1 = c.before.before.before in
     let after-check = else1.before.before in
     let after-check-char = after-check.before in
-    let after-format-for = after-check-char .before .before .before in
-    let entry = after-format-for .before .before .before in
-    let l = lent (now entry.args.records) (now entry.args.texts) entry.args.log in
-    typed-within entry.args.ch
+    let after-format-for = after-check-char.before.before.before in
+    let entry = after-format-for.before.before.before in
+    let a = entry.args in
+    let l = lent (now a.records) (now a.texts) a.log in
+    typed-within a.ch
     (not-false _
-    (own-passed after-format-for.format-for.result l (not (isChar catalogue entry.args.ch))
+    (own-passed after-format-for.format-for.result l (not (isChar catalogue a.ch))
     (
     (sym
     (after-check.check.ensures.0
@@ -88,17 +66,18 @@ array-share-prefix-buf c =
 
 slice-aggregate-s : tie.Need-slice-aggregate-s
 slice-aggregate-s c =
-    let else1 = c .before .before .before .before in
+    let else1 = c.before.before.before.before in
     let after-check = else1.before.before in
     let after-check-char = after-check.before in
-    let after-format-for = after-check-char .before .before .before in
-    let entry = after-format-for .before .before .before in
-    let l = lent (now entry.args.records) (now entry.args.texts) entry.args.log in
+    let after-format-for = after-check-char.before.before.before in
+    let entry = after-format-for.before.before.before in
+    let a = entry.args in
+    let l = lent (now a.records) (now a.texts) a.log in
     sym
     (length-take-le _ _
-    (typed-within entry.args.ch
+    (typed-within a.ch
     (not-false _
-    (own-passed after-format-for.format-for.result l (not (isChar catalogue entry.args.ch))
+    (own-passed after-format-for.format-for.result l (not (isChar catalogue a.ch))
     (
     (sym
     (after-check.check.ensures.0
@@ -106,23 +85,18 @@ slice-aggregate-s c =
     ∙ else1.if1.left))) _ c.before.before.encode-at.last.0 c.before.before.encode-at.result (omega arith)
     c.before.before.encode-at.ensures))
 
-is-alnum-requires : tie.Need-is-alnum-requires
-is-alnum-requires c κs = search needs
-
-slice-aggregate-record : tie.Need-slice-aggregate-record
-slice-aggregate-record c = search needs
-
 record-requires : tie.Need-record-requires
 record-requires c κs =
-    let after-encode-at = c .before .before .before .before .before .before .before in
+    let after-encode-at = c.before.before.before.before.before.before.before in
     let else1 = after-encode-at.before.before in
     let after-check = else1.before.before in
     let after-check-char = after-check.before in
-    let after-format-for = after-check-char .before .before .before in
-    let entry = after-format-for .before .before .before in
-    let l = lent (now entry.args.records) (now entry.args.texts) entry.args.log in
+    let after-format-for = after-check-char.before.before.before in
+    let entry = after-format-for.before.before.before in
+    let a = entry.args in
+    let l = lent (now a.records) (now a.texts) a.log in
     let not-false1 = not-false _
-    (own-passed after-format-for.format-for.result l (not (isChar catalogue entry.args.ch))
+    (own-passed after-format-for.format-for.result l (not (isChar catalogue a.ch))
     (
     (sym
     (after-check.check.ensures.0
@@ -134,46 +108,41 @@ record-requires c κs =
         (
           (λ e. newest-last catalogue after-format-for.format-for.result _ _ (after-check.check.ensures.1.1 else1.if1.left)),
           (
-            an-insert entry.args.idx (take after-encode-at.encode-at.result after-encode-at.encode-at.last.0),
+            an-insert a.idx (take after-encode-at.encode-at.result after-encode-at.encode-at.last.0),
             ap (isText catalogue)
-                (typed-bytes entry.args.ch not-false1 _ after-encode-at.encode-at.last.0 after-encode-at.encode-at.result
-                (omega arith) after-encode-at.encode-at.ensures)
-                ∙ typed-text entry.args.ch not-false1,
+                (typed-bytes a.ch not-false1 _ after-encode-at.encode-at.last.0 after-encode-at.encode-at.result (omega arith)
+                after-encode-at.encode-at.ensures)
+                ∙ typed-text a.ch not-false1,
           ),
         ),
       ),
     )
 
-same-length-3 : tie.Need-same-length-3
-same-length-3 c = search needs
-
-same-length-4 : tie.Need-same-length-4
-same-length-4 c = search needs
-
 returns-2 : tie.Need-returns-2
 returns-2 c =
-    let after-record = c .before .before .before .before in
+    let after-record = c.before.before.before.before in
     let after-is-alnum = after-record.before.before in
-    let after-encode-at = after-is-alnum .before .before .before .before .before .before in
+    let after-encode-at = after-is-alnum.before.before.before.before.before.before in
     let else1 = after-encode-at.before.before in
     let after-check = else1.before.before in
     let after-check-char = after-check.before in
-    let after-format-for = after-check-char .before .before .before in
-    let entry = after-format-for .before .before .before in
-    let l = lent (now entry.args.records) (now entry.args.texts) entry.args.log in
+    let after-format-for = after-check-char.before.before.before in
+    let entry = after-format-for.before.before.before in
+    let a = entry.args in
+    let l = lent (now a.records) (now a.texts) a.log in
     let checked1 = checked catalogue after-format-for.format-for.result l in
     let sym1 = sym (after-check.check.ensures.0 ∙ ap (λ (b : Bool). checked1 (not b)) after-check-char.check-char.ensures) in
     let valueOf1 = valueOf catalogue after-format-for.format-for.result l in
-    let recordInsert1 = recordInsert catalogue entry.args.idx entry.args.ch valueOf1.undo in
+    let recordInsert1 = recordInsert catalogue a.idx a.ch valueOf1.undo in
     let take1 = take after-encode-at.encode-at.result after-encode-at.encode-at.last.0 in
-    in-format l (λ (F : Format). insertCall catalogue F l entry.args.idx entry.args.ch) after-format-for.format-for.ensures
-    (passed-by after-format-for.format-for.result l after-check.check.result.number (checked1 (not (isChar catalogue entry.args.ch)))
+    in-format l (λ (F : Format). insertCall catalogue F l a.idx a.ch) after-format-for.format-for.ensures
+    (passed-by after-format-for.format-for.result l after-check.check.result.number (checked1 (not (isChar catalogue a.ch)))
     (recordOut after-format-for.format-for.result (sizesOf l) recordInsert1 valueOf1) _ _ _ sym1 else1.if1.left
-    (recorded-as catalogue after-format-for.format-for.result l
-    (note after-is-alnum.is-alnum.result (insert entry.args.idx take1) valueOf1.undo) valueOf1 recordInsert1 _ _ _
-    (insert-is entry.args.idx entry.args.ch after-is-alnum.is-alnum.result take1 valueOf1.undo after-is-alnum.is-alnum.ensures
-    (typed-bytes entry.args.ch
-    (not-false _ (own-passed after-format-for.format-for.result l (not (isChar catalogue entry.args.ch)) (sym1 ∙ else1.if1.left))) _
+    (recorded-as catalogue after-format-for.format-for.result l (note after-is-alnum.is-alnum.result (insert a.idx take1) valueOf1.undo)
+    valueOf1 recordInsert1 _ _ _
+    (insert-is a.idx a.ch after-is-alnum.is-alnum.result take1 valueOf1.undo after-is-alnum.is-alnum.ensures
+    (typed-bytes a.ch
+    (not-false _ (own-passed after-format-for.format-for.result l (not (isChar catalogue a.ch)) (sym1 ∙ else1.if1.left))) _
     after-encode-at.encode-at.last.0 after-encode-at.encode-at.result (omega arith) after-encode-at.encode-at.ensures))
     after-record.«record».ensures))
 
@@ -181,20 +150,20 @@ pub insert-spec : {M : Type 1} → statement M
 insert-spec =
     tie.close
     (tie.spec
-    format-for-requires
-    check-char-requires
+    (λ format-for-requires κs. search needs)
+    (λ check-char-requires κs. search needs)
     check-requires
-    says-requires
-    same-length
-    same-length-2
+    (λ says-requires κs. search needs)
+    (λ same-length. search needs)
+    (λ same-length-2. search needs)
     returns
-    slice-aggregate-encode-at
-    encode-at-requires
+    (λ slice-aggregate-encode-at. search needs)
+    (λ encode-at-requires κs. search needs)
     array-share-prefix-buf
     slice-aggregate-s
-    is-alnum-requires
-    slice-aggregate-record
+    (λ is-alnum-requires κs. search needs)
+    (λ slice-aggregate-record. search needs)
     record-requires
-    same-length-3
-    same-length-4
+    (λ same-length-3. search needs)
+    (λ same-length-4. search needs)
     returns-2)

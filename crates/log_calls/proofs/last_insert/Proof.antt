@@ -12,20 +12,14 @@ use borrow.Author.Needs.{needs}
 use Rattle.log_calls.proofs.last_insert.Statement.{statement}
 use Rattle.log_calls.proofs.last_insert.Tie as tie
 
-format-for-requires : tie.Need-format-for-requires
-format-for-requires c κs = search needs
-
 check-requires : tie.Need-check-requires
-check-requires c κs = fit-for _ (c .format-for .ensures)
-
-says-requires : tie.Need-says-requires
-says-requires c κs = search needs
+check-requires c κs = fit-for _ c.format-for.ensures
 
 returns : tie.Need-returns
 returns c =
-    let after-check = c .before .before .before in
+    let after-check = c.before.before.before in
     let after-format-for = after-check.before in
-    let entry = after-format-for .before .before .before in
+    let entry = after-format-for.before.before.before in
     let l = lent (now entry.args.records) (now entry.args.texts) entry.args.log in
     says-in-format l (λ (F : Format). lastInsertCall catalogue F l) after-format-for.format-for.ensures
     (c.says.ensures
@@ -35,7 +29,7 @@ returns c =
 
 last-insert-requires : tie.Need-last-insert-requires
 last-insert-requires c κs =
-    let after-check = c .before .before .before in (
+    let after-check = c.before.before.before in (
       fit-for _ after-check.before.format-for.ensures,
       (after-check.check.ensures.1.0 c.before.if1.left, after-check.check.ensures.1.1 c.before.if1.left),
     )
@@ -45,7 +39,7 @@ returns-2 c =
     let else1 = c.before.before in
     let after-check = else1.before.before in
     let after-format-for = after-check.before in
-    let entry = after-format-for .before .before .before in
+    let entry = after-format-for.before.before.before in
     let l = lent (now entry.args.records) (now entry.args.texts) entry.args.log in
     says-in-format l (λ (F : Format). lastInsertCall catalogue F l) after-format-for.format-for.ensures
     (passed-says after-format-for.format-for.result l after-check.check.result.number
@@ -56,9 +50,9 @@ returns-2 c =
 pub last-insert-spec : {M : Type 1} → statement M
 last-insert-spec =
     tie.close (tie.spec
-    format-for-requires
+    (λ format-for-requires κs. search needs)
     check-requires
-    says-requires
+    (λ says-requires κs. search needs)
     returns
     last-insert-requires
     returns-2)

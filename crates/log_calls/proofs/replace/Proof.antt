@@ -22,36 +22,18 @@ use borrow.Author.Needs.{needs}
 use Rattle.log_calls.proofs.replace.Statement.{statement}
 use Rattle.log_calls.proofs.replace.Tie as tie
 
-format-for-requires : tie.Need-format-for-requires
-format-for-requires c κs = search needs
-
-check-text-requires : tie.Need-check-text-requires
-check-text-requires c κs = search needs
-
-check-text-requires-2 : tie.Need-check-text-requires-2
-check-text-requires-2 c κs = search needs
-
 check-requires : tie.Need-check-requires
 check-requires c κs =
-    let after-format-for = c .before .before .before .before in
+    let after-format-for = c.before.before.before.before in
     fit-for _ after-format-for.format-for.ensures
-
-says-requires : tie.Need-says-requires
-says-requires c κs = search needs
-
-same-length : tie.Need-same-length
-same-length c = search needs
-
-same-length-2 : tie.Need-same-length-2
-same-length-2 c = search needs
 
 returns : tie.Need-returns
 returns c =
-    let after-check = c .before .before .before in
+    let after-check = c.before.before.before in
     let after-check-text2 = after-check.before in
     let after-check-text = after-check-text2.before in
-    let after-format-for = after-check-text .before .before .before in
-    let entry = after-format-for .before .before .before .before .before in
+    let after-format-for = after-check-text.before.before.before in
+    let entry = after-format-for.before.before.before.before.before in
     let l = lent (now entry.args.records) (now entry.args.texts) entry.args.log in
     let valueOf1 = valueOf catalogue after-format-for.format-for.result l in
     let recordOut1 = recordOut after-format-for.format-for.result (sizesOf l)
@@ -69,12 +51,12 @@ returns c =
 
 record-requires : tie.Need-record-requires
 record-requires c κs =
-    let else1 = c .before .before .before in
+    let else1 = c.before.before.before in
     let after-check = else1.before.before in
     let after-check-text2 = after-check.before in
     let after-check-text = after-check-text2.before in
-    let after-format-for = after-check-text .before .before .before in
-    let entry = after-format-for .before .before .before .before .before in
+    let after-format-for = after-check-text.before.before.before in
+    let entry = after-format-for.before.before.before.before.before in
     let l = lent (now entry.args.records) (now entry.args.texts) entry.args.log in (
       fit-for _ after-format-for.format-for.ensures,
       (
@@ -97,21 +79,15 @@ record-requires c κs =
       ),
     )
 
-same-length-3 : tie.Need-same-length-3
-same-length-3 c = search needs
-
-same-length-4 : tie.Need-same-length-4
-same-length-4 c = search needs
-
 returns-2 : tie.Need-returns-2
 returns-2 c =
-    let after-record = c .before .before .before .before in
-    let else1 = after-record .before .before .before .before in
+    let after-record = c.before.before.before.before in
+    let else1 = after-record.before.before.before.before in
     let after-check = else1.before.before in
     let after-check-text2 = after-check.before in
     let after-check-text = after-check-text2.before in
-    let after-format-for = after-check-text .before .before .before in
-    let entry = after-format-for .before .before .before .before .before in
+    let after-format-for = after-check-text.before.before.before in
+    let entry = after-format-for.before.before.before.before.before in
     let l = lent (now entry.args.records) (now entry.args.texts) entry.args.log in
     let valueOf1 = valueOf catalogue after-format-for.format-for.result l in
     let recordReplace1 = recordReplace entry.args.idx (now entry.args.old) (now entry.args.new) valueOf1.undo in
@@ -133,15 +109,15 @@ pub replace-spec : {M : Type 1} → statement M
 replace-spec =
     tie.close
     (tie.spec
-    format-for-requires
-    check-text-requires
-    check-text-requires-2
+    (λ format-for-requires κs. search needs)
+    (λ check-text-requires κs. search needs)
+    (λ check-text-requires-2 κs. search needs)
     check-requires
-    says-requires
-    same-length
-    same-length-2
+    (λ says-requires κs. search needs)
+    (λ same-length. search needs)
+    (λ same-length-2. search needs)
     returns
     record-requires
-    same-length-3
-    same-length-4
+    (λ same-length-3. search needs)
+    (λ same-length-4. search needs)
     returns-2)

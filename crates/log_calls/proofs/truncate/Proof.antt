@@ -13,72 +13,56 @@ use borrow.Author.Needs.{needs}
 use Rattle.log_calls.proofs.truncate.Statement.{statement}
 use Rattle.log_calls.proofs.truncate.Tie as tie
 
-format-for-requires : tie.Need-format-for-requires
-format-for-requires c κs = search needs
-
 check-requires : tie.Need-check-requires
-check-requires c κs = fit-for _ (c .before .before .format-for .ensures)
-
-says-requires : tie.Need-says-requires
-says-requires c κs = search needs
-
-same-length : tie.Need-same-length
-same-length c = search needs
-
-same-length-2 : tie.Need-same-length-2
-same-length-2 c = search needs
+check-requires c κs = fit-for _ c.before.before.format-for.ensures
 
 returns : tie.Need-returns
 returns c =
-    let after-check = c .before .before .before in
-    let after-format-for = after-check .before .before .before in
-    let entry = after-format-for .before .before .before in
-    let l = lent (now entry.args.records) (now entry.args.texts) entry.args.log in
+    let after-check = c.before.before.before in
+    let after-format-for = after-check.before.before.before in
+    let entry = after-format-for.before.before.before in
+    let a = entry.args in
+    let l = lent (now a.records) (now a.texts) a.log in
     let checked1 = checked catalogue after-format-for.format-for.result l in
-    in-format l (λ (F : Format). truncateCall catalogue F l entry.args.len) after-format-for.format-for.ensures
+    in-format l (λ (F : Format). truncateCall catalogue F l a.len) after-format-for.format-for.ensures
     (answered-as after-format-for.format-for.result l
-    (called (checked1 false) (truncateOut entry.args.len (valueOf catalogue after-format-for.format-for.result l))) _ _ _ _ c.says.ensures
-    (refused-by after-format-for.format-for.result l after-check.check.result.number (checked1 false) _
-    (sym after-check.check.ensures.0) c.before.if1.taken))
+    (called (checked1 false) (truncateOut a.len (valueOf catalogue after-format-for.format-for.result l))) _ _ _ _ c.says.ensures
+    (refused-by after-format-for.format-for.result l after-check.check.result.number (checked1 false) _ (sym after-check.check.ensures.0)
+    c.before.if1.taken))
 
 truncate-requires : tie.Need-truncate-requires
 truncate-requires c κs =
-    let else1 = c .before .before in
+    let else1 = c.before.before in
     let after-check = else1.before.before in
-    let after-format-for = after-check .before .before .before in
+    let after-format-for = after-check.before.before.before in
     (fit-for _ after-format-for.format-for.ensures, after-check.check.ensures.1.0 else1.if1.left)
-
-same-length-3 : tie.Need-same-length-3
-same-length-3 c = search needs
-
-same-length-4 : tie.Need-same-length-4
-same-length-4 c = search needs
 
 returns-2 : tie.Need-returns-2
 returns-2 c =
-    let after-truncate = c .before .before .before .before in
-    let else1 = after-truncate .before .before .before in
+    let after-truncate = c.before.before.before.before in
+    let else1 = after-truncate.before.before.before in
     let after-check = else1.before.before in
-    let after-format-for = after-check .before .before .before in
-    let entry = after-format-for .before .before .before in
-    let l = lent (now entry.args.records) (now entry.args.texts) entry.args.log in
-    in-format l (λ (F : Format). truncateCall catalogue F l entry.args.len) after-format-for.format-for.ensures
+    let after-format-for = after-check.before.before.before in
+    let entry = after-format-for.before.before.before in
+    let a = entry.args in
+    let l = lent (now a.records) (now a.texts) a.log in
+    in-format l (λ (F : Format). truncateCall catalogue F l a.len) after-format-for.format-for.ensures
     (passed-by after-format-for.format-for.result l after-check.check.result.number
     ((checked catalogue after-format-for.format-for.result l) false)
-    (truncateOut entry.args.len (valueOf catalogue after-format-for.format-for.result l)) _ _ _ (sym after-check.check.ensures.0)
-    else1.if1.left after-truncate.truncate.ensures)
+    (truncateOut a.len (valueOf catalogue after-format-for.format-for.result l)) _ _ _ (sym after-check.check.ensures.0) else1.if1.left
+    after-truncate.truncate.ensures)
 
 pub truncate-spec : {M : Type 1} → statement M
 truncate-spec =
     tie.close
     (tie.spec
-    format-for-requires
+    (λ format-for-requires κs. search needs)
     check-requires
-    says-requires
-    same-length
-    same-length-2
+    (λ says-requires κs. search needs)
+    (λ same-length. search needs)
+    (λ same-length-2. search needs)
     returns
     truncate-requires
-    same-length-3
-    same-length-4
+    (λ same-length-3. search needs)
+    (λ same-length-4. search needs)
     returns-2)

@@ -25,27 +25,18 @@ stands : (c : tie.Else4) → Sized c.before.before.before.before.before.before.b
     c.before.before.before.before.before.before.before.before.args.at c.before.before.before.before.wide.result
     c.before.before.record-size.result
 stands c =
-    let after-wide = c .before .before .before .before in
+    let after-wide = c.before.before.before.before in
     sized _ _ _ _ _ after-wide.wide.ensures.0 c.before.before.record-size.ensures.0 c.before.if3.left c.if4.left
-
-no-record-requires : tie.Need-no-record-requires
-no-record-requires c κs = search needs
 
 returns : tie.Need-returns
 returns c =
-    let entry = c .before .before .before in
-    none-read entry.args.f (now entry.args.records) entry.args.at _ c.no-record.ensures
-    (no-byte entry.args.f (now entry.args.records) entry.args.at c.before.if1.taken)
-
-shared-slice-read-wide : tie.Need-shared-slice-read-wide
-shared-slice-read-wide c = search needs
-
-wide-requires : tie.Need-wide-requires
-wide-requires c κs = search needs
+    let entry = c.before.before.before in
+    let a = entry.args in
+    none-read a.f (now a.records) a.at _ c.no-record.ensures (no-byte a.f (now a.records) a.at c.before.if1.taken)
 
 returns-2 : tie.Need-returns-2
 returns-2 c =
-    let else1 = c .before .before .before in
+    let else1 = c.before.before.before in
     let entry = else1.before.before in
     record {
       same = bare-read entry.args.f (now entry.args.records) entry.args.at _ c.before.wide.ensures.0 c.if2.taken else1.if1.left;
@@ -56,64 +47,40 @@ returns-2 c =
       new = omega arith;
     }
 
-record-size-requires : tie.Need-record-size-requires
-record-size-requires c κs = search needs
-
-no-record-requires-2 : tie.Need-no-record-requires-2
-no-record-requires-2 c κs = search needs
-
 returns-3 : tie.Need-returns-3
 returns-3 c =
-    let after-wide = c .before .before .before .before in
-    let entry = after-wide .before .before .before .before in
-    none-read entry.args.f (now entry.args.records) entry.args.at _ c.no-record2.ensures
-    (no-kind entry.args.f (now entry.args.records) entry.args.at _ _ after-wide.wide.ensures.0 c.before.before.record-size.ensures.0
-    c.before.if3.taken)
-
-sub-if4 : tie.Need-sub-if4
-sub-if4 c = search needs
-
-no-record-requires-3 : tie.Need-no-record-requires-3
-no-record-requires-3 c κs = search needs
+    let after-wide = c.before.before.before.before in
+    let entry = after-wide.before.before.before.before in
+    let a = entry.args in
+    none-read a.f (now a.records) a.at _ c.no-record2.ensures
+    (no-kind a.f (now a.records) a.at _ _ after-wide.wide.ensures.0 c.before.before.record-size.ensures.0 c.before.if3.taken)
 
 returns-4 : tie.Need-returns-4
 returns-4 c =
-    let after-record-size = c .before .before .before in
+    let after-record-size = c.before.before.before in
     let after-wide = after-record-size.before.before in
-    let entry = after-wide .before .before .before .before in
-    none-read entry.args.f (now entry.args.records) entry.args.at _ c.no-record3.ensures
-    (no-body entry.args.f (now entry.args.records) entry.args.at _ _ after-wide.wide.ensures.0 after-record-size.record-size.ensures.0
-    c.before.if4.taken)
-
-add-read-num : tie.Need-add-read-num
-add-read-num c = search needs
+    let entry = after-wide.before.before.before.before in
+    let a = entry.args in
+    none-read a.f (now a.records) a.at _ c.no-record3.ensures
+    (no-body a.f (now a.records) a.at _ _ after-wide.wide.ensures.0 after-record-size.record-size.ensures.0 c.before.if4.taken)
 
 read-num-requires : tie.Need-read-num-requires
 read-num-requires c κs =
-    let else2 = c .before .before .before in
-    let entry = else2 .before .before .before .before .before in
+    let else2 = c.before.before.before in
+    let entry = else2.before.before.before.before.before in
     (entry.pre.width, omega (arith, two-fit entry.args.f (now entry.args.records) entry.args.at _ _ (stands (c)) else2.if2.left))
-
-add-read-num-2 : tie.Need-add-read-num-2
-add-read-num-2 c = search needs
-
-add-read-num-3 : tie.Need-add-read-num-3
-add-read-num-3 c = search needs
 
 read-num-requires-2 : tie.Need-read-num-requires-2
 read-num-requires-2 c κs =
-    let else2 = c .before .before .before .before in
-    let entry = else2 .before .before .before .before .before in
+    let else2 = c.before.before.before.before in
+    let entry = else2.before.before.before.before.before in
     (entry.pre.width, omega (arith, two-fit entry.args.f (now entry.args.records) entry.args.at _ _ (stands c.before) else2.if2.left))
-
-add-if5 : tie.Need-add-if5
-add-if5 c = search needs
 
 returns-5 : tie.Need-returns-5
 returns-5 c =
-    let else4 = c .before .before .before in
+    let else4 = c.before.before.before in
     let after-record-size = else4.before.before in
-    let entry = after-record-size .before .before .before .before .before .before in
+    let entry = after-record-size.before.before.before.before.before.before in
     record {
       same = insert-read entry.args.f (now entry.args.records) entry.args.at _ _ (stands else4) _ _ c.if5.taken
           c.before.before.read-num.ensures.0 c.before.read-num2.ensures.0;
@@ -124,15 +91,12 @@ returns-5 c =
       new = c.before.read-num2.ensures.1;
     }
 
-add-if6 : tie.Need-add-if6
-add-if6 c = search needs
-
 returns-6 : tie.Need-returns-6
 returns-6 c =
-    let after-read-num = c .before .before .before in
+    let after-read-num = c.before.before.before in
     let else4 = after-read-num.before in
     let after-record-size = else4.before.before in
-    let entry = after-record-size .before .before .before .before .before .before in
+    let entry = after-record-size.before.before.before.before.before.before in
     record {
       same = delete-read entry.args.f (now entry.args.records) entry.args.at _ _ (stands else4) _ _ c.if6.taken
           after-read-num.read-num.ensures.0 c.before.before.read-num2.ensures.0;
@@ -143,20 +107,11 @@ returns-6 c =
       new = omega arith;
     }
 
-add-read-num-4 : tie.Need-add-read-num-4
-add-read-num-4 c = search needs
-
-add-read-num-5 : tie.Need-add-read-num-5
-add-read-num-5 c = search needs
-
-add-read-num-6 : tie.Need-add-read-num-6
-add-read-num-6 c = search needs
-
 read-num-requires-3 : tie.Need-read-num-requires-3
 read-num-requires-3 c κs =
-    let else4 = c .before .before .before .before in
-    let else2 = else4 .before .before .before in
-    let entry = else2 .before .before .before .before .before in (
+    let else4 = c.before.before.before.before in
+    let else2 = else4.before.before.before in
+    let entry = else2.before.before.before.before.before in (
       entry.pre.width,
       omega (
         arith,
@@ -166,12 +121,12 @@ read-num-requires-3 c κs =
 
 returns-7 : tie.Need-returns-7
 returns-7 c =
-    let after-read-num2 = c .before .before .before in
+    let after-read-num2 = c.before.before.before in
     let after-read-num = after-read-num2.before in
     let else4 = after-read-num.before in
     let after-record-size = else4.before.before in
     let else2 = after-record-size.before in
-    let entry = else2 .before .before .before .before .before in
+    let entry = else2.before.before.before.before.before in
     record {
       same = replace-read entry.args.f (now entry.args.records) entry.args.at _ _ (stands else4) else2.if2.left c.before.before.if5.left
           c.before.if6.left _ _ _ after-read-num.read-num.ensures.0 after-read-num2.read-num2.ensures.0 c.read-num3.ensures.0;
@@ -186,28 +141,28 @@ pub read-record-spec : {M : Type 1} → statement M
 read-record-spec =
     tie.close
     (tie.spec
-    no-record-requires
+    (λ no-record-requires κs. search needs)
     returns
-    shared-slice-read-wide
-    wide-requires
+    (λ shared-slice-read-wide. search needs)
+    (λ wide-requires κs. search needs)
     returns-2
-    record-size-requires
-    no-record-requires-2
+    (λ record-size-requires κs. search needs)
+    (λ no-record-requires-2 κs. search needs)
     returns-3
-    sub-if4
-    no-record-requires-3
+    (λ sub-if4. search needs)
+    (λ no-record-requires-3 κs. search needs)
     returns-4
-    add-read-num
+    (λ add-read-num. search needs)
     read-num-requires
-    add-read-num-2
-    add-read-num-3
+    (λ add-read-num-2. search needs)
+    (λ add-read-num-3. search needs)
     read-num-requires-2
-    add-if5
+    (λ add-if5. search needs)
     returns-5
-    add-if6
+    (λ add-if6. search needs)
     returns-6
-    add-read-num-4
-    add-read-num-5
-    add-read-num-6
+    (λ add-read-num-4. search needs)
+    (λ add-read-num-5. search needs)
+    (λ add-read-num-6. search needs)
     read-num-requires-3
     returns-7)

@@ -11,27 +11,18 @@ use Rattle.log_state.proofs.check.Tie as tie
 abbrev lending : tie.Start → Lent
 lending s = lent (now s.args.records) (now s.args.texts) s.args.log
 
-over-sizes-requires : tie.Need-over-sizes-requires
-over-sizes-requires c κs = search needs
-
-refused-requires : tie.Need-refused-requires
-refused-requires c κs = search needs
-
 returns : tie.Need-returns
 returns c =
-    let entry = c .before .before .before .before .before in
+    let entry = c.before.before.before.before.before in
     let over = sym c.before.before.over-sizes.ensures ∙ c.before.if1.taken in (
       c.refused.ensures ∙ says-sizes entry.args.f (lending entry) entry.args.foreign over,
       ((λ e. absurd (omega (arith, c.refused.ensures))), (λ e. absurd (omega (arith, c.refused.ensures)))),
     )
 
-refused-requires-2 : tie.Need-refused-requires-2
-refused-requires-2 c κs = search needs
-
 returns-2 : tie.Need-returns-2
 returns-2 c =
-    let after-over-sizes = c .before .before .before in
-    let entry = after-over-sizes .before .before .before in
+    let after-over-sizes = c.before.before.before in
+    let entry = after-over-sizes.before.before.before in
     let fine = sym after-over-sizes.over-sizes.ensures ∙ c.before.before.if1.left in (
       c.refused2.ensures ∙ says-foreign entry.args.f (lending entry) entry.args.foreign fine c.before.if2.taken,
       ((λ e. absurd (omega (arith, c.refused2.ensures))), (λ e. absurd (omega (arith, c.refused2.ensures)))),
@@ -39,19 +30,16 @@ returns-2 c =
 
 look-requires : tie.Need-look-requires
 look-requires c κs =
-    let after-over-sizes = c .before .before in
-    let entry = after-over-sizes .before .before .before in
+    let after-over-sizes = c.before.before in
+    let entry = after-over-sizes.before.before.before in
     let s = sized entry.args.f (lending entry) (sym after-over-sizes.over-sizes.ensures ∙ c.before.if1.left) in
     (entry.pre, (s.room, s.space))
 
-refused-requires-3 : tie.Need-refused-requires-3
-refused-requires-3 c κs = search needs
-
 returns-3 : tie.Need-returns-3
 returns-3 c =
-    let after-look = c .before .before .before in
-    let after-over-sizes = after-look .before .before .before in
-    let entry = after-over-sizes .before .before .before in
+    let after-look = c.before.before.before in
+    let after-over-sizes = after-look.before.before.before in
+    let entry = after-over-sizes.before.before.before in
     let fine = sym after-over-sizes.over-sizes.ensures ∙ after-look.before.before.if1.left in
     let broken = not-false _ (sym after-look.look.ensures.0 ∙ not-true _ c.before.if3.taken) in (
       c.refused3.ensures ∙ says-damaged entry.args.f (lending entry) entry.args.foreign fine after-look.before.if2.left broken,
@@ -60,9 +48,9 @@ returns-3 c =
 
 returns-4 : tie.Need-returns-4
 returns-4 c =
-    let after-look = c .before .before .before in
-    let after-over-sizes = after-look .before .before .before in
-    let entry = after-over-sizes .before .before .before in
+    let after-look = c.before.before.before in
+    let after-over-sizes = after-look.before.before.before in
+    let entry = after-over-sizes.before.before.before in
     let fine = sym after-over-sizes.over-sizes.ensures ∙ after-look.before.before.if1.left in
     let sound = not-false _ c.before.if3.left in
     let whole = not-true _ (sym after-look.look.ensures.0 ∙ sound) in (
@@ -78,12 +66,12 @@ pub check-spec : {M : Type 1} → statement M
 check-spec =
     tie.close
     (tie.spec
-    over-sizes-requires
-    refused-requires
+    (λ over-sizes-requires κs. search needs)
+    (λ refused-requires κs. search needs)
     returns
-    refused-requires-2
+    (λ refused-requires-2 κs. search needs)
     returns-2
     look-requires
-    refused-requires-3
+    (λ refused-requires-3 κs. search needs)
     returns-3
     returns-4)

@@ -5,14 +5,11 @@ use borrow.Author.Needs.{needs}
 use Rattle.log_state.proofs.is_single.Statement.{statement}
 use Rattle.log_state.proofs.is_single.Tie as tie
 
-next-cluster-requires : tie.Need-next-cluster-requires
-next-cluster-requires c κs = search needs
-
 returns : tie.Need-returns
 returns c =
-    let entry = c .before .before .before .before in
+    let entry = c.before.before.before.before in
     single catalogue (now entry.args.s) entry.pre c.before.before.next-cluster.result c.before.before.next-cluster.ensures.0
     c.before.before.next-cluster.ensures.1
 
 pub is-single-spec : {M : Type 1} → statement M
-is-single-spec = tie.close (tie.spec next-cluster-requires returns)
+is-single-spec = tie.close (tie.spec (λ next-cluster-requires κs. search needs) returns)

@@ -8,25 +8,10 @@ use borrow.Author.Needs.{needs}
 use Rattle.motion.proofs.after_cluster.Statement.{statement}
 use Rattle.motion.proofs.after_cluster.Tie as tie
 
-sub-next-cluster : tie.Need-sub-next-cluster
-sub-next-cluster c = search needs
-
-part-next-cluster-start : tie.Need-part-next-cluster-start
-part-next-cluster-start c = search needs
-
-part-next-cluster-end : tie.Need-part-next-cluster-end
-part-next-cluster-end c = search needs
-
-next-cluster-requires : tie.Need-next-cluster-requires
-next-cluster-requires c κs = search needs
-
-add-result : tie.Need-add-result
-add-result c = search needs
-
 returns : tie.Need-returns
 unfolding afterCluster
 returns c =
-    let entry = c .before .before .before .before in
+    let entry = c.before.before.before.before in
     let t = next-told catalogue entry.args.s.now entry.args.pos _ entry.pre
     (c.before.next-cluster.ensures.0, c.before.next-cluster.ensures.1) in
     (ap (λ (k : Cluster). entry.args.pos + k.len) t.0, t.1)
@@ -35,9 +20,9 @@ pub after-cluster-spec : {M : Type 1} → statement M
 after-cluster-spec =
     tie.close
     (tie.spec
-    sub-next-cluster
-    part-next-cluster-start
-    part-next-cluster-end
-    next-cluster-requires
-    add-result
+    (λ sub-next-cluster. search needs)
+    (λ part-next-cluster-start. search needs)
+    (λ part-next-cluster-end. search needs)
+    (λ next-cluster-requires κs. search needs)
+    (λ add-result. search needs)
     returns)

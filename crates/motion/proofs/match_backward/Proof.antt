@@ -22,27 +22,15 @@ abbrev μ-loop : tie.MeasureT-loop
 μ-loop s pos c n found₀ at₀ left₀ found at left = at
 
 loop-holds : tie.Need-loop-holds Inv-loop μ-loop
-loop-holds c = (c .before .pre .2, c .before .pre .1, refl)
+loop-holds c = (c.before.pre.2, c.before.pre.1, refl)
 
 returns : tie.Need-returns Inv-loop μ-loop
 unfolding matchBackward nthMatch
 returns c =
-    let entry = c .before .before .before .before in
+    let entry = c.before.before.before.before in
     let z = c.if1.taken in
-    sym (c.before.before.loop.inv.2
-    ∙ rw z (behind-end entry.args.s.now entry.args.c c.before.before.loop.found c.before.before.loop.left))
-
-prev-char-requires : tie.Need-prev-char-requires Inv-loop μ-loop
-prev-char-requires c κs = search needs
-
-decode-at-requires : tie.Need-decode-at-requires Inv-loop μ-loop
-decode-at-requires c κs = search needs
-
-enum-known-d : tie.Need-enum-known-d Inv-loop μ-loop
-enum-known-d c = search needs
-
-enum-told : tie.Need-enum-told Inv-loop μ-loop
-enum-told c = search needs
+    sym
+    (c.before.before.loop.inv.2 ∙ rw z (behind-end entry.args.s.now entry.args.c c.before.before.loop.found c.before.before.loop.left))
 
 -- the character that prev_char finds ends where the loop stands
 ended : (c : tie.After-prev-char Inv-loop μ-loop) →
@@ -55,19 +43,17 @@ ended c =
 
 returns-2 : tie.Need-returns-2 Inv-loop μ-loop
 returns-2 c =
-    ends-never _ _ _ _ (ended c.before.before.before) (sym c.before.before.decode-at.ensures ∙ ap asFirst c.enum-told.given.1)
-
-sub-left : tie.Need-sub-left Inv-loop μ-loop
-sub-left c = search needs
+    let after-prev-char = c.before.before.before in
+    ends-never _ _ _ _ (ended after-prev-char) (sym c.before.before.decode-at.ensures ∙ ap asFirst c.enum-told.given.1)
 
 loop-less : tie.Need-loop-less Inv-loop μ-loop
 loop-less c =
-    let after-prev-char = c .before .before .before .before .before in
-    ended after-prev-char .below
+    let after-prev-char = c.before.before.before.before.before in
+    (ended after-prev-char) .below
 
 loop-again : tie.Need-loop-again Inv-loop μ-loop
 loop-again c =
-    let after-decode-at = c .before .before .before .before in
+    let after-decode-at = c.before.before.before.before in
     let after-prev-char = after-decode-at.before in
     let in-loop = after-prev-char.before.before in
     let at-loop = in-loop.before in
@@ -83,12 +69,12 @@ loop-again c =
 
 loop-less-2 : tie.Need-loop-less-2 Inv-loop μ-loop
 loop-less-2 c =
-    let after-prev-char = c .before .before .before .before .before in
-    ended after-prev-char .below
+    let after-prev-char = c.before.before.before.before.before in
+    (ended after-prev-char) .below
 
 loop-again-2 : tie.Need-loop-again-2 Inv-loop μ-loop
 loop-again-2 c =
-    let after-decode-at = c .before .before .before .before in
+    let after-decode-at = c.before.before.before.before in
     let after-prev-char = after-decode-at.before in
     let at-loop = after-prev-char.before.before.before in
     let entry = at-loop.before.before in
@@ -104,7 +90,7 @@ loop-again-2 c =
 returns-3 : tie.Need-returns-3 Inv-loop μ-loop
 unfolding matchBackward nthMatch
 returns-3 c =
-    let entry = c .before .before .before in
+    let entry = c.before.before.before in
     sym
     (c.before.loop.inv.2
     ∙ found-zero c.before.loop.found (behind entry.args.s.now entry.args.c c.before.loop.at) c.before.loop.left (omega arith))
@@ -117,12 +103,12 @@ match-backward-spec =
     μ-loop
     loop-holds
     returns
-    prev-char-requires
-    decode-at-requires
-    enum-known-d
-    enum-told
+    (λ prev-char-requires κs. search needs)
+    (λ decode-at-requires κs. search needs)
+    (λ enum-known-d. search needs)
+    (λ enum-told. search needs)
     returns-2
-    sub-left
+    (λ sub-left. search needs)
     loop-less
     loop-again
     loop-less-2

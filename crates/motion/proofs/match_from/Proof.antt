@@ -22,31 +22,19 @@ abbrev μ-loop : tie.MeasureT-loop
 loop-holds : tie.Need-loop-holds Inv-loop μ-loop
 loop-holds c = (search needs, refl)
 
-decode-at-requires : tie.Need-decode-at-requires Inv-loop μ-loop
-decode-at-requires c κs = search needs
-
-enum-known-d : tie.Need-enum-known-d Inv-loop μ-loop
-enum-known-d c = search needs
-
-enum-told : tie.Need-enum-told Inv-loop μ-loop
-enum-told c = search needs
-
 returns : tie.Need-returns Inv-loop μ-loop
 unfolding nthMatch
 returns c =
-    let at-loop = c .before .before .before .before in
+    let at-loop = c.before.before.before.before in
     let entry = at-loop.before.before in
     sym
     (at-loop.loop.inv.1
     ∙ ahead-end entry.args.s.now entry.args.c at-loop.loop.at at-loop.loop.found at-loop.loop.left
     (sym c.before.before.decode-at.ensures ∙ ap asFirst c.enum-told.given.1))
 
-sub-left : tie.Need-sub-left Inv-loop μ-loop
-sub-left c = search needs
-
 add-at : tie.Need-add-at Inv-loop μ-loop
 add-at c =
-    let after-decode-at = c .before .before .before .before in
+    let after-decode-at = c.before.before.before.before in
     let at-loop = after-decode-at.before.before in
     let entry = at-loop.before.before in
     omega (
@@ -57,7 +45,7 @@ add-at c =
 
 loop-less : tie.Need-loop-less Inv-loop μ-loop
 loop-less c =
-    let after-decode-at = c .before .before .before .before in
+    let after-decode-at = c.before.before.before.before in
     let at-loop = after-decode-at.before.before in
     let entry = at-loop.before.before in
     omega (
@@ -68,26 +56,26 @@ loop-less c =
 
 loop-again : tie.Need-loop-again Inv-loop μ-loop
 loop-again c =
-    let after-decode-at = c .before .before .before .before in
+    let after-decode-at = c.before.before.before.before in
     let in-loop = after-decode-at.before in
     let at-loop = in-loop.before in
     let entry = at-loop.before.before in
-    let ahead1 = ahead entry.args.s.now entry.args.c (at-loop.loop.at + c.before.before.d.given.0.1.0) in
+    let a = entry.args in
+    let ahead1 = ahead a.s.now a.c (at-loop.loop.at + c.before.before.d.given.0.1.0) in
     let e1 = sym after-decode-at.decode-at.ensures ∙ ap asFirst c.before.before.d.given.1 in (
-      (within-at entry.args.s.now at-loop.loop.at _ _ at-loop.loop.inv.0 e1) .1,
+      (within-at a.s.now at-loop.loop.at _ _ at-loop.loop.inv.0 e1) .1,
       at-loop.loop.inv.1
           ∙ ⊎-elim
-          (λ w. ahead-in entry.args.s.now entry.args.c at-loop.loop.at _ _ e1 at-loop.loop.found at-loop.loop.left w.0.taken
-          in-loop.loop-test.taken
+          (λ w. ahead-in a.s.now a.c at-loop.loop.at _ _ e1 at-loop.loop.found at-loop.loop.left w.0.taken in-loop.loop-test.taken
           ∙ found-same _ _ _ _ ahead1 w.1 w.2)
-          (λ w. ahead-out entry.args.s.now entry.args.c at-loop.loop.at _ _ e1 at-loop.loop.found at-loop.loop.left w.0.left
+          (λ w. ahead-out a.s.now a.c at-loop.loop.at _ _ e1 at-loop.loop.found at-loop.loop.left w.0.left
           ∙ found-same _ _ _ _ ahead1 w.1 w.2) c.if1.came,
     )
 
 returns-2 : tie.Need-returns-2 Inv-loop μ-loop
 unfolding nthMatch
 returns-2 c =
-    let entry = c .before .before .before in
+    let entry = c.before.before.before in
     sym
     (c.before.loop.inv.1
     ∙ found-zero c.before.loop.found (ahead entry.args.s.now entry.args.c c.before.loop.at) c.before.loop.left (omega arith))
@@ -99,11 +87,11 @@ match-from-spec =
     Inv-loop
     μ-loop
     loop-holds
-    decode-at-requires
-    enum-known-d
-    enum-told
+    (λ decode-at-requires κs. search needs)
+    (λ enum-known-d. search needs)
+    (λ enum-told. search needs)
     returns
-    sub-left
+    (λ sub-left. search needs)
     add-at
     loop-less
     loop-again

@@ -20,31 +20,19 @@ abbrev μ-loop : tie.MeasureT-loop
 μ-loop s pos n at₀ left₀ at left = left
 
 returns : tie.Need-returns Inv-loop μ-loop
-returns c = next-end catalogue (c .before .before .args .s .now) _ _ (c .if1 .taken)
+returns c = next-end catalogue c.before.before.args.s.now _ _ c.if1.taken
 
 returns-2 : tie.Need-returns-2 Inv-loop μ-loop
 returns-2 c =
-    let entry = c .before .before .before in
+    let entry = c.before.before.before in
     next-zero catalogue entry.args.s.now _ _ c.if2.taken
 
 loop-holds : tie.Need-loop-holds Inv-loop μ-loop
 loop-holds c = (search needs, refl)
 
-sub-next-cluster : tie.Need-sub-next-cluster Inv-loop μ-loop
-sub-next-cluster c = search needs
-
-part-next-cluster-start : tie.Need-part-next-cluster-start Inv-loop μ-loop
-part-next-cluster-start c = search needs
-
-part-next-cluster-end : tie.Need-part-next-cluster-end Inv-loop μ-loop
-part-next-cluster-end c = search needs
-
-next-cluster-requires : tie.Need-next-cluster-requires Inv-loop μ-loop
-next-cluster-requires c κs = search needs
-
 returns-3 : tie.Need-returns-3 Inv-loop μ-loop
 returns-3 c =
-    let at-loop = c .before .before .before .before in
+    let at-loop = c.before.before.before.before in
     let else2 = at-loop.before in
     let else1 = else2.before in
     let entry = else1.before.before in
@@ -59,25 +47,19 @@ returns-3 c =
 
 add-at : tie.Need-add-at Inv-loop μ-loop
 add-at c =
-    let at-loop = c .before .before .before .before in
-    let entry = at-loop .before .before .before .before in
+    let at-loop = c.before.before.before.before in
+    let entry = at-loop.before.before.before.before in
     omega (
       arith,
       (next-told catalogue entry.args.s.now at-loop.loop.at _ at-loop.loop.inv.0
           (c.before.next-cluster.ensures.0, c.before.next-cluster.ensures.1)) .1,
     )
 
-sub-left : tie.Need-sub-left Inv-loop μ-loop
-sub-left c = search needs
-
-loop-less : tie.Need-loop-less Inv-loop μ-loop
-loop-less c = search needs
-
 loop-again : tie.Need-loop-again Inv-loop μ-loop
 loop-again c =
-    let in-loop = c .before .before .before in
+    let in-loop = c.before.before.before in
     let at-loop = in-loop.before in
-    let entry = at-loop .before .before .before .before in
+    let entry = at-loop.before.before.before.before in
     let next-told1 = next-told catalogue entry.args.s.now at-loop.loop.at _ at-loop.loop.inv.0
     (c.before.next-cluster.ensures.0, c.before.next-cluster.ensures.1) in (
       next-told1.1,
@@ -89,7 +71,7 @@ loop-again c =
 
 returns-4 : tie.Need-returns-4 Inv-loop μ-loop
 returns-4 c =
-    let else1 = c .before .before .before in
+    let else1 = c.before.before.before in
     let entry = else1.before.before in
     let z : c.before.loop.left ≡ 0 = omega arith in
     next-found catalogue entry.args.s.now _ _ _ else1.if1.left c.before.before.if2.left (omega (arith, rw z at c.before.loop.inv.1))
@@ -103,13 +85,13 @@ next-pos-spec =
     returns
     returns-2
     loop-holds
-    sub-next-cluster
-    part-next-cluster-start
-    part-next-cluster-end
-    next-cluster-requires
+    (λ sub-next-cluster. search needs)
+    (λ part-next-cluster-start. search needs)
+    (λ part-next-cluster-end. search needs)
+    (λ next-cluster-requires κs. search needs)
     returns-3
     add-at
-    sub-left
-    loop-less
+    (λ sub-left. search needs)
+    (λ loop-less. search needs)
     loop-again
     returns-4)

@@ -24,27 +24,27 @@ abbrev μ-loop : tie.MeasureT-loop
 μ-loop s pos n at₀ left₀ at left = left
 
 returns : tie.Need-returns Inv-loop μ-loop
-returns c = prev-start catalogue (c .before .before .args .s .now) _ _ (c .if1 .taken)
+returns c = prev-start catalogue c.before.before.args.s.now _ _ c.if1.taken
 
 returns-2 : tie.Need-returns-2 Inv-loop μ-loop
 returns-2 c =
-    let entry = c .before .before .before in
+    let entry = c.before.before.before in
     prev-zero catalogue entry.args.s.now _ _ c.if2.taken
 
 loop-holds : tie.Need-loop-holds Inv-loop μ-loop
 loop-holds c =
-    let entry = c .before .before .before in
+    let entry = c.before.before.before in
     (entry.pre.2, entry.pre.1, refl)
 
 slice-aggregate-prev-cluster : tie.Need-slice-aggregate-prev-cluster Inv-loop μ-loop
-slice-aggregate-prev-cluster c = sym (length-take-le _ _ (c .before .before .loop .inv .0))
+slice-aggregate-prev-cluster c = sym (length-take-le _ _ c.before.before.loop.inv.0)
 
 prev-cluster-requires : tie.Need-prev-cluster-requires Inv-loop μ-loop
-prev-cluster-requires c κs = c .before .before .loop .inv .1
+prev-cluster-requires c κs = c.before.before.loop.inv.1
 
 returns-3 : tie.Need-returns-3 Inv-loop μ-loop
 returns-3 c =
-    let at-loop = c .before .before .before .before in
+    let at-loop = c.before.before.before.before in
     let else2 = at-loop.before in
     let else1 = else2.before in
     let entry = else1.before.before in
@@ -55,8 +55,8 @@ returns-3 c =
 
 sub-at : tie.Need-sub-at Inv-loop μ-loop
 sub-at c =
-    let at-loop = c .before .before .before .before in
-    let entry = at-loop .before .before .before .before in
+    let at-loop = c.before.before.before.before in
+    let entry = at-loop.before.before.before.before in
     omega (
       arith,
       (prev-some catalogue entry.args.s.now at-loop.loop.at _ at-loop.loop.inv.1 at-loop.loop.inv.0
@@ -64,17 +64,11 @@ sub-at c =
           c.before.prev-cluster.ensures.0) .fits,
     )
 
-sub-left : tie.Need-sub-left Inv-loop μ-loop
-sub-left c = search needs
-
-loop-less : tie.Need-loop-less Inv-loop μ-loop
-loop-less c = search needs
-
 loop-again : tie.Need-loop-again Inv-loop μ-loop
 loop-again c =
-    let in-loop = c .before .before .before in
+    let in-loop = c.before.before.before in
     let at-loop = in-loop.before in
-    let entry = at-loop .before .before .before .before in
+    let entry = at-loop.before.before.before.before in
     let b =
     (prev-some catalogue entry.args.s.now at-loop.loop.at _ at-loop.loop.inv.1 at-loop.loop.inv.0
     (omega (arith, length-take at-loop.loop.at entry.args.s.now, c.before.prev-cluster.ensures.1, c.if3.left))
@@ -86,12 +80,12 @@ loop-again c =
 
 returns-4 : tie.Need-returns-4 Inv-loop μ-loop
 returns-4 c =
-    let else1 = c .before .before .before in
+    let else1 = c.before.before.before in
     let entry = else1.before.before in
     let z : c.before.loop.left ≡ 0 = omega arith in
     prev-found catalogue entry.args.s.now _ _ _ else1.if1.left c.before.before.if2.left
-    (sym (c.before.loop.inv.2
-    ∙ (rw z (backward-done catalogue entry.args.s.now c.before.loop.at c.before.loop.inv.1 c.before.loop.inv.0))))
+    (sym
+    (c.before.loop.inv.2 ∙ (rw z (backward-done catalogue entry.args.s.now c.before.loop.at c.before.loop.inv.1 c.before.loop.inv.0))))
 
 pub prev-pos-spec : {M : Type 1} → statement M
 prev-pos-spec =
@@ -106,7 +100,7 @@ prev-pos-spec =
     prev-cluster-requires
     returns-3
     sub-at
-    sub-left
-    loop-less
+    (λ sub-left. search needs)
+    (λ loop-less. search needs)
     loop-again
     returns-4)

@@ -19,22 +19,10 @@ abbrev μ-loop : tie.MeasureT-loop
 loop-holds : tie.Need-loop-holds Inv-loop μ-loop
 loop-holds c = (search needs, refl)
 
-sub-next-cluster : tie.Need-sub-next-cluster Inv-loop μ-loop
-sub-next-cluster c = search needs
-
-part-next-cluster-start : tie.Need-part-next-cluster-start Inv-loop μ-loop
-part-next-cluster-start c = search needs
-
-part-next-cluster-end : tie.Need-part-next-cluster-end Inv-loop μ-loop
-part-next-cluster-end c = search needs
-
-next-cluster-requires : tie.Need-next-cluster-requires Inv-loop μ-loop
-next-cluster-requires c κs = search needs
-
 returns : tie.Need-returns Inv-loop μ-loop
 unfolding skipWhitespace
 returns c =
-    let at-loop = c .before .before .before .before in
+    let at-loop = c.before.before.before.before in
     let entry = at-loop.before.before in
     sym
     (at-loop.loop.inv.1
@@ -46,7 +34,7 @@ returns c =
 returns-2 : tie.Need-returns-2 Inv-loop μ-loop
 unfolding skipWhitespace
 returns-2 c =
-    let at-loop = c .before .before .before .before .before in
+    let at-loop = c.before.before.before.before.before in
     let entry = at-loop.before.before in
     sym
     (at-loop.loop.inv.1
@@ -57,7 +45,7 @@ returns-2 c =
 
 add-at : tie.Need-add-at Inv-loop μ-loop
 add-at c =
-    let at-loop = c .before .before .before .before .before in
+    let at-loop = c.before.before.before.before.before in
     let entry = at-loop.before.before in
     omega (
       arith,
@@ -67,7 +55,7 @@ add-at c =
 
 loop-less : tie.Need-loop-less Inv-loop μ-loop
 loop-less c =
-    let at-loop = c .before .before .before .before .before in
+    let at-loop = c.before.before.before.before.before in
     let entry = at-loop.before.before in
     omega (
       arith,
@@ -78,7 +66,7 @@ loop-less c =
 
 loop-again : tie.Need-loop-again Inv-loop μ-loop
 loop-again c =
-    let at-loop = c .before .before .before .before .before in
+    let at-loop = c.before.before.before.before.before in
     let entry = at-loop.before.before in
     let next-told1 = next-told catalogue entry.args.s.now at-loop.loop.at _ at-loop.loop.inv.0
     (c.before.before.next-cluster.ensures.0, c.before.before.next-cluster.ensures.1) in (
@@ -90,7 +78,7 @@ loop-again c =
 returns-3 : tie.Need-returns-3 Inv-loop μ-loop
 unfolding skipWhitespace
 returns-3 c =
-    let entry = c .before .before .before in
+    let entry = c.before.before.before in
     sym (c.before.loop.inv.1 ∙ alnum-end catalogue entry.args.s.now c.before.loop.at c.loop-test.left)
 
 pub skip-whitespace-spec : {M : Type 1} → statement M
@@ -100,10 +88,10 @@ skip-whitespace-spec =
     Inv-loop
     μ-loop
     loop-holds
-    sub-next-cluster
-    part-next-cluster-start
-    part-next-cluster-end
-    next-cluster-requires
+    (λ sub-next-cluster. search needs)
+    (λ part-next-cluster-start. search needs)
+    (λ part-next-cluster-end. search needs)
+    (λ next-cluster-requires κs. search needs)
     returns
     returns-2
     add-at

@@ -22,19 +22,7 @@ abbrev μ-loop : tie.MeasureT-loop
 μ-loop s at₀ at = at
 
 loop-holds : tie.Need-loop-holds Inv-loop μ-loop
-loop-holds c = (search needs, boundary-end _ (c .before .pre), trim-whole catalogue _)
-
-prev-char-requires : tie.Need-prev-char-requires Inv-loop μ-loop
-prev-char-requires c κs = search needs
-
-decode-at-requires : tie.Need-decode-at-requires Inv-loop μ-loop
-decode-at-requires c κs = search needs
-
-enum-known-d : tie.Need-enum-known-d Inv-loop μ-loop
-enum-known-d c = search needs
-
-enum-told : tie.Need-enum-told Inv-loop μ-loop
-enum-told c = search needs
+loop-holds c = (search needs, boundary-end _ c.before.pre, trim-whole catalogue _)
 
 -- the character that prev_char finds ends where the loop stands
 ended : (c : tie.After-prev-char Inv-loop μ-loop) →
@@ -46,32 +34,29 @@ ended c =
 
 returns : tie.Need-returns Inv-loop μ-loop
 returns c =
-    ends-never _ _ _ _ (ended c.before.before.before) (sym c.before.before.decode-at.ensures ∙ ap asFirst c.enum-told.given.1)
-
-is-white-requires : tie.Need-is-white-requires Inv-loop μ-loop
-is-white-requires c κs = search needs
+    let after-prev-char = c.before.before.before in
+    ends-never _ _ _ _ (ended after-prev-char) (sym c.before.before.decode-at.ensures ∙ ap asFirst c.enum-told.given.1)
 
 returns-2 : tie.Need-returns-2 Inv-loop μ-loop
 returns-2 c =
-    let after-d = c .before .before .before in
+    let after-d = c.before.before.before in
     let after-decode-at = after-d.before.before in
     let after-prev-char = after-decode-at.before in
     let at-loop = after-prev-char.before.before in
     let entry = at-loop.before.before in
     sym
     (at-loop.loop.inv.2
-    ∙ trim-stop catalogue entry.args.s.now at-loop.loop.at _ _ _ at-loop.loop.inv.1 at-loop.loop.inv.0
-    (ended after-prev-char) (sym after-decode-at.decode-at.ensures ∙ ap asFirst after-d.d.given.1)
-    (sym c.before.is-white.ensures ∙ not-true _ c.if1.taken))
+    ∙ trim-stop catalogue entry.args.s.now at-loop.loop.at _ _ _ at-loop.loop.inv.1 at-loop.loop.inv.0 (ended after-prev-char)
+    (sym after-decode-at.decode-at.ensures ∙ ap asFirst after-d.d.given.1) (sym c.before.is-white.ensures ∙ not-true _ c.if1.taken))
 
 loop-less : tie.Need-loop-less Inv-loop μ-loop
 loop-less c =
-    let after-prev-char = c .before .before .before .before .before .before in
-    ended after-prev-char .below
+    let after-prev-char = c.before.before.before.before.before.before in
+    (ended after-prev-char) .below
 
 loop-again : tie.Need-loop-again Inv-loop μ-loop
 loop-again c =
-    let after-d = c .before .before .before in
+    let after-d = c.before.before.before in
     let after-decode-at = after-d.before.before in
     let after-prev-char = after-decode-at.before in
     let at-loop = after-prev-char.before.before in
@@ -87,7 +72,7 @@ loop-again c =
 
 returns-3 : tie.Need-returns-3 Inv-loop μ-loop
 returns-3 c =
-    let entry = c .before .before .before in
+    let entry = c.before.before.before in
     let z : c.before.loop.at ≡ 0 = omega arith in
     sym (c.before.loop.inv.2 ∙ rw z (trim-start catalogue entry.args.s.now))
 
@@ -98,12 +83,12 @@ trim-end-spec =
     Inv-loop
     μ-loop
     loop-holds
-    prev-char-requires
-    decode-at-requires
-    enum-known-d
-    enum-told
+    (λ prev-char-requires κs. search needs)
+    (λ decode-at-requires κs. search needs)
+    (λ enum-known-d. search needs)
+    (λ enum-told. search needs)
     returns
-    is-white-requires
+    (λ is-white-requires κs. search needs)
     returns-2
     loop-less
     loop-again

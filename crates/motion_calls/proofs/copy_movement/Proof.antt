@@ -7,18 +7,9 @@ use borrow.Author.Needs.{needs}
 use Rattle.motion_calls.proofs.copy_movement.Statement.{statement}
 use Rattle.motion_calls.proofs.copy_movement.Tie as tie
 
-is-foreign-requires : tie.Need-is-foreign-requires
-is-foreign-requires c κs = search needs
-
-refusal-requires : tie.Need-refusal-requires
-refusal-requires c κs = search needs
-
-says-requires : tie.Need-says-requires
-says-requires c κs = search needs
-
 returns : tie.Need-returns
 returns c =
-    let after-refusal = c .before .before .before in
+    let after-refusal = c.before.before.before in
     let after-is-foreign = after-refusal.before in
     let entry = after-is-foreign.before.before in
     copy-early catalogue entry.args.text.now entry.args.line entry.args.m _ after-is-foreign.is-foreign.ensures _
@@ -26,22 +17,16 @@ returns c =
 
 slice-aggregate-starts-after : tie.Need-slice-aggregate-starts-after
 slice-aggregate-starts-after c =
-    let after-is-foreign = c .before .before .before in
+    let after-is-foreign = c.before.before.before in
     let entry = after-is-foreign.before.before in
     sym
     (length-take-le _ _
     (lent-used catalogue entry.args.text.now entry.args.line entry.args.m _ after-is-foreign.is-foreign.ensures _
     c.before.before.refusal.ensures (⊎-elim (λ w. inr w.1.left) (λ w. inl w.left) c.before.if1.came)))
 
-starts-after-requires : tie.Need-starts-after-requires
-starts-after-requires c κs = search needs
-
-says-requires-2 : tie.Need-says-requires-2
-says-requires-2 c κs = search needs
-
 returns-2 : tie.Need-returns-2
 returns-2 c =
-    let joined1 = c .before .before .before .before in
+    let joined1 = c.before.before.before.before in
     let after-refusal = joined1.before in
     let after-is-foreign = after-refusal.before in
     let entry = after-is-foreign.before.before in
@@ -49,13 +34,10 @@ returns-2 c =
     after-refusal.refusal.ensures c.says2.result _ c.before.before.starts-after.ensures
     (⊎-elim (λ w. inr w.1.left) (λ w. inl w.left) joined1.if1.came) c.before.if3.taken c.says2.ensures
 
-says-requires-3 : tie.Need-says-requires-3
-says-requires-3 c κs = search needs
-
 returns-3 : tie.Need-returns-3
 returns-3 c =
-    let after-starts-after = c .before .before .before in
-    let after-refusal = after-starts-after .before .before .before in
+    let after-starts-after = c.before.before.before in
+    let after-refusal = after-starts-after.before.before.before in
     let after-is-foreign = after-refusal.before in
     let entry = after-is-foreign.before.before in
     copy-split catalogue entry.args.text.now entry.args.line entry.args.m _ after-is-foreign.is-foreign.ensures _
@@ -64,7 +46,7 @@ returns-3 c =
 
 slice-aggregate-copied : tie.Need-slice-aggregate-copied
 slice-aggregate-copied c =
-    let after-refusal = c .before .before .before .before .before .before in
+    let after-refusal = c.before.before.before.before.before.before in
     let after-is-foreign = after-refusal.before in
     let entry = after-is-foreign.before.before in
     sym
@@ -74,21 +56,18 @@ slice-aggregate-copied c =
 
 copied-requires : tie.Need-copied-requires
 copied-requires c κs =
-    let after-refusal = c .before .before .before .before .before .before in
+    let after-refusal = c.before.before.before.before.before.before in
     let after-is-foreign = after-refusal.before in
     let entry = after-is-foreign.before.before in
     lent-fit catalogue entry.args.text.now entry.args.line entry.args.m _ after-is-foreign.is-foreign.ensures _
     after-refusal.refusal.ensures c.before.if4.left
 
-ranged-requires : tie.Need-ranged-requires
-ranged-requires c κs = search needs
-
 returns-4 : tie.Need-returns-4
 returns-4 c =
-    let else4 = c .before .before .before in
+    let else4 = c.before.before.before in
     let else3 = else4.before in
     let after-starts-after = else3.before in
-    let after-refusal = after-starts-after .before .before .before in
+    let after-refusal = after-starts-after.before.before.before in
     let after-is-foreign = after-refusal.before in
     let entry = after-is-foreign.before.before in
     copy-ranged catalogue entry.args.text.now entry.args.line entry.args.m _ after-is-foreign.is-foreign.ensures _
@@ -99,17 +78,17 @@ pub copy-movement-spec : {M : Type 1} → statement M
 copy-movement-spec =
     tie.close
     (tie.spec
-    is-foreign-requires
-    refusal-requires
-    says-requires
+    (λ is-foreign-requires κs. search needs)
+    (λ refusal-requires κs. search needs)
+    (λ says-requires κs. search needs)
     returns
     slice-aggregate-starts-after
-    starts-after-requires
-    says-requires-2
+    (λ starts-after-requires κs. search needs)
+    (λ says-requires-2 κs. search needs)
     returns-2
-    says-requires-3
+    (λ says-requires-3 κs. search needs)
     returns-3
     slice-aggregate-copied
     copied-requires
-    ranged-requires
+    (λ ranged-requires κs. search needs)
     returns-4)

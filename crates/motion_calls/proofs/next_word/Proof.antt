@@ -9,49 +9,42 @@ use borrow.Author.Needs.{needs}
 use Rattle.motion_calls.proofs.next_word.Statement.{statement}
 use Rattle.motion_calls.proofs.next_word.Tie as tie
 
-refusal-requires : tie.Need-refusal-requires
-refusal-requires c κs = search needs
-
-says-requires : tie.Need-says-requires
-says-requires c κs = search needs
-
 returns : tie.Need-returns
 returns c =
-    let entry = c .before .before .before .before in
+    let entry = c.before.before.before.before in
     refused catalogue entry.args.text.now entry.args.line noTests _ c.before.before.refusal.ensures _ _ c.before.if1.taken c.says.ensures
 
 slice-aggregate-next-word-pos : tie.Need-slice-aggregate-next-word-pos
 slice-aggregate-next-word-pos c =
-    let entry = c .before .before .before .before in
+    let entry = c.before.before.before.before in
     sym
     (length-take-le _ _
     ((fit-of catalogue entry.args.text.now entry.args.line noTests _ c.before.before.refusal.ensures c.before.if1.left) .used))
 
 next-word-pos-requires : tie.Need-next-word-pos-requires
 next-word-pos-requires c κs =
-    let entry = c .before .before .before .before in
-    (fit-within catalogue _ entry.args.text.now entry.args.line
-    (fit-of catalogue entry.args.text.now entry.args.line noTests _ c.before.before.refusal.ensures c.before.if1.left))
-
-moved-to-requires : tie.Need-moved-to-requires
-moved-to-requires c κs = search needs
+    let entry = c.before.before.before.before in
+    let a = entry.args in
+    (fit-within catalogue _ a.text.now a.line
+    (fit-of catalogue a.text.now a.line noTests _ c.before.before.refusal.ensures c.before.if1.left))
 
 returns-2 : tie.Need-returns-2
 returns-2 c =
-    let else1 = c .before .before .before in
+    let else1 = c.before.before.before in
     let after-refusal = else1.before in
     let entry = after-refusal.before.before in
-    accepted catalogue entry.args.text.now entry.args.line noTests _ after-refusal.refusal.ensures _ _ else1.if1.left
-    (c.moved-to.ensures ∙ ap (lineAnswer entry.args.line) (ap (movedTo entry.args.line) c.before.next-word-pos.ensures))
+    let a = entry.args in
+    accepted catalogue a.text.now a.line noTests _ after-refusal.refusal.ensures _ _ else1.if1.left
+    (c.moved-to.ensures ∙ ap (lineAnswer a.line) (ap (movedTo a.line) c.before.next-word-pos.ensures))
 
 pub next-word-spec : {M : Type 1} → statement M
 next-word-spec =
     tie.close
     (tie.spec
-    refusal-requires
-    says-requires
+    (λ refusal-requires κs. search needs)
+    (λ says-requires κs. search needs)
     returns
     slice-aggregate-next-word-pos
     next-word-pos-requires
-    moved-to-requires
+    (λ moved-to-requires κs. search needs)
     returns-2)

@@ -12,75 +12,62 @@ use borrow.Author.Needs.{needs}
 use Rattle.motion_calls.proofs.set_pos.Statement.{statement}
 use Rattle.motion_calls.proofs.set_pos.Tie as tie
 
-refusal-requires : tie.Need-refusal-requires
-refusal-requires c κs = search needs
-
-says-requires : tie.Need-says-requires
-says-requires c κs = search needs
-
 returns : tie.Need-returns
 returns c =
-    let entry = c .before .before .before .before in
-    refused catalogue entry.args.text.now entry.args.line _ _
-    (place-before catalogue entry.args.text.now entry.args.line entry.args.pos _ c.before.before.refusal.ensures c.before.if1.taken) _ _
-    c.before.if1.taken c.says.ensures
+    let entry = c.before.before.before.before in
+    let a = entry.args in
+    refused catalogue a.text.now a.line _ _
+    (place-before catalogue a.text.now a.line a.pos _ c.before.before.refusal.ensures c.before.if1.taken) _ _ c.before.if1.taken
+    c.says.ensures
 
 slice-aggregate-is-boundary : tie.Need-slice-aggregate-is-boundary
 slice-aggregate-is-boundary c =
-    let entry = c .before .before .before .before in
+    let entry = c.before.before.before.before in
+    let a = entry.args in
     sym
     (length-take-le _ _
     (
-    (fit-of catalogue entry.args.text.now entry.args.line (ownTests false false (ltb entry.args.line.len entry.args.pos)) _
-    c.before.before.refusal.ensures c.before.if1.left) .used))
-
-is-boundary-requires : tie.Need-is-boundary-requires
-is-boundary-requires c κs = search needs
-
-says-requires-2 : tie.Need-says-requires-2
-says-requires-2 c κs = search needs
+    (fit-of catalogue a.text.now a.line (ownTests false false (ltb a.line.len a.pos)) _ c.before.before.refusal.ensures
+    c.before.if1.left) .used))
 
 returns-2 : tie.Need-returns-2
 returns-2 c =
-    let else1 = c .before .before .before .before in
+    let else1 = c.before.before.before.before in
     let after-refusal = else1.before in
     let entry = after-refusal.before.before in
-    refused catalogue entry.args.text.now entry.args.line _ 6
-    (place-split catalogue entry.args.text.now entry.args.line entry.args.pos _ after-refusal.refusal.ensures else1.if1.left
+    let a = entry.args in
+    refused catalogue a.text.now a.line _ 6
+    (place-split catalogue a.text.now a.line a.pos _ after-refusal.refusal.ensures else1.if1.left
     (sym
     (c.before.before.is-boundary.ensures.1
-    (fit-valid catalogue _ entry.args.text.now entry.args.line
-    (fit-of catalogue entry.args.text.now entry.args.line (ownTests false false (ltb entry.args.line.len entry.args.pos)) _
-    after-refusal.refusal.ensures else1.if1.left)))
+    (fit-valid catalogue _ a.text.now a.line
+    (fit-of catalogue a.text.now a.line (ownTests false false (ltb a.line.len a.pos)) _ after-refusal.refusal.ensures else1.if1.left)))
     ∙ not-true _ c.before.if2.taken)) _ _ (λ z. omega arith) c.says2.ensures
-
-moved-to-requires : tie.Need-moved-to-requires
-moved-to-requires c κs = search needs
 
 returns-3 : tie.Need-returns-3
 returns-3 c =
-    let else1 = c .before .before .before .before in
+    let else1 = c.before.before.before.before in
     let after-refusal = else1.before in
     let entry = after-refusal.before.before in
-    accepted catalogue entry.args.text.now entry.args.line _ _
-    (place-fits catalogue entry.args.text.now entry.args.line entry.args.pos _ after-refusal.refusal.ensures else1.if1.left
+    let a = entry.args in
+    accepted catalogue a.text.now a.line _ _
+    (place-fits catalogue a.text.now a.line a.pos _ after-refusal.refusal.ensures else1.if1.left
     (sym
     (c.before.before.is-boundary.ensures.1
-    (fit-valid catalogue _ entry.args.text.now entry.args.line
-    (fit-of catalogue entry.args.text.now entry.args.line (ownTests false false (ltb entry.args.line.len entry.args.pos)) _
-    after-refusal.refusal.ensures else1.if1.left)))
+    (fit-valid catalogue _ a.text.now a.line
+    (fit-of catalogue a.text.now a.line (ownTests false false (ltb a.line.len a.pos)) _ after-refusal.refusal.ensures else1.if1.left)))
     ∙ not-false _ c.before.if2.left)) _ _ else1.if1.left c.moved-to.ensures
 
 pub set-pos-spec : {M : Type 1} → statement M
 set-pos-spec =
     tie.close
     (tie.spec
-    refusal-requires
-    says-requires
+    (λ refusal-requires κs. search needs)
+    (λ says-requires κs. search needs)
     returns
     slice-aggregate-is-boundary
-    is-boundary-requires
-    says-requires-2
+    (λ is-boundary-requires κs. search needs)
+    (λ says-requires-2 κs. search needs)
     returns-2
-    moved-to-requires
+    (λ moved-to-requires κs. search needs)
     returns-3)

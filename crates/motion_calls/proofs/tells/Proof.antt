@@ -6,12 +6,6 @@ use borrow.Author.Needs.{needs}
 use Rattle.motion_calls.proofs.tells.Statement.{statement}
 use Rattle.motion_calls.proofs.tells.Tie as tie
 
-says-requires : tie.Need-says-requires
-says-requires c κs = search needs
-
-says-requires-2 : tie.Need-says-requires-2
-says-requires-2 c κs = search needs
-
 returns : tie.Need-returns
 returns c =
     c.says.ensures ∙ sym (ap (λ (b : Bool). lineAnswer c.before.before.args.line (tells c.before.before.args.line b)) c.before.if1.taken)
@@ -21,4 +15,4 @@ returns-2 c =
     c.says2.ensures ∙ sym (ap (λ (b : Bool). lineAnswer c.before.before.args.line (tells c.before.before.args.line b)) c.before.if1.left)
 
 pub tells-spec : {M : Type 1} → statement M
-tells-spec = tie.close (tie.spec says-requires says-requires-2 returns returns-2)
+tells-spec = tie.close (tie.spec (λ says-requires κs. search needs) (λ says-requires-2 κs. search needs) returns returns-2)

@@ -19,7 +19,7 @@ loop-holds c = (omega arith, omega arith, refl)
 
 returns : tie.Need-returns Inv-loop μ-loop
 returns c =
-    let entry = c .before .before .before .before in (
+    let entry = c.before.before.before.before in (
       sym
           (c.before.before.loop.inv.2
           ∙ above-first entry.args.s.now c.before.before.loop.left c.before.before.loop.start c.before.before.loop.end c.if1.taken),
@@ -27,21 +27,9 @@ returns c =
       c.before.before.loop.inv.1,
     )
 
-sub-end : tie.Need-sub-end Inv-loop μ-loop
-sub-end c = search needs
-
-start-of-line-requires : tie.Need-start-of-line-requires Inv-loop μ-loop
-start-of-line-requires c κs = search needs
-
-sub-left : tie.Need-sub-left Inv-loop μ-loop
-sub-left c = search needs
-
-loop-less : tie.Need-loop-less Inv-loop μ-loop
-loop-less c = search needs
-
 loop-again : tie.Need-loop-again Inv-loop μ-loop
 loop-again c =
-    let at-loop = c .before .before .before in
+    let at-loop = c.before.before.before in
     let entry = at-loop.before.before in (
       c.start-of-line.ensures.1,
       omega (arith, at-loop.loop.inv.0, at-loop.loop.inv.1),
@@ -52,7 +40,7 @@ loop-again c =
 
 returns-2 : tie.Need-returns-2 Inv-loop μ-loop
 returns-2 c =
-    let entry = c .before .before .before in (
+    let entry = c.before.before.before in (
       sym (c.before.loop.inv.2 ∙ above-none entry.args.s.now c.before.loop.left c.before.loop.start c.before.loop.end c.loop-test.left),
       c.before.loop.inv.0,
       c.before.loop.inv.1,
@@ -66,9 +54,9 @@ line-above-spec =
     μ-loop
     loop-holds
     returns
-    sub-end
-    start-of-line-requires
-    sub-left
-    loop-less
+    (λ sub-end. search needs)
+    (λ start-of-line-requires κs. search needs)
+    (λ sub-left. search needs)
+    (λ loop-less. search needs)
     loop-again
     returns-2)

@@ -20,7 +20,7 @@ loop-holds c = (omega arith, omega arith, refl)
 
 returns : tie.Need-returns Inv-loop μ-loop
 returns c =
-    let entry = c .before .before .before .before in (
+    let entry = c.before.before.before.before in (
       sym
           (c.before.before.loop.inv.2
           ∙ below-last entry.args.s.now c.before.before.loop.left c.before.before.loop.start c.before.before.loop.end c.if1.taken),
@@ -28,21 +28,9 @@ returns c =
       c.before.before.loop.inv.1,
     )
 
-add-start : tie.Need-add-start Inv-loop μ-loop
-add-start c = search needs
-
-end-of-line-requires : tie.Need-end-of-line-requires Inv-loop μ-loop
-end-of-line-requires c κs = search needs
-
-sub-left : tie.Need-sub-left Inv-loop μ-loop
-sub-left c = search needs
-
-loop-less : tie.Need-loop-less Inv-loop μ-loop
-loop-less c = search needs
-
 loop-again : tie.Need-loop-again Inv-loop μ-loop
 loop-again c =
-    let at-loop = c .before .before .before in
+    let at-loop = c.before.before.before in
     let entry = at-loop.before.before in (
       c.end-of-line.ensures.1,
       c.end-of-line.ensures.2,
@@ -53,7 +41,7 @@ loop-again c =
 
 returns-2 : tie.Need-returns-2 Inv-loop μ-loop
 returns-2 c =
-    let entry = c .before .before .before in (
+    let entry = c.before.before.before in (
       sym (c.before.loop.inv.2 ∙ below-none entry.args.s.now c.before.loop.left c.before.loop.start c.before.loop.end c.loop-test.left),
       c.before.loop.inv.0,
       c.before.loop.inv.1,
@@ -67,9 +55,9 @@ line-below-spec =
     μ-loop
     loop-holds
     returns
-    add-start
-    end-of-line-requires
-    sub-left
-    loop-less
+    (λ add-start. search needs)
+    (λ end-of-line-requires κs. search needs)
+    (λ sub-left. search needs)
+    (λ loop-less. search needs)
     loop-again
     returns-2)

@@ -17,12 +17,9 @@ abbrev μ-loop : tie.MeasureT-loop
 loop-holds : tie.Need-loop-holds Inv-loop μ-loop
 loop-holds c = (omega arith, omega arith, refl)
 
-end-of-line-requires : tie.Need-end-of-line-requires Inv-loop μ-loop
-end-of-line-requires c κs = search needs
-
 returns : tie.Need-returns Inv-loop μ-loop
 returns c =
-    let at-loop = c .before .before .before in
+    let at-loop = c.before.before.before in
     let entry = at-loop.before.before in (
       sym
           (at-loop.loop.inv.2
@@ -32,18 +29,9 @@ returns c =
       omega arith,
     )
 
-add-end : tie.Need-add-end Inv-loop μ-loop
-add-end c = search needs
-
-sub-left : tie.Need-sub-left Inv-loop μ-loop
-sub-left c = search needs
-
-loop-less : tie.Need-loop-less Inv-loop μ-loop
-loop-less c = search needs
-
 loop-again : tie.Need-loop-again Inv-loop μ-loop
 loop-again c =
-    let at-loop = c .before .before .before in
+    let at-loop = c.before.before.before in
     let entry = at-loop.before.before in (
       omega (arith, at-loop.loop.inv.0, c.before.end-of-line.ensures.1),
       omega (arith, c.if1.left),
@@ -54,7 +42,7 @@ loop-again c =
 
 returns-2 : tie.Need-returns-2 Inv-loop μ-loop
 returns-2 c =
-    let entry = c .before .before .before in (
+    let entry = c.before.before.before in (
       sym (c.before.loop.inv.2 ∙ down-none entry.args.s.now c.before.loop.left c.before.loop.end c.loop-test.left),
       c.before.loop.inv.0,
       c.before.loop.inv.1,
@@ -67,10 +55,10 @@ lines-down-spec =
     Inv-loop
     μ-loop
     loop-holds
-    end-of-line-requires
+    (λ end-of-line-requires κs. search needs)
     returns
-    add-end
-    sub-left
-    loop-less
+    (λ add-end. search needs)
+    (λ sub-left. search needs)
+    (λ loop-less. search needs)
     loop-again
     returns-2)

@@ -18,26 +18,14 @@ loop-holds c = (omega arith, refl)
 
 returns : tie.Need-returns Inv-loop μ-loop
 returns c =
-    let entry = c .before .before .before .before in (
+    let entry = c.before.before.before.before in (
       sym (c.before.before.loop.inv.1 ∙ up-first entry.args.s.now c.before.before.loop.left c.before.before.loop.start c.if1.taken),
       omega arith,
     )
 
-sub-start-of-line : tie.Need-sub-start-of-line Inv-loop μ-loop
-sub-start-of-line c = search needs
-
-start-of-line-requires : tie.Need-start-of-line-requires Inv-loop μ-loop
-start-of-line-requires c κs = search needs
-
-sub-left : tie.Need-sub-left Inv-loop μ-loop
-sub-left c = search needs
-
-loop-less : tie.Need-loop-less Inv-loop μ-loop
-loop-less c = search needs
-
 loop-again : tie.Need-loop-again Inv-loop μ-loop
 loop-again c =
-    let at-loop = c .before .before .before in
+    let at-loop = c.before.before.before in
     let entry = at-loop.before.before in (
       omega (arith, at-loop.loop.inv.0, c.start-of-line.ensures.1),
       at-loop.loop.inv.1
@@ -47,7 +35,7 @@ loop-again c =
 
 returns-2 : tie.Need-returns-2 Inv-loop μ-loop
 returns-2 c =
-    let entry = c .before .before .before in
+    let entry = c.before.before.before in
     (sym (c.before.loop.inv.1 ∙ up-none entry.args.s.now c.before.loop.left c.before.loop.start c.loop-test.left), c.before.loop.inv.0)
 
 pub lines-up-spec : {M : Type 1} → statement M
@@ -58,9 +46,9 @@ lines-up-spec =
     μ-loop
     loop-holds
     returns
-    sub-start-of-line
-    start-of-line-requires
-    sub-left
-    loop-less
+    (λ sub-start-of-line. search needs)
+    (λ start-of-line-requires κs. search needs)
+    (λ sub-left. search needs)
+    (λ loop-less. search needs)
     loop-again
     returns-2)

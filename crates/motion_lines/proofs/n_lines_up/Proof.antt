@@ -3,23 +3,14 @@ use Rattle.motion_lines.proofs.Lines.{ups-none, ups-some}
 use Rattle.motion_lines.proofs.n_lines_up.Statement.{statement}
 use Rattle.motion_lines.proofs.n_lines_up.Tie as tie
 
-start-of-line-requires : tie.Need-start-of-line-requires
-start-of-line-requires c κs = search needs
-
 returns : tie.Need-returns
 returns c =
-    let entry = c .before .before .before in
+    let entry = c.before.before.before in
     ups-none entry.args.s.now entry.args.pos entry.args.n _ c.before.start-of-line.ensures.0 c.if1.taken
-
-lines-up-requires : tie.Need-lines-up-requires
-lines-up-requires c κs = search needs
-
-behind-line-requires : tie.Need-behind-line-requires
-behind-line-requires c κs = search needs
 
 returns-2 : tie.Need-returns-2
 returns-2 c =
-    let after-start-of-line = c .before .before .before in
+    let after-start-of-line = c.before.before.before in
     let entry = after-start-of-line.before.before in
     ups-some entry.args.s.now entry.args.pos entry.args.n _ _ _ after-start-of-line.start-of-line.ensures.0 c.before.before.if1.left
     c.before.lines-up.ensures.0 c.behind-line.ensures.0
@@ -27,4 +18,9 @@ returns-2 c =
 pub n-lines-up-spec : {M : Type 1} → statement M
 n-lines-up-spec =
     tie.close
-    (tie.spec start-of-line-requires returns lines-up-requires behind-line-requires returns-2)
+    (tie.spec
+    (λ start-of-line-requires κs. search needs)
+    returns
+    (λ lines-up-requires κs. search needs)
+    (λ behind-line-requires κs. search needs)
+    returns-2)

@@ -17,15 +17,9 @@ abbrev μ-loop : tie.MeasureT-loop
 loop-holds : tie.Need-loop-holds Inv-loop μ-loop
 loop-holds c = (omega arith, refl)
 
-sub-if1 : tie.Need-sub-if1 Inv-loop μ-loop
-sub-if1 c = search needs
-
-shared-slice-read-if1 : tie.Need-shared-slice-read-if1 Inv-loop μ-loop
-shared-slice-read-if1 c = search needs
-
 returns : tie.Need-returns Inv-loop μ-loop
 returns c =
-    let at-loop = c .before .before .before in
+    let at-loop = c.before.before.before in
     let entry = at-loop.before in (
       sym
           (at-loop.loop.inv.1
@@ -34,15 +28,9 @@ returns c =
       at-loop.loop.inv.0,
     )
 
-sub-i : tie.Need-sub-i Inv-loop μ-loop
-sub-i c = search needs
-
-loop-less : tie.Need-loop-less Inv-loop μ-loop
-loop-less c = search needs
-
 loop-again : tie.Need-loop-again Inv-loop μ-loop
 loop-again c =
-    let at-loop = c .before .before .before in
+    let at-loop = c.before.before.before in
     let entry = at-loop.before in (
       omega (arith, at-loop.loop.inv.0),
       at-loop.loop.inv.1
@@ -61,10 +49,10 @@ start-of-line-spec =
     Inv-loop
     μ-loop
     loop-holds
-    sub-if1
-    shared-slice-read-if1
+    (λ sub-if1. search needs)
+    (λ shared-slice-read-if1. search needs)
     returns
-    sub-i
-    loop-less
+    (λ sub-i. search needs)
+    (λ loop-less. search needs)
     loop-again
     returns-2)

@@ -8,23 +8,20 @@ use borrow.Author.Needs.{needs}
 use Rattle.motion_ranges.proofs.is_foreign.Statement.{statement}
 use Rattle.motion_ranges.proofs.is_foreign.Tie as tie
 
-enum-known-m : tie.Need-enum-known-m
-enum-known-m c = search needs
-
 returns : tie.Need-returns
-returns c = no-search catalogue (c .before .args .m) (c .match .keys2)
-
-char-of-requires : tie.Need-char-of-requires
-char-of-requires c κs = search needs
-
-check-char-requires : tie.Need-check-char-requires
-check-char-requires c κs = search needs
+returns c = no-search catalogue c.before.args.m c.match.keys2
 
 returns-2 : tie.Need-returns-2
 returns-2 c =
-    let after-m = c .before .before .before in
+    let after-m = c.before.before.before in
     ap not (c.check-char.ensures ∙ ap (isChar catalogue) c.before.char-of.ensures) ∙ sym (ap (isForeign catalogue) after-m.m.given.1)
 
 pub is-foreign-spec : {M : Type 1} → statement M
 is-foreign-spec =
-    tie.close (tie.spec enum-known-m returns char-of-requires check-char-requires returns-2)
+    tie.close
+    (tie.spec
+    (λ enum-known-m. search needs)
+    returns
+    (λ char-of-requires κs. search needs)
+    (λ check-char-requires κs. search needs)
+    returns-2)

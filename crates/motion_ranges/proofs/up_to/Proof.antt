@@ -7,20 +7,11 @@ use borrow.Author.Needs.{needs}
 use Rattle.motion_ranges.proofs.up_to.Statement.{statement}
 use Rattle.motion_ranges.proofs.up_to.Tie as tie
 
-enum-known-f : tie.Need-enum-known-f
-enum-known-f c = search needs
-
-enum-told : tie.Need-enum-told
-enum-told c = search needs
-
 returns : tie.Need-returns
 returns c =
-    let entry = c .before .before .before in
+    let entry = c.before.before.before in
     ap (Places entry.args.pos) (let q : c.before.f.given.0.0 ≡ c.before.f.given.0.0 + 0 = omega arith in q)
     ∙ sym (ap (upTo entry.args.pos 0) c.before.f.given.1)
 
-returns-2 : tie.Need-returns-2
-returns-2 c = search needs
-
 pub up-to-spec : {M : Type 1} → statement M
-up-to-spec = tie.close (tie.spec enum-known-f enum-told returns returns-2)
+up-to-spec = tie.close (tie.spec (λ enum-known-f. search needs) (λ enum-told. search needs) returns (λ returns-2. search needs))

@@ -4,12 +4,6 @@ use borrow.Author.Needs.{needs}
 use Rattle.motion_ranges.proofs.whole_line.Statement.{statement}
 use Rattle.motion_ranges.proofs.whole_line.Tie as tie
 
-start-of-line-requires : tie.Need-start-of-line-requires
-start-of-line-requires c κs = search needs
-
-end-of-line-requires : tie.Need-end-of-line-requires
-end-of-line-requires c κs = search needs
-
 returns : tie.Need-returns
 returns c =
     line-empty catalogue _ _ c.before.before.start-of-line.result _ c.before.before.start-of-line.ensures.0 c.before.end-of-line.ensures.0
@@ -22,4 +16,4 @@ returns-2 c =
 
 pub whole-line-spec : {M : Type 1} → statement M
 whole-line-spec =
-    tie.close (tie.spec start-of-line-requires end-of-line-requires returns returns-2)
+    tie.close (tie.spec (λ start-of-line-requires κs. search needs) (λ end-of-line-requires κs. search needs) returns returns-2)

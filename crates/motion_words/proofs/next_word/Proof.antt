@@ -38,98 +38,55 @@ Inv-outer t at word n next₀ found₀ last₀ left₀ next found last left =
 abbrev μ-outer : tie.MeasureT-outer
 μ-outer t at word n next₀ found₀ last₀ left₀ next found last left = left
 
-is-before-end-requires : tie.Need-is-before-end-requires Inv-inner μ-inner Inv-outer μ-outer
-is-before-end-requires c κs = search needs
-
-first-len-requires : tie.Need-first-len-requires Inv-inner μ-inner Inv-outer μ-outer
-first-len-requires c κs = search needs
-
 outer-holds : tie.Need-outer-holds Inv-inner μ-inner Inv-outer μ-outer
 outer-holds c =
-    let a = c .before .before .before .args in
-    let b = c .before .is-before-end .ensures in
+    let a = c.before.before.before.args in
+    let b = c.before.is-before-end.ensures in
     ⊎-elim
     (λ z. (
-      omega (arith, z .1 .ensures .1),
+      omega (arith, z.1.ensures.1),
       refl,
-      first-passed catalogue (a .t .now) (a .at) (a .word) (a .n) (c .if1 .next) (sym b ∙ z .0 .taken) (z .2 ∙ z .1 .ensures .0),
+      first-passed catalogue a.t.now a.at a.word a.n c.if1.next (sym b ∙ z.0.taken) (z.2 ∙ z.1.ensures.0),
     ))
     (λ z. (
-      omega (arith, z .1),
+      omega (arith, z.1),
       refl,
-      first-all catalogue (a .t .now) (a .at) (a .word) (a .n) (sym b ∙ z .0 .left) ∙
-          ap (λ k. rounds catalogue (a .t .now) (a .at) (a .word) (a .n) k 0) (sym (z .1)),
-    ))
-    (c .if1 .came)
-
-sub-next-cluster : tie.Need-sub-next-cluster Inv-inner μ-inner Inv-outer μ-outer
-sub-next-cluster c = search needs
-
-part-next-cluster-start : tie.Need-part-next-cluster-start Inv-inner μ-inner Inv-outer μ-outer
-part-next-cluster-start c = search needs
-
-part-next-cluster-end : tie.Need-part-next-cluster-end Inv-inner μ-inner Inv-outer μ-outer
-part-next-cluster-end c = search needs
-
-next-cluster-requires : tie.Need-next-cluster-requires Inv-inner μ-inner Inv-outer μ-outer
-next-cluster-requires c κs = search needs
+      first-all catalogue a.t.now a.at a.word a.n (sym b ∙ z.0.left)
+          ∙ ap (λ k. rounds catalogue a.t.now a.at a.word a.n k 0) (sym z.1),
+    )) c.if1.came
 
 add-next : tie.Need-add-next Inv-inner μ-inner Inv-outer μ-outer
 add-next c =
-    let a = c .before .before .before .before .before .before .before .before .before .args in
-    let o = c .before .before .before .before .before .outer in
-    omega (arith, told catalogue (a .t .now) (o .next) _ (o .inv .0) (c .before .next-cluster .ensures) .fits)
+    let a = c.before.before.before.before.before.before.before.before.before.args in
+    let o = c.before.before.before.before.before.outer in
+    omega (arith, (told catalogue a.t.now o.next _ o.inv.0 c.before.next-cluster.ensures) .fits)
 
 inner-holds : tie.Need-inner-holds Inv-inner μ-inner Inv-outer μ-outer
 inner-holds c =
-    let a = c .before .before .before .before .before .before .before .before .before .args in
-    let o = c .before .before .before .before .before .outer in
-    let x = told catalogue (a .t .now) (o .next) _ (o .inv .0) (c .before .next-cluster .ensures) in
-    let h : 0 < o .left = omega arith in (
-      x .fits,
-      h,
-      refl,
-      refl,
-      o .inv .2 ∙
-          rounds-in catalogue (a .t .now) (a .at) (a .word) (o .next) _ (x .known) (o .left) (o .found) h (c .if2 .left),
-    )
-
-sub-next-cluster-2 : tie.Need-sub-next-cluster-2 Inv-inner μ-inner Inv-outer μ-outer
-sub-next-cluster-2 c = search needs
-
-part-next-cluster-start-2 : tie.Need-part-next-cluster-start-2 Inv-inner μ-inner Inv-outer μ-outer
-part-next-cluster-start-2 c = search needs
-
-part-next-cluster-end-2 : tie.Need-part-next-cluster-end-2 Inv-inner μ-inner Inv-outer μ-outer
-part-next-cluster-end-2 c = search needs
-
-next-cluster-requires-2 : tie.Need-next-cluster-requires-2 Inv-inner μ-inner Inv-outer μ-outer
-next-cluster-requires-2 c κs = search needs
+    let a = c.before.before.before.before.before.before.before.before.before.args in
+    let o = c.before.before.before.before.before.outer in
+    let x = told catalogue a.t.now o.next _ o.inv.0 c.before.next-cluster.ensures in
+    let h : 0 < o.left = omega arith in
+    (x.fits, h, refl, refl, o.inv.2 ∙ rounds-in catalogue a.t.now a.at a.word o.next _ x.known o.left o.found h c.if2.left)
 
 add-next-2 : tie.Need-add-next-2 Inv-inner μ-inner Inv-outer μ-outer
 add-next-2 c =
-    let a = c .before .before .before .before .before .before .before .before .before .before .before .before .before .args in
-    let i = c .before .before .before .inner in
-    omega (arith, told catalogue (a .t .now) (i .next) _ (i .inv .0) (c .before .next-cluster2 .ensures) .fits)
-
-stops-at-requires : tie.Need-stops-at-requires Inv-inner μ-inner Inv-outer μ-outer
-stops-at-requires c κs = search needs
-
-lands-on-requires : tie.Need-lands-on-requires Inv-inner μ-inner Inv-outer μ-outer
-lands-on-requires c κs = search needs
+    let a = c.before.before.before.before.before.before.before.before.before.before.before.before.before.args in
+    let i = c.before.before.before.inner in
+    omega (arith, (told catalogue a.t.now i.next _ i.inv.0 c.before.next-cluster2.ensures) .fits)
 
 inner-less : tie.Need-inner-less Inv-inner μ-inner Inv-outer μ-outer
 inner-less c =
-    let after-next-cluster2 = c .before .before .before in
+    let after-next-cluster2 = c.before.before.before in
     let a = after-next-cluster2 .before .before .before .before .before .before .before .before .before .before .before .before .args in
     let i = after-next-cluster2.before.before.inner in
     omega (arith, (told catalogue a.t.now i.next _ i.inv.0 after-next-cluster2.next-cluster2.ensures) .fits, c.before.before.if3.left)
 
 inner-again : tie.Need-inner-again Inv-inner μ-inner Inv-outer μ-outer
 inner-again c =
-    let after-next-cluster2 = c .before .before .before in
-    let at-outer = after-next-cluster2 .before .before .before .before .before .before .before .before in
-    let a = at-outer .before .before .before .before .args in
+    let after-next-cluster2 = c.before.before.before in
+    let at-outer = after-next-cluster2.before.before.before.before.before.before.before.before in
+    let a = at-outer.before.before.before.before.args in
     let i = after-next-cluster2.before.before.inner in
     let y = told catalogue a.t.now i.next _ i.inv.0 after-next-cluster2.next-cluster2.ensures in (
       y.fits,
@@ -141,18 +98,15 @@ inner-again c =
           c.before.stops-at.ensures c.if4.left,
     )
 
-sub-left : tie.Need-sub-left Inv-inner μ-inner Inv-outer μ-outer
-sub-left c = search needs
-
 outer-less : tie.Need-outer-less Inv-inner μ-inner Inv-outer μ-outer
 outer-less c = omega arith
 
 outer-again : tie.Need-outer-again Inv-inner μ-inner Inv-outer μ-outer
 outer-again c =
-    let else3 = c .before .before .before in
+    let else3 = c.before.before.before in
     let after-next-cluster2 = else3.before in
-    let at-outer = after-next-cluster2 .before .before .before .before .before .before .before .before in
-    let a = at-outer .before .before .before .before .args in
+    let at-outer = after-next-cluster2.before.before.before.before.before.before.before.before in
+    let a = at-outer.before.before.before.before.args in
     let i = after-next-cluster2.before.before.inner in
     let y = told catalogue a.t.now i.next _ i.inv.0 after-next-cluster2.next-cluster2.ensures in (
       y.fits,
@@ -164,24 +118,23 @@ outer-again c =
 
 returns : tie.Need-returns Inv-inner μ-inner Inv-outer μ-outer
 returns c =
-    let a = c .before .before .before .before .before .args in
-    let o = c .before .outer in
-    sym (o .inv .2 ∙ rounds-done catalogue (a .t .now) (a .at) (a .word) (o .left) (o .next) (o .found) (omega arith) ∙
-    ap (landing (o .found)) (sym (o .inv .1)))
+    let a = c.before.before.before.before.before.args in
+    let o = c.before.outer in
+    sym (o.inv.2 ∙ rounds-done catalogue a.t.now a.at a.word o.left o.next o.found (omega arith) ∙ ap (landing o.found) (sym o.inv.1))
 
 returns-2 : tie.Need-returns-2 Inv-inner μ-inner Inv-outer μ-outer
 returns-2 c =
-    let a = c .before .before .before .before .before .before .before .before .before .args in
-    let o = c .before .before .before .before .before .outer in
-    let x = told catalogue (a .t .now) (o .next) _ (o .inv .0) (c .before .next-cluster .ensures) in
-    let h : 0 < o .left = omega arith in
-    sym (o .inv .2 ∙ rounds-out catalogue (a .t .now) (a .at) (a .word) (o .next) _ (x .known) (o .left) (o .found) h (c .if2 .taken))
+    let a = c.before.before.before.before.before.before.before.before.before.args in
+    let o = c.before.before.before.before.before.outer in
+    let x = told catalogue a.t.now o.next _ o.inv.0 c.before.next-cluster.ensures in
+    let h : 0 < o.left = omega arith in
+    sym (o.inv.2 ∙ rounds-out catalogue a.t.now a.at a.word o.next _ x.known o.left o.found h c.if2.taken)
 
 returns-3 : tie.Need-returns-3 Inv-inner μ-inner Inv-outer μ-outer
 returns-3 c =
-    let at-outer = c .before .before .before .before .before .before .before .before .before in
-    let a = at-outer .before .before .before .before .args in
-    let i = c .before .before .before .inner in
+    let at-outer = c.before.before.before.before.before.before.before.before.before in
+    let a = at-outer.before.before.before.before.args in
+    let i = c.before.before.before.inner in
     let y = told catalogue a.t.now i.next _ i.inv.0 c.before.next-cluster2.ensures in
     sym
     (i.inv.4
@@ -196,25 +149,25 @@ next-word-spec =
     μ-inner
     Inv-outer
     μ-outer
-    is-before-end-requires
-    first-len-requires
+    (λ is-before-end-requires κs. search needs)
+    (λ first-len-requires κs. search needs)
     outer-holds
-    sub-next-cluster
-    part-next-cluster-start
-    part-next-cluster-end
-    next-cluster-requires
+    (λ sub-next-cluster. search needs)
+    (λ part-next-cluster-start. search needs)
+    (λ part-next-cluster-end. search needs)
+    (λ next-cluster-requires κs. search needs)
     add-next
     inner-holds
-    sub-next-cluster-2
-    part-next-cluster-start-2
-    part-next-cluster-end-2
-    next-cluster-requires-2
+    (λ sub-next-cluster-2. search needs)
+    (λ part-next-cluster-start-2. search needs)
+    (λ part-next-cluster-end-2. search needs)
+    (λ next-cluster-requires-2 κs. search needs)
     add-next-2
-    stops-at-requires
-    lands-on-requires
+    (λ stops-at-requires κs. search needs)
+    (λ lands-on-requires κs. search needs)
     inner-less
     inner-again
-    sub-left
+    (λ sub-left. search needs)
     outer-less
     outer-again
     returns

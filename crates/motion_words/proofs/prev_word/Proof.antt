@@ -27,69 +27,65 @@ use Rattle.motion_words.proofs.prev_word.Tie as tie
 abbrev Inv-inner : tie.InvT-inner
 Inv-inner t word n rest₀ found₀ left n0 y₀ j₀ rest found y j =
     (rest ≤ length t) × (boundary t rest ≡ true) × (0 < left) × (found ≡ 0) ×
-    (prevWord catalogue t word n ≡ inRoundBack catalogue t word left j y rest .found)
+    (prevWord catalogue t word n ≡ (inRoundBack catalogue t word left j y rest) .found)
 
 abbrev μ-inner : tie.MeasureT-inner
 μ-inner t word n rest₀ found₀ left n0 y₀ j₀ rest found y j = rest
 
 abbrev Inv-outer : tie.InvT-outer
 Inv-outer t word n rest₀ found₀ left₀ rest found left =
-    (rest ≤ length t) × (boundary t rest ≡ true)
-    × (prevWord catalogue t word n ≡ roundsBack catalogue t word left rest found .found)
+    (rest ≤ length t) × (boundary t rest ≡ true) ×
+    (prevWord catalogue t word n ≡ (roundsBack catalogue t word left rest found) .found)
 
 abbrev μ-outer : tie.MeasureT-outer
 μ-outer t word n rest₀ found₀ left₀ rest found left = left
 
 outer-holds : tie.Need-outer-holds Inv-inner μ-inner Inv-outer μ-outer
-outer-holds c = (omega arith, boundary-end _ (c .before .pre), back-first catalogue _ _ _)
+outer-holds c = (omega arith, boundary-end _ c.before.pre, back-first catalogue _ _ _)
 
 slice-aggregate-prev-cluster : tie.Need-slice-aggregate-prev-cluster Inv-inner μ-inner Inv-outer μ-outer
-slice-aggregate-prev-cluster c = sym (length-take-le _ _ (c .before .before .outer .inv .0))
+slice-aggregate-prev-cluster c = sym (length-take-le _ _ c.before.before.outer.inv.0)
 
 prev-cluster-requires : tie.Need-prev-cluster-requires Inv-inner μ-inner Inv-outer μ-outer
-prev-cluster-requires c κs = c .before .before .outer .inv .1
+prev-cluster-requires c κs = c.before.before.outer.inv.1
 
 sub-rest : tie.Need-sub-rest Inv-inner μ-inner Inv-outer μ-outer
 sub-rest c =
-    let a = c .before .before .before .before .before .before .args in
-    let o = c .before .before .before .before .outer in
+    let a = c.before.before.before.before.before.before.args in
+    let o = c.before.before.before.before.outer in
     omega (arith, (back-step catalogue a.t.now o.rest _ o.inv.0 o.inv.1 c.before.prev-cluster.ensures.0 c.if1.left) .fits)
 
 inner-holds : tie.Need-inner-holds Inv-inner μ-inner Inv-outer μ-outer
 inner-holds c =
-    let a = c .before .before .before .before .before .before .args in
-    let o = c .before .before .before .before .outer in
-    let s = back-step catalogue (a .t .now) (o .rest) _ (o .inv .0) (o .inv .1) (c .before .prev-cluster .ensures .0) (c .if1 .left) in
-    let h : 0 < o .left = omega arith in (
+    let a = c.before.before.before.before.before.before.args in
+    let o = c.before.before.before.before.outer in
+    let s = back-step catalogue a.t.now o.rest _ o.inv.0 o.inv.1 c.before.prev-cluster.ensures.0 c.if1.left in
+    let h : 0 < o.left = omega arith in (
       omega arith,
-      s .edge,
+      s.edge,
       h,
       refl,
-      o .inv .2 ∙
-          ap (λ z. z .found)
-          (back-in catalogue (a .t .now) (a .word) (o .rest) _ (o .inv .0) (o .inv .1) (c .before .prev-cluster .ensures .0)
-          (o .left) (o .found) h (c .if1 .left)),
+      o.inv.2
+          ∙ ap (λ z. z.found)
+          (back-in catalogue a.t.now a.word o.rest _ o.inv.0 o.inv.1 c.before.prev-cluster.ensures.0 o.left o.found h c.if1.left),
     )
 
 slice-aggregate-prev-cluster-2 : tie.Need-slice-aggregate-prev-cluster-2 Inv-inner μ-inner Inv-outer μ-outer
-slice-aggregate-prev-cluster-2 c = sym (length-take-le _ _ (c .before .inner .inv .0))
+slice-aggregate-prev-cluster-2 c = sym (length-take-le _ _ c.before.inner.inv.0)
 
 prev-cluster-requires-2 : tie.Need-prev-cluster-requires-2 Inv-inner μ-inner Inv-outer μ-outer
-prev-cluster-requires-2 c κs = c .before .inner .inv .1
+prev-cluster-requires-2 c κs = c.before.inner.inv.1
 
 sub-rest-2 : tie.Need-sub-rest-2 Inv-inner μ-inner Inv-outer μ-outer
 sub-rest-2 c =
-    let a = c .before .before .before .before .before .before .before .before .before .before .args in
-    let i = c .before .before .before .inner in
+    let a = c.before.before.before.before.before.before.before.before.before.before.args in
+    let i = c.before.before.before.inner in
     omega (arith, (back-step catalogue a.t.now i.rest _ i.inv.0 i.inv.1 c.before.prev-cluster2.ensures.0 c.if2.left) .fits)
-
-is-start-of-word-requires : tie.Need-is-start-of-word-requires Inv-inner μ-inner Inv-outer μ-outer
-is-start-of-word-requires c κs = search needs
 
 inner-less : tie.Need-inner-less Inv-inner μ-inner Inv-outer μ-outer
 inner-less c =
-    let after-prev-cluster2 = c .before .before .before in
-    let a = after-prev-cluster2 .before .before .before .before .before .before .before .before .before .args in
+    let after-prev-cluster2 = c.before.before.before in
+    let a = after-prev-cluster2.before.before.before.before.before.before.before.before.before.args in
     let i = after-prev-cluster2.before.before.inner in
     omega (
       arith,
@@ -99,8 +95,8 @@ inner-less c =
 
 inner-again : tie.Need-inner-again Inv-inner μ-inner Inv-outer μ-outer
 inner-again c =
-    let after-prev-cluster2 = c .before .before .before in
-    let at-outer = after-prev-cluster2 .before .before .before .before .before .before .before in
+    let after-prev-cluster2 = c.before.before.before in
+    let at-outer = after-prev-cluster2.before.before.before.before.before.before.before in
     let a = at-outer.before.before.args in
     let i = after-prev-cluster2.before.before.inner in
     let s = back-step catalogue a.t.now i.rest _ i.inv.0 i.inv.1 after-prev-cluster2.prev-cluster2.ensures.0 c.before.before.if2.left in (
@@ -114,16 +110,13 @@ inner-again c =
           i.y _ c.before.before.if2.left c.before.is-start-of-word.ensures c.if3.left),
     )
 
-sub-left : tie.Need-sub-left Inv-inner μ-inner Inv-outer μ-outer
-sub-left c = search needs
-
 outer-less : tie.Need-outer-less Inv-inner μ-inner Inv-outer μ-outer
 outer-less c = omega arith
 
 outer-again : tie.Need-outer-again Inv-inner μ-inner Inv-outer μ-outer
 outer-again c =
-    let after-prev-cluster2 = c .before .before .before in
-    let at-outer = after-prev-cluster2 .before .before .before .before .before .before .before in
+    let after-prev-cluster2 = c.before.before.before in
+    let at-outer = after-prev-cluster2.before.before.before.before.before.before.before in
     let a = at-outer.before.before.args in
     let i = after-prev-cluster2.before.before.inner in
     let s = back-step catalogue a.t.now i.rest _ i.inv.0 i.inv.1 after-prev-cluster2.prev-cluster2.ensures.0 c.before.before.if2.left in (
@@ -137,27 +130,25 @@ outer-again c =
 
 returns : tie.Need-returns Inv-inner μ-inner Inv-outer μ-outer
 returns c =
-    let a = c .before .before .before .args in
-    let o = c .before .outer in
-    sym (o .inv .2 ∙
-    ap (λ z. z .found)
-    (back-done catalogue (a .t .now) (a .word) (o .left) (o .rest) (o .found) (omega arith)))
+    let a = c.before.before.before.args in
+    let o = c.before.outer in
+    sym (o.inv.2 ∙ ap (λ z. z.found) (back-done catalogue a.t.now a.word o.left o.rest o.found (omega arith)))
 
 returns-2 : tie.Need-returns-2 Inv-inner μ-inner Inv-outer μ-outer
 returns-2 c =
-    let a = c .before .before .before .before .before .before .args in
-    let o = c .before .before .before .before .outer in
-    let h : 0 < o .left = omega arith in
-    sym (o .inv .2 ∙
-    ap (λ z. z .found)
-    (back-out catalogue (a .t .now) (a .word) (o .rest) _ (o .inv .0) (o .inv .1) (c .before .prev-cluster .ensures .0)
-    (o .left) (o .found) h (c .if1 .taken)))
+    let a = c.before.before.before.before.before.before.args in
+    let o = c.before.before.before.before.outer in
+    let h : 0 < o.left = omega arith in
+    sym
+    (o.inv.2
+    ∙ ap (λ z. z.found)
+    (back-out catalogue a.t.now a.word o.rest _ o.inv.0 o.inv.1 c.before.prev-cluster.ensures.0 o.left o.found h c.if1.taken))
 
 returns-3 : tie.Need-returns-3 Inv-inner μ-inner Inv-outer μ-outer
 returns-3 c =
-    let at-outer = c .before .before .before .before .before .before .before .before in
+    let at-outer = c.before.before.before.before.before.before.before.before in
     let a = at-outer.before.before.args in
-    let i = c .before .before .before .inner in
+    let i = c.before.before.before.inner in
     i.inv.3
     ∙ sym
     (i.inv.4
@@ -181,10 +172,10 @@ prev-word-spec =
     slice-aggregate-prev-cluster-2
     prev-cluster-requires-2
     sub-rest-2
-    is-start-of-word-requires
+    (λ is-start-of-word-requires κs. search needs)
     inner-less
     inner-again
-    sub-left
+    (λ sub-left. search needs)
     outer-less
     outer-again
     returns

@@ -4,14 +4,10 @@ use borrow.Author.Needs.{needs}
 use Rattle.motion_words.proofs.words_on.Statement.{statement}
 use Rattle.motion_words.proofs.words_on.Tie as tie
 
-next-word-pos-requires : tie.Need-next-word-pos-requires
-next-word-pos-requires c κs = search needs
-
-or-stay-requires : tie.Need-or-stay-requires
-or-stay-requires c κs = search needs
-
 returns : tie.Need-returns
-returns c = c .or-stay .ensures ∙ ap (orStay (c .before .before .before .args .pos)) (c .before .next-word-pos .ensures)
+returns c =
+    let entry = c.before.before.before in
+    c.or-stay.ensures ∙ ap (orStay entry.args.pos) c.before.next-word-pos.ensures
 
 pub words-on-spec : {M : Type 1} → statement M
-words-on-spec = tie.close (tie.spec next-word-pos-requires or-stay-requires returns)
+words-on-spec = tie.close (tie.spec (λ next-word-pos-requires κs. search needs) (λ or-stay-requires κs. search needs) returns)

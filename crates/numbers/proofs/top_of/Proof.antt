@@ -15,10 +15,7 @@ abbrev μ-loop : tie.MeasureT-loop
 μ-loop width above₀ left₀ above left = left
 
 loop-holds : tie.Need-loop-holds Inv-loop μ-loop
-loop-holds c = (omega arith, top-start (c .args .width))
-
-sub-left : tie.Need-sub-left Inv-loop μ-loop
-sub-left c = search needs
+loop-holds c = (omega arith, top-start c.args.width)
 
 mul-above : tie.Need-mul-above Inv-loop μ-loop
 mul-above c =
@@ -40,4 +37,4 @@ returns c =
 
 pub top-of-spec : {M : Type 1} → statement M
 top-of-spec =
-    tie.close (tie.spec Inv-loop μ-loop loop-holds sub-left mul-above loop-less loop-again returns)
+    tie.close (tie.spec Inv-loop μ-loop loop-holds (λ sub-left. search needs) mul-above loop-less loop-again returns)

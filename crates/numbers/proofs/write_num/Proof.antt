@@ -17,16 +17,18 @@ abbrev μ-loop : tie.MeasureT-loop
 μ-loop s₀ at v width rest₀ i₀ s rest i = width - i
 
 loop-holds : tie.Need-loop-holds Inv-loop μ-loop
-loop-holds c = let s = c .args in (omega arith, refl, none-stored (now (s .s)) (s .at) (s .width) (s .v))
+loop-holds c =
+    let s = c.args in
+    (omega arith, refl, none-stored (now s.s) s.at s.width s.v)
 
 cast-s : tie.Need-cast-s Inv-loop μ-loop
 cast-s c = omega arith
 
 add-s : tie.Need-add-s Inv-loop μ-loop
-add-s c = omega (arith, c .before .before .pre)
+add-s c = omega (arith, c.before.before.pre)
 
 slice-write-s : tie.Need-slice-write-s Inv-loop μ-loop
-slice-write-s c = omega (arith, c .before .before .pre, c .before .loop .inv .1)
+slice-write-s c = omega (arith, c.before.before.pre, c.before.loop.inv.1)
 
 add-i : tie.Need-add-i Inv-loop μ-loop
 add-i c = omega arith
@@ -35,15 +37,19 @@ loop-less : tie.Need-loop-less Inv-loop μ-loop
 loop-less c = omega arith
 
 loop-again : tie.Need-loop-again Inv-loop μ-loop
-loop-again c = let s = c .before .before .args in let l = c .before .loop in
-    (omega arith, simp length-set (l .inv .1), byte-stored (l .s) (s .at) (l .i) (s .width) (l .rest) (c .loop-test .taken) ∙ l .inv .2)
+loop-again c =
+    let s = c.before.before.args in
+    let l = c.before.loop in
+    (omega arith, simp length-set l.inv.1, byte-stored l.s s.at l.i s.width l.rest c.loop-test.taken ∙ l.inv.2)
 
 same-length : tie.Need-same-length Inv-loop μ-loop
-same-length c = c .before .loop .inv .1
+same-length c = c.before.loop.inv.1
 
 returns : tie.Need-returns Inv-loop μ-loop
-returns c = let s = c .before .before .args in let l = c .before .loop in
-    sym (all-stored (l .s) (s .at) (l .i) (s .width) (l .rest) (c .loop-test .left)) ∙ l .inv .2
+returns c =
+    let s = c.before.before.args in
+    let l = c.before.loop in
+    sym (all-stored l.s s.at l.i s.width l.rest c.loop-test.left) ∙ l.inv.2
 
 pub write-num-spec : {M : Type 1} → statement M
 write-num-spec =

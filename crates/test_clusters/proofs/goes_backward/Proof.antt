@@ -12,47 +12,17 @@ Inv-loop text row₀ at₀ row at = (length row ≡ length row₀) × (at ≤ le
 abbrev μ-loop : tie.MeasureT-loop
 μ-loop text row₀ at₀ row at = at
 
-loop-holds : tie.Need-loop-holds Inv-loop μ-loop
-loop-holds c = search needs
-
-slice-write-row : tie.Need-slice-write-row Inv-loop μ-loop
-slice-write-row c = search needs
-
-sub-last-len : tie.Need-sub-last-len Inv-loop μ-loop
-sub-last-len c = search needs
-
-part-last-len-start : tie.Need-part-last-len-start Inv-loop μ-loop
-part-last-len-start c = search needs
-
-part-last-len-end : tie.Need-part-last-len-end Inv-loop μ-loop
-part-last-len-end c = search needs
-
-last-len-requires : tie.Need-last-len-requires Inv-loop μ-loop
-last-len-requires c κs = search needs
-
 same-length : tie.Need-same-length Inv-loop μ-loop
 same-length c = simp length-set (omega arith)
 
-returns : tie.Need-returns Inv-loop μ-loop
-returns c = search needs
-
 sub-at : tie.Need-sub-at Inv-loop μ-loop
-sub-at c = omega (arith, simp length-take at (c .before .last-len .ensures))
-
-loop-less : tie.Need-loop-less Inv-loop μ-loop
-loop-less c = search needs
+sub-at c = omega (arith, simp length-take at c.before.last-len.ensures)
 
 loop-again : tie.Need-loop-again Inv-loop μ-loop
 loop-again c = (simp length-set (omega arith), omega arith)
 
-slice-write-row-2 : tie.Need-slice-write-row-2 Inv-loop μ-loop
-slice-write-row-2 c = search needs
-
 same-length-2 : tie.Need-same-length-2 Inv-loop μ-loop
 same-length-2 c = simp length-set (omega arith)
-
-returns-2 : tie.Need-returns-2 Inv-loop μ-loop
-returns-2 c = search needs
 
 pub goes-backward-spec : {M : Type 1} → statement M
 goes-backward-spec =
@@ -60,17 +30,17 @@ goes-backward-spec =
     (tie.spec
     Inv-loop
     μ-loop
-    loop-holds
-    slice-write-row
-    sub-last-len
-    part-last-len-start
-    part-last-len-end
-    last-len-requires
+    (λ loop-holds. search needs)
+    (λ slice-write-row. search needs)
+    (λ sub-last-len. search needs)
+    (λ part-last-len-start. search needs)
+    (λ part-last-len-end. search needs)
+    (λ last-len-requires κs. search needs)
     same-length
-    returns
+    (λ returns. search needs)
     sub-at
-    loop-less
+    (λ loop-less. search needs)
     loop-again
-    slice-write-row-2
+    (λ slice-write-row-2. search needs)
     same-length-2
-    returns-2)
+    (λ returns-2. search needs))

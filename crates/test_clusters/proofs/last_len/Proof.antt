@@ -6,17 +6,14 @@ use borrow.Author.Needs.{needs}
 use Rattle.test_clusters.proofs.last_len.Statement.{statement}
 use Rattle.test_clusters.proofs.last_len.Tie as tie
 
-check-text-requires : tie.Need-check-text-requires
-check-text-requires c κs = search needs
-
-returns : tie.Need-returns
-returns c = search needs
-
 prev-cluster-requires : tie.Need-prev-cluster-requires
-prev-cluster-requires c κs = text-valid catalogue _ (sym (c .before .check-text .ensures) ∙ not-false _ (c .if1 .left))
-
-returns-2 : tie.Need-returns-2
-returns-2 c = search needs
+prev-cluster-requires c κs = text-valid catalogue _ (sym c.before.check-text.ensures ∙ not-false _ c.if1.left)
 
 pub last-len-spec : {M : Type 1} → statement M
-last-len-spec = tie.close (tie.spec check-text-requires returns prev-cluster-requires returns-2)
+last-len-spec =
+    tie.close
+    (tie.spec
+    (λ check-text-requires κs. search needs)
+    (λ returns. search needs)
+    prev-cluster-requires
+    (λ returns-2. search needs))

@@ -14,96 +14,18 @@ Inv-loop line text₀ want₀ len₀ at₀ text want len at =
 abbrev μ-loop : tie.MeasureT-loop
 μ-loop line text₀ want₀ len₀ at₀ text want len at = length line - at
 
-loop-holds : tie.Need-loop-holds Inv-loop μ-loop
-loop-holds c = search needs
-
-sub-loop : tie.Need-sub-loop Inv-loop μ-loop
-sub-loop c = search needs
-
-shared-slice-read-mark-of : tie.Need-shared-slice-read-mark-of Inv-loop μ-loop
-shared-slice-read-mark-of c = search needs
-
-add-mark-of : tie.Need-add-mark-of Inv-loop μ-loop
-add-mark-of c = search needs
-
-shared-slice-read-mark-of-2 : tie.Need-shared-slice-read-mark-of-2 Inv-loop μ-loop
-shared-slice-read-mark-of-2 c = search needs
-
-mark-of-requires : tie.Need-mark-of-requires Inv-loop μ-loop
-mark-of-requires c κs = search needs
-
-same-length : tie.Need-same-length Inv-loop μ-loop
-same-length c = search needs
-
-same-length-2 : tie.Need-same-length-2 Inv-loop μ-loop
-same-length-2 c = search needs
-
-returns : tie.Need-returns Inv-loop μ-loop
-returns c = search needs
-
-same-length-3 : tie.Need-same-length-3 Inv-loop μ-loop
-same-length-3 c = search needs
-
-same-length-4 : tie.Need-same-length-4 Inv-loop μ-loop
-same-length-4 c = search needs
-
-returns-2 : tie.Need-returns-2 Inv-loop μ-loop
-returns-2 c = search needs
-
-slice-write-want : tie.Need-slice-write-want Inv-loop μ-loop
-slice-write-want c = search needs
-
-add-at : tie.Need-add-at Inv-loop μ-loop
-add-at c = search needs
-
-same-length-5 : tie.Need-same-length-5 Inv-loop μ-loop
-same-length-5 c = search needs
-
-same-length-6 : tie.Need-same-length-6 Inv-loop μ-loop
-same-length-6 c = search needs
-
-returns-3 : tie.Need-returns-3 Inv-loop μ-loop
-returns-3 c = search needs
-
-point-at-requires : tie.Need-point-at-requires Inv-loop μ-loop
-point-at-requires c κs = search needs
-
-encode-at-requires : tie.Need-encode-at-requires Inv-loop μ-loop
-encode-at-requires c κs = search needs
-
-same-length-7 : tie.Need-same-length-7 Inv-loop μ-loop
-same-length-7 c = search needs
-
-same-length-8 : tie.Need-same-length-8 Inv-loop μ-loop
-same-length-8 c = search needs
-
-returns-4 : tie.Need-returns-4 Inv-loop μ-loop
-returns-4 c = search needs
-
 add-len : tie.Need-add-len Inv-loop μ-loop
 add-len c =
-    let after-encode-at = c .before .before .before in
-    let at-loop = after-encode-at .before .before .before .before .before .before .before .before .before .before in
+    let after-encode-at = c.before.before.before in
+    let at-loop = after-encode-at.before.before.before.before.before.before.before.before.before.before in
     omega (arith, fits _ _ _ _ _ after-encode-at.encode-at.ensures at-loop.loop.inv.2)
-
-loop-less : tie.Need-loop-less Inv-loop μ-loop
-loop-less c = search needs
 
 loop-again : tie.Need-loop-again Inv-loop μ-loop
 loop-again c =
-    let after-encode-at = c .before .before .before in
-    let at-loop = after-encode-at .before .before .before .before .before .before .before .before .before .before in
+    let after-encode-at = c.before.before.before in
+    let at-loop = after-encode-at.before.before.before.before.before.before.before.before.before.before in
     let f = fits _ _ _ _ _ after-encode-at.encode-at.ensures at-loop.loop.inv.2 in
     (search needs, simp length-set (omega arith), omega (arith, after-encode-at.encode-at.kept), omega arith)
-
-same-length-9 : tie.Need-same-length-9 Inv-loop μ-loop
-same-length-9 c = search needs
-
-same-length-10 : tie.Need-same-length-10 Inv-loop μ-loop
-same-length-10 c = search needs
-
-returns-5 : tie.Need-returns-5 Inv-loop μ-loop
-returns-5 c = search needs
 
 pub text-of-spec : {M : Type 1} → statement M
 text-of-spec =
@@ -111,31 +33,31 @@ text-of-spec =
     (tie.spec
     Inv-loop
     μ-loop
-    loop-holds
-    sub-loop
-    shared-slice-read-mark-of
-    add-mark-of
-    shared-slice-read-mark-of-2
-    mark-of-requires
-    same-length
-    same-length-2
-    returns
-    same-length-3
-    same-length-4
-    returns-2
-    slice-write-want
-    add-at
-    same-length-5
-    same-length-6
-    returns-3
-    point-at-requires
-    encode-at-requires
-    same-length-7
-    same-length-8
-    returns-4
+    (λ loop-holds. search needs)
+    (λ sub-loop. search needs)
+    (λ shared-slice-read-mark-of. search needs)
+    (λ add-mark-of. search needs)
+    (λ shared-slice-read-mark-of-2. search needs)
+    (λ mark-of-requires κs. search needs)
+    (λ same-length. search needs)
+    (λ same-length-2. search needs)
+    (λ returns. search needs)
+    (λ same-length-3. search needs)
+    (λ same-length-4. search needs)
+    (λ returns-2. search needs)
+    (λ slice-write-want. search needs)
+    (λ add-at. search needs)
+    (λ same-length-5. search needs)
+    (λ same-length-6. search needs)
+    (λ returns-3. search needs)
+    (λ point-at-requires κs. search needs)
+    (λ encode-at-requires κs. search needs)
+    (λ same-length-7. search needs)
+    (λ same-length-8. search needs)
+    (λ returns-4. search needs)
     add-len
-    loop-less
+    (λ loop-less. search needs)
     loop-again
-    same-length-9
-    same-length-10
-    returns-5)
+    (λ same-length-9. search needs)
+    (λ same-length-10. search needs)
+    (λ returns-5. search needs))

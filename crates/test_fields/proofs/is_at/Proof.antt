@@ -4,14 +4,8 @@ use borrow.Author.Needs.{needs}
 use Rattle.test_fields.proofs.is_at.Statement.{statement}
 use Rattle.test_fields.proofs.is_at.Tie as tie
 
-shared-slice-read-result : tie.Need-shared-slice-read-result
-shared-slice-read-result c = search needs
-
-returns : tie.Need-returns
-returns c = search needs
-
 returns-2 : tie.Need-returns-2
 returns-2 c = λ e. never _ _ e refl
 
 pub is-at-spec : {M : Type 1} → statement M
-is-at-spec = tie.close (tie.spec shared-slice-read-result returns returns-2)
+is-at-spec = tie.close (tie.spec (λ shared-slice-read-result. search needs) (λ returns. search needs) returns-2)

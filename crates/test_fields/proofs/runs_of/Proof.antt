@@ -11,53 +11,20 @@ Inv-loop s from out₀ len₀ at₀ out len at = (at ≤ length s) × (len ≤ l
 abbrev μ-loop : tie.MeasureT-loop
 μ-loop s from out₀ len₀ at₀ out len at = length s - at
 
-run-of-requires : tie.Need-run-of-requires Inv-loop μ-loop
-run-of-requires c κs = search needs
-
-loop-holds : tie.Need-loop-holds Inv-loop μ-loop
-loop-holds c = search needs
-
-shared-slice-read-if1 : tie.Need-shared-slice-read-if1 Inv-loop μ-loop
-shared-slice-read-if1 c = search needs
-
-same-length : tie.Need-same-length Inv-loop μ-loop
-same-length c = search needs
-
-returns : tie.Need-returns Inv-loop μ-loop
-returns c = search needs
-
-add-run-of : tie.Need-add-run-of Inv-loop μ-loop
-add-run-of c = search needs
-
-run-of-requires-2 : tie.Need-run-of-requires-2 Inv-loop μ-loop
-run-of-requires-2 c κs = search needs
-
-loop-less : tie.Need-loop-less Inv-loop μ-loop
-loop-less c = search needs
-
-loop-again : tie.Need-loop-again Inv-loop μ-loop
-loop-again c = search needs
-
-same-length-2 : tie.Need-same-length-2 Inv-loop μ-loop
-same-length-2 c = search needs
-
-returns-2 : tie.Need-returns-2 Inv-loop μ-loop
-returns-2 c = search needs
-
 pub runs-of-spec : {M : Type 1} → statement M
 runs-of-spec =
     tie.close
     (tie.spec
     Inv-loop
     μ-loop
-    run-of-requires
-    loop-holds
-    shared-slice-read-if1
-    same-length
-    returns
-    add-run-of
-    run-of-requires-2
-    loop-less
-    loop-again
-    same-length-2
-    returns-2)
+    (λ run-of-requires κs. search needs)
+    (λ loop-holds. search needs)
+    (λ shared-slice-read-if1. search needs)
+    (λ same-length. search needs)
+    (λ returns. search needs)
+    (λ add-run-of. search needs)
+    (λ run-of-requires-2 κs. search needs)
+    (λ loop-less. search needs)
+    (λ loop-again. search needs)
+    (λ same-length-2. search needs)
+    (λ returns-2. search needs))

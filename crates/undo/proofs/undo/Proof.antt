@@ -14,27 +14,15 @@ use Rattle.undo.proofs.Calls.{call-refused, call-passed}
 use Rattle.undo.proofs.undo.Statement.{statement}
 use Rattle.undo.proofs.undo.Tie as tie
 
-format-for-requires : tie.Need-format-for-requires
-format-for-requires c κs = search needs
-
-none-requires : tie.Need-none-requires
-none-requires c κs = search needs
-
 check-requires : tie.Need-check-requires
 check-requires c κs = fit-for _ c.before.before.format-for.ensures
 
-says-requires : tie.Need-says-requires
-says-requires c κs = search needs
-
-same-length : tie.Need-same-length
-same-length c = search needs
-
 returns : tie.Need-returns
 returns c =
-    let r = c .before .before .before .check in
-    let after-none = c .before .before .before .before in
-    let f = after-none .before .before .format-for in
-    let a = after-none .before .before .before .before .before .before .args in
+    let r = c.before.before.before.check in
+    let after-none = c.before.before.before.before in
+    let f = after-none.before.before.format-for in
+    let a = after-none.before.before.before.before.before.before.args in
     let l = lent (now a.text) (now a.records) (now a.texts) a.line a.log in
     let o = undoOut (length (now a.text)) a.n (stateOf catalogue f.result l) in (
       in-format l (λ (F : Format). undoCall catalogue F l a.n) f.ensures
@@ -44,26 +32,23 @@ returns c =
 
 undo-units-requires : tie.Need-undo-units-requires
 undo-units-requires c κs =
-    let else1 = c .before .before in
-    let r = else1 .before .before .check in
-    let f = c .before .before .before .before .before .before .before .format-for in
-    let a = c .before .before .before .before .before .before .before .before .before .before .before .args in
+    let else1 = c.before.before in
+    let r = else1.before.before.check in
+    let f = c.before.before.before.before.before.before.before.format-for in
+    let a = c.before.before.before.before.before.before.before.before.before.before.before.args in
     let l = lent (now a.text) (now a.records) (now a.texts) a.line a.log in
     let ready = r.ensures.1.0 else1.if1.left in
     let starts = newest-last catalogue f.result _ _ (r.ensures.1.1 else1.if1.left) _ _ (lays f.result (logLent l) ready.log) in
     (fit-for _ f.ensures, (ready, starts))
 
-same-length-2 : tie.Need-same-length-2
-same-length-2 c = search needs
-
 returns-2 : tie.Need-returns-2
 returns-2 c =
     let u = c.before.before.undo-units in
-    let else1 = c .before .before .before .before .before in
-    let r = else1 .before .before .check in
-    let after-none = else1 .before .before .before in
-    let f = after-none .before .before .format-for in
-    let a = after-none .before .before .before .before .before .before .args in
+    let else1 = c.before.before.before.before.before in
+    let r = else1.before.before.check in
+    let after-none = else1.before.before.before in
+    let f = after-none.before.before.format-for in
+    let a = after-none.before.before.before.before.before.before.args in
     let l = lent (now a.text) (now a.records) (now a.texts) a.line a.log in
     let o = undoOut (length (now a.text)) a.n (stateOf catalogue f.result l) in (
       in-format l (λ (F : Format). undoCall catalogue F l a.n) f.ensures
@@ -75,12 +60,12 @@ pub undo-spec : {M : Type 1} → statement M
 undo-spec =
     tie.close
     (tie.spec
-    format-for-requires
-    none-requires
+    (λ format-for-requires κs. search needs)
+    (λ none-requires κs. search needs)
     check-requires
-    says-requires
-    same-length
+    (λ says-requires κs. search needs)
+    (λ same-length. search needs)
     returns
     undo-units-requires
-    same-length-2
+    (λ same-length-2. search needs)
     returns-2)

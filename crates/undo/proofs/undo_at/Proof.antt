@@ -9,36 +9,27 @@ use Rattle.undo.proofs.Steps.{texts-within, stands-there, seam-there, s
 use Rattle.undo.proofs.undo_at.Statement.{statement}
 use Rattle.undo.proofs.undo_at.Tie as tie
 
-read-record-requires : tie.Need-read-record-requires
-read-record-requires c κs = search needs
-
-add-first : tie.Need-add-first
-add-first c = search needs
-
 sub-first : tie.Need-sub-first
 sub-first c =
-    let r = c .before .before .read-record in
-    let s = c .before .before .before .before .before .before .before in
+    let r = c.before.before.read-record in
+    let s = c.before.before.before.before.before.before.before in
     let h = s.pre.1.0 in
-    texts-within h s.pre.1.1.1 (some-newest h s.pre.1.1.0.1 .2) r.ensures.same
+    texts-within h s.pre.1.1.1 ((some-newest h s.pre.1.1.0.1) .2) r.ensures.same
 
 retrace-requires : tie.Need-retrace-requires
 retrace-requires c κs =
-    let r = c .before .before .before .read-record in
-    let s = c .before .before .before .before .before .before .before .before in
+    let r = c.before.before.before.read-record in
+    let s = c.before.before.before.before.before.before.before.before in
     let h = s.pre.1.0 in
     let i = r.ensures.same in
-    let there = stands-there h s.pre.1.1.1 (some-newest h s.pre.1.1.0.1 .2) i in
+    let there = stands-there h s.pre.1.1.1 ((some-newest h s.pre.1.1.0.1) .2) i in
     ((s.pre.1.1.0.0, h.used, r.ensures.place, space there i, texts-below h), h.text)
-
-same-length : tie.Need-same-length
-same-length c = search needs
 
 returns : tie.Need-returns
 returns c =
-    let q = c .before .before .before .before .retrace in
-    let r = c .before .before .before .before .before .before .before .before .read-record in
-    let s = c .before .before .before .before .before .before .before .before .before .before .before .before .before in
+    let q = c.before.before.before.before.retrace in
+    let r = c.before.before.before.before.before.before.before.before.read-record in
+    let s = c.before.before.before.before.before.before.before.before.before.before.before.before.before in
     let a = s.args in
     let h = s.pre.1.0 in
     let l = lentBy (now a.text) (now a.records) (now a.texts) a.s a.log in
@@ -47,39 +38,36 @@ returns c =
 
 move-seam-requires : tie.Need-move-seam-requires
 move-seam-requires c κs =
-    let r = c .before .before .before .before .before .before .before .before .read-record in
-    let s = c .before .before .before .before .before .before .before .before .before .before .before .before .before in
+    let r = c.before.before.before.before.before.before.before.before.read-record in
+    let s = c.before.before.before.before.before.before.before.before.before.before.before.before.before in
     let h = s.pre.1.0 in
-    let m = seam-there h s.pre.1.1.1 (some-newest h s.pre.1.1.0.1 .2) r.ensures.same in (
+    let m = seam-there h s.pre.1.1.1 ((some-newest h s.pre.1.1.0.1) .2) r.ensures.same in (
       (m.within, omega (arith, h.log.hold.room, h.log.records, h.log.fit.records)),
       (m.texts, omega (arith, h.log.hold.space, texts-below h)),
     )
 
-same-length-2 : tie.Need-same-length-2
-same-length-2 c = search needs
-
 returns-2 : tie.Need-returns-2
 returns-2 c =
-    let q = c .before .before .before .before .before .retrace in
-    let r = c .before .before .before .before .before .before .before .before .before .read-record in
-    let s = c .before .before .before .before .before .before .before .before .before .before .before .before .before .before in
+    let q = c.before.before.before.before.before.retrace in
+    let r = c.before.before.before.before.before.before.before.before.before.read-record in
+    let s = c.before.before.before.before.before.before.before.before.before.before.before.before.before.before in
     let a = s.args in
     let h = s.pre.1.0 in
     let l = lentBy (now a.text) (now a.records) (now a.texts) a.s a.log in
     let i = r.ensures.same in
-    λ x u e. record-passes a.f l true x u (stands-there h s.pre.1.1.1 e i) i a.s q.result q.last.0 q.ensures
-    (seam-there h s.pre.1.1.1 e i) c.before.if1.left c.move-seam.ensures
+    λ x u e. record-passes a.f l true x u (stands-there h s.pre.1.1.1 e i) i a.s q.result q.last.0 q.ensures (seam-there h s.pre.1.1.1 e i)
+    c.before.if1.left c.move-seam.ensures
 
 pub undo-at-spec : {M : Type 1} → statement M
 undo-at-spec =
     tie.close
     (tie.spec
-    read-record-requires
-    add-first
+    (λ read-record-requires κs. search needs)
+    (λ add-first. search needs)
     sub-first
     retrace-requires
-    same-length
+    (λ same-length. search needs)
     returns
     move-seam-requires
-    same-length-2
+    (λ same-length-2. search needs)
     returns-2)

@@ -14,63 +14,57 @@ use Rattle.undo_cancel.proofs.note_and_cancel.Tie as tie
 
 slice-aggregate-note-sizes : tie.Need-slice-aggregate-note-sizes
 slice-aggregate-note-sizes c =
-    let s = c .before .before .before .before .before .before in
-    let a = s .args in
-    let h = s .pre .1 .0 in
-    sym (length-take-le (a .log .undo .records) (now (a .records)) (omega (arith, h .log .hold .room)))
+    let s = c.before.before.before.before.before.before in
+    let a = s.args in
+    let h = s.pre.1.0 in
+    sym (length-take-le a.log.undo.records (now a.records) (omega (arith, h.log.hold.room)))
 
 note-sizes-requires : tie.Need-note-sizes-requires
 note-sizes-requires c κs =
-    let s = c .before .before .before .before .before .before .before in
-    let a = s .args in
-    let h = s .pre .1 .0 in
-    let l = lent (now (a .text)) (now (a .records)) (now (a .texts)) (a .line) (a .log) in
-    let e = length-take-le (a .log .undo .records) (now (a .records)) (omega (arith, h .log .hold .room)) in
-    (s .pre .0, (listed (a .f) (logLent l) (h .log), omega (arith, e, s .pre .1 .1)))
+    let s = c.before.before.before.before.before.before.before in
+    let a = s.args in
+    let h = s.pre.1.0 in
+    let l = lent (now a.text) (now a.records) (now a.texts) a.line a.log in
+    let e = length-take-le a.log.undo.records (now a.records) (omega (arith, h.log.hold.room)) in
+    (s.pre.0, (listed a.f (logLent l) h.log, omega (arith, e, s.pre.1.1)))
 
 slice-aggregate-open-begins : tie.Need-slice-aggregate-open-begins
 slice-aggregate-open-begins c =
-    let s = c .before .before .before .before .before .before .before .before .before .before .before in
-    let a = s .args in
-    let h = s .pre .1 .0 in
-    sym (length-take-le (a .log .undo .records) (now (a .records)) (omega (arith, h .log .hold .room)))
+    let s = c.before.before.before.before.before.before.before.before.before.before.before in
+    let a = s.args in
+    let h = s.pre.1.0 in
+    sym (length-take-le a.log.undo.records (now a.records) (omega (arith, h.log.hold.room)))
 
 open-begins-requires : tie.Need-open-begins-requires
 open-begins-requires c κs =
-    let s = c .before .before .before .before .before .before .before .before .before .before .before .before in
-    let a = s .args in
-    let h = s .pre .1 .0 in
-    let l = lent (now (a .text)) (now (a .records)) (now (a .texts)) (a .line) (a .log) in
-    let e = length-take-le (a .log .undo .records) (now (a .records)) (omega (arith, h .log .hold .room)) in
-    let n = c .before .before .before .before .note-sizes in (
-      s .pre .0,
+    let s = c.before.before.before.before.before.before.before.before.before.before.before.before in
+    let a = s.args in
+    let h = s.pre.1.0 in
+    let l = lent (now a.text) (now a.records) (now a.texts) a.line a.log in
+    let e = length-take-le a.log.undo.records (now a.records) (omega (arith, h.log.hold.room)) in
+    let n = c.before.before.before.before.note-sizes in (
+      s.pre.0,
       (
-        record { listed = listed (a .f) (logLent l) (h .log); noted = n .ensures },
-        (omega (arith, e, n .kept .1 .1 .0, s .pre .1 .1), omega (arith, e, h .log .hold .room, h .log .records, h .log .fit .records)),
+        record { listed = listed a.f (logLent l) h.log; noted = n.ensures },
+        (omega (arith, e, n.kept.1.1.0, s.pre.1.1), omega (arith, e, h.log.hold.room, h.log.records, h.log.fit.records)),
       ),
     )
-
-says-requires : tie.Need-says-requires
-says-requires c κs = search needs
-
-same-length : tie.Need-same-length
-same-length c = search needs
 
 returns : tie.Need-returns
 returns c =
     let s = c .before .before .before .before .before .before .before .before .before .before .before .before .before .before .before in
-    let a = s .args in
-    let h = s .pre .1 .0 in
-    let l = lent (now (a .text)) (now (a .records)) (now (a .texts)) (a .line) (a .log) in
-    let u = stateOf catalogue (a .f) l .log .undo in
-    let d = lays (a .f) (logLent l) (h .log) in
-    let n = c .before .before .before .before .before .before .before .note-sizes in
-    let o = c .before .before .open-begins .ensures _ _ d in
-    (cancels-nothing h (a .mark) (not-open (a .mark) u o (c .before .if1 .taken)) (c .says .ensures), λ e. refl)
+    let a = s.args in
+    let h = s.pre.1.0 in
+    let l = lent (now a.text) (now a.records) (now a.texts) a.line a.log in
+    let u = (stateOf catalogue a.f l) .log .undo in
+    let d = lays a.f (logLent l) h.log in
+    let n = c.before.before.before.before.before.before.before.note-sizes in
+    let o = c.before.before.open-begins.ensures _ _ d in
+    (cancels-nothing h a.mark (not-open a.mark u o c.before.if1.taken) c.says.ensures, λ e. refl)
 
 cancel-noted-requires : tie.Need-cancel-noted-requires
 cancel-noted-requires c κs =
-    let after-open-begins = c .before .before .before in
+    let after-open-begins = c.before.before.before in
     let s = c .before .before .before .before .before .before .before .before .before .before .before .before .before .before
     .before .before in
     let a = s.args in
@@ -78,7 +72,7 @@ cancel-noted-requires c κs =
     let l = lent (now a.text) (now a.records) (now a.texts) a.line a.log in
     let u = (stateOf catalogue a.f l) .log .undo in
     let d = lays a.f (logLent l) h.log in
-    let n = c .before .before .before .before .before .before .before .before .note-sizes in
+    let n = c.before.before.before.before.before.before.before.before.note-sizes in
     let o = after-open-begins.open-begins.ensures _ _ d in
     let i = n.ensures _ _ d in (
       s.pre.0,
@@ -97,15 +91,6 @@ cancel-noted-requires c κs =
       ),
     )
 
-same-length-2 : tie.Need-same-length-2
-same-length-2 c = search needs
-
-same-length-3 : tie.Need-same-length-3
-same-length-3 c = search needs
-
-returns-2 : tie.Need-returns-2
-returns-2 c = search needs
-
 pub note-and-cancel-spec : {M : Type 1} → statement M
 note-and-cancel-spec =
     tie.close
@@ -114,10 +99,10 @@ note-and-cancel-spec =
     note-sizes-requires
     slice-aggregate-open-begins
     open-begins-requires
-    says-requires
-    same-length
+    (λ says-requires κs. search needs)
+    (λ same-length. search needs)
     returns
     cancel-noted-requires
-    same-length-2
-    same-length-3
-    returns-2)
+    (λ same-length-2. search needs)
+    (λ same-length-3. search needs)
+    (λ returns-2. search needs))

@@ -21,14 +21,11 @@ loop-holds c =
     let a = s.args in
     (omega (arith, s.pre.1.1.1), down-first catalogue a.f (now a.records) (now a.sizes) a.mark a.count s.pre.1.0.noted)
 
-sub-at : tie.Need-sub-at Inv-loop μ-loop
-sub-at c = search needs
-
 shared-slice-read-at : tie.Need-shared-slice-read-at Inv-loop μ-loop
 shared-slice-read-at c =
     let test = c.before in
     let body = test.before in
-    let s = body .before .before .before in
+    let s = body.before.before.before in
     let g = s.pre.1.0 in
     let b = body.loop in
     let h = test.loop-test.taken in
@@ -44,7 +41,7 @@ sub-at-2 : tie.Need-sub-at-2 Inv-loop μ-loop
 sub-at-2 c =
     let test = c.before in
     let body = test.before in
-    let s = body .before .before .before in
+    let s = body.before.before.before in
     let g = s.pre.1.0 in
     let b = body.loop in
     let h = test.loop-test.taken in
@@ -55,35 +52,29 @@ sub-left : tie.Need-sub-left Inv-loop μ-loop
 sub-left c =
     let test = c.before in
     let body = test.before in
-    let s = body .before .before .before in
+    let s = body.before.before.before in
     let g = s.pre.1.0 in
     let b = body.loop in
     let h = test.loop-test.taken in
     let x = last g.listed.lays (b.inv.1 g.listed.texts g.listed.changes g.listed.lays) h in
     x.more
 
-read-record-requires : tie.Need-read-record-requires Inv-loop μ-loop
-read-record-requires c κs = search needs
-
 returns : tie.Need-returns Inv-loop μ-loop
 returns c =
     let r = c.before.read-record in
-    let test = c .before .before .before in
+    let test = c.before.before.before in
     let b = test.before.loop in
     λ ts us l. down-end l (b.inv.1 ts us l) test.loop-test.taken r.ensures.same c.if1.taken
 
-one-if-requires : tie.Need-one-if-requires Inv-loop μ-loop
-one-if-requires c κs = search needs
-
 add-begins : tie.Need-add-begins Inv-loop μ-loop
 add-begins c =
-    let b = c .before .before .before .before .before .loop in
+    let b = c.before.before.before.before.before.loop in
     omega (arith, b.inv.0, c.one-if.ensures.1)
 
 returns-2 : tie.Need-returns-2 Inv-loop μ-loop
 returns-2 c =
     let i = c.before.one-if in
-    let after-read-record = c .before .before .before in
+    let after-read-record = c.before.before.before in
     let r = after-read-record.read-record in
     let test = after-read-record.before.before in
     let b = test.before.loop in
@@ -91,9 +82,9 @@ returns-2 c =
 
 loop-less : tie.Need-loop-less Inv-loop μ-loop
 loop-less c =
-    let test = c .before .before .before .before .before in
+    let test = c.before.before.before.before.before in
     let body = test.before in
-    let s = body .before .before .before in
+    let s = body.before.before.before in
     let g = s.pre.1.0 in
     let b = body.loop in
     let h = test.loop-test.taken in
@@ -108,7 +99,7 @@ loop-again c =
     let r = after-read-record.read-record in
     let test = after-read-record.before.before in
     let body = test.before in
-    let s = body .before .before .before in
+    let s = body.before.before.before in
     let g = s.pre.1.0 in
     let b = body.loop in
     let h = test.loop-test.taken in
@@ -129,14 +120,14 @@ open-begins-spec =
     Inv-loop
     μ-loop
     loop-holds
-    sub-at
+    (λ sub-at. search needs)
     shared-slice-read-at
     cast-at
     sub-at-2
     sub-left
-    read-record-requires
+    (λ read-record-requires κs. search needs)
     returns
-    one-if-requires
+    (λ one-if-requires κs. search needs)
     add-begins
     returns-2
     loop-less

@@ -23,94 +23,76 @@ Inv-loop f text₀ records texts s₀ g₀ ends₀ begins₀ text s g ends begin
     text s g 0 ends begins
 
 abbrev μ-loop : tie.MeasureT-loop
-μ-loop f text₀ records texts s₀ g₀ ends₀ begins₀ text s g ends begins = g .redo .records
+μ-loop f text₀ records texts s₀ g₀ ends₀ begins₀ text s g ends begins = g.redo.records
 
 loop-holds : tie.Need-loop-holds Inv-loop μ-loop
 loop-holds c =
-    let s = c .before .before .before in
-    walking-first false 0 (s .pre .1)
-
-answer-requires : tie.Need-answer-requires Inv-loop μ-loop
-answer-requires c κs = search needs
-
-same-length : tie.Need-same-length Inv-loop μ-loop
-same-length c = search needs
+    let s = c.before.before.before in
+    walking-first false 0 s.pre.1
 
 returns : tie.Need-returns Inv-loop μ-loop
 returns c =
-    let b = c .before .before .before .before .loop in
-    let k = b .inv in
-    redone (walked-all k (none-next (k .come .ready) (c .before .if1 .taken)) (c .answer .ensures))
+    let b = c.before.before.before.before.loop in
+    let k = b.inv in
+    redone (walked-all k (none-next k.come.ready c.before.if1.taken) c.answer.ensures)
 
 redo-record-requires : tie.Need-redo-record-requires Inv-loop μ-loop
 redo-record-requires c κs =
-    let s = c .before .before .before .before .before .before .before .before in
-    let b = c .before .before .before .before .loop in
-    let k = b .inv in
-    (s .pre .0, (k .come .ready, (k .come .number, omega (arith, c .before .if1 .left))))
-
-answer-requires-2 : tie.Need-answer-requires-2 Inv-loop μ-loop
-answer-requires-2 c κs = search needs
+    let s = c.before.before.before.before.before.before.before.before in
+    let b = c.before.before.before.before.loop in
+    let k = b.inv in
+    (s.pre.0, (k.come.ready, (k.come.number, omega (arith, c.before.if1.left))))
 
 same-length-2 : tie.Need-same-length-2 Inv-loop μ-loop
 same-length-2 c =
-    let b = c .before .before .before .before .before .before .before .before .before .before .before .before .loop in
-    let k = b .inv in
-    let u = c .before .before .before .before .before .before .before .redo-record in
-    u .kept .1 .0 ∙ k .come .text
+    let b = c.before.before.before.before.before.before.before.before.before.before.before.before.loop in
+    let k = b.inv in
+    let u = c.before.before.before.before.before.before.before.redo-record in
+    u.kept.1.0 ∙ k.come.text
 
 returns-2 : tie.Need-returns-2 Inv-loop μ-loop
 returns-2 c =
-    let else1 = c .before .before .before .before .before .before .before .before .before in
-    let b = c .before .before .before .before .before .before .before .before .before .before .before .before .loop in
+    let else1 = c.before.before.before.before.before.before.before.before.before in
+    let b = c.before.before.before.before.before.before.before.before.before.before.before.before.loop in
     let k = b.inv in
     let n = some-next k.come.ready (omega (arith, else1.if1.left)) in
-    let u = c .before .before .before .before .before .before .before .redo-record in
+    let u = c.before.before.before.before.before.before.before.redo-record in
     redone (walked-stop k n.2 u.result u.last.1.0 u.ensures c.before.if2.taken c.answer2.ensures)
-
-one-if-requires : tie.Need-one-if-requires Inv-loop μ-loop
-one-if-requires c κs = search needs
 
 add-ends : tie.Need-add-ends Inv-loop μ-loop
 add-ends c =
-    let b = c .before .before .before .before .before .before .before .before .before .before .before .before .loop in
-    let k = b .inv in
-    let i = c .one-if in
-    omega (arith, k .few, i .ensures .1)
-
-one-if-requires-2 : tie.Need-one-if-requires-2 Inv-loop μ-loop
-one-if-requires-2 c κs = search needs
+    let b = c.before.before.before.before.before.before.before.before.before.before.before.before.loop in
+    let k = b.inv in
+    let i = c.one-if in
+    omega (arith, k.few, i.ensures.1)
 
 add-begins : tie.Need-add-begins Inv-loop μ-loop
 add-begins c =
-    let b = c .before .before .before .before .before .before .before .before .before .before .before .before .before .loop in
-    let k = b .inv in
-    let j = c .one-if2 in
-    omega (arith, k .few, j .ensures .1)
-
-answer-requires-3 : tie.Need-answer-requires-3 Inv-loop μ-loop
-answer-requires-3 c κs = search needs
+    let b = c.before.before.before.before.before.before.before.before.before.before.before.before.before.loop in
+    let k = b.inv in
+    let j = c.one-if2 in
+    omega (arith, k.few, j.ensures.1)
 
 same-length-3 : tie.Need-same-length-3 Inv-loop μ-loop
 same-length-3 c =
     let b = c .before .before .before .before .before .before .before .before .before .before .before .before .before .before .before
     .loop in
     let k = b.inv in
-    let u = c .before .before .before .before .before .before .before .before .before .before .redo-record in
+    let u = c.before.before.before.before.before.before.before.before.before.before.redo-record in
     u.kept.1.0 ∙ k.come.text
 
 returns-3 : tie.Need-returns-3 Inv-loop μ-loop
 returns-3 c =
-    let else1 = c .before .before .before .before .before .before .before .before .before .before .before .before in
-    let body = else1 .before .before .before in
-    let s = body .before .before .before .before in
+    let else1 = c.before.before.before.before.before.before.before.before.before.before.before.before in
+    let body = else1.before.before.before in
+    let s = body.before.before.before.before in
     let b = body.loop in
     let k = b.inv in
     let n = some-next k.come.ready (omega (arith, else1.if1.left)) in
-    let u = c .before .before .before .before .before .before .before .before .before .before .redo-record in
-    let i = c .before .before .before .one-if in
+    let u = c.before.before.before.before.before.before.before.before.before.before.redo-record in
+    let i = c.before.before.before.one-if in
     let j = c.before.before.one-if2 in
-    let z = c .before .before .before .before .if2 .left in
+    let z = c.before.before.before.before.if2.left in
     let w = counts-on u.result.kind i.ensures.0 j.ensures.0 s.args.f n.0 k.waiting b.ends b.begins k.waits (u.ensures n.0 n.1 n.2 .0) in
     let few = one-of u.result.kind i.ensures.0 j.ensures.0 in
     redone
@@ -119,26 +101,26 @@ returns-3 c =
 
 loop-less : tie.Need-loop-less Inv-loop μ-loop
 loop-less c =
-    let else1 = c .before .before .before .before .before .before .before .before .before .before .before in
+    let else1 = c.before.before.before.before.before.before.before.before.before.before.before in
     let b = c .before .before .before .before .before .before .before .before .before .before .before .before .before .before .loop in
     let k = b.inv in
     let n = some-next k.come.ready (omega (arith, else1.if1.left)) in
-    let u = c .before .before .before .before .before .before .before .before .before .redo-record in
-    let z = c .before .before .before .if2 .left in
+    let u = c.before.before.before.before.before.before.before.before.before.redo-record in
+    let z = c.before.before.before.if2.left in
     falls false k.come n.2 u.result u.last.1.0 u.ensures u.kept.1.0 z
 
 loop-again : tie.Need-loop-again Inv-loop μ-loop
 loop-again c =
-    let else1 = c .before .before .before .before .before .before .before .before .before .before .before in
-    let body = else1 .before .before .before in
-    let s = body .before .before .before .before in
+    let else1 = c.before.before.before.before.before.before.before.before.before.before.before in
+    let body = else1.before.before.before in
+    let s = body.before.before.before.before in
     let b = body.loop in
     let k = b.inv in
     let n = some-next k.come.ready (omega (arith, else1.if1.left)) in
-    let u = c .before .before .before .before .before .before .before .before .before .redo-record in
+    let u = c.before.before.before.before.before.before.before.before.before.redo-record in
     let i = c.before.before.one-if in
     let j = c.before.one-if2 in
-    let z = c .before .before .before .if2 .left in
+    let z = c.before.before.before.if2.left in
     let w = counts-on u.result.kind i.ensures.0 j.ensures.0 s.args.f n.0 k.waiting b.ends b.begins k.waits (u.ensures n.0 n.1 n.2 .0) in
     let few = one-of u.result.kind i.ensures.0 j.ensures.0 in
     walking-on k n.2 u.result u.last.1.0 u.ensures u.kept.1.0 z (b.ends + i.result) (b.begins + j.result) w (omega (arith, few)) c.if3.left
@@ -150,18 +132,18 @@ redo-unit-spec =
     Inv-loop
     μ-loop
     loop-holds
-    answer-requires
-    same-length
+    (λ answer-requires κs. search needs)
+    (λ same-length. search needs)
     returns
     redo-record-requires
-    answer-requires-2
+    (λ answer-requires-2 κs. search needs)
     same-length-2
     returns-2
-    one-if-requires
+    (λ one-if-requires κs. search needs)
     add-ends
-    one-if-requires-2
+    (λ one-if-requires-2 κs. search needs)
     add-begins
-    answer-requires-3
+    (λ answer-requires-3 κs. search needs)
     same-length-3
     returns-3
     loop-less

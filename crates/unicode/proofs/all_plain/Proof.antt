@@ -18,26 +18,14 @@ abbrev μ-loop : tie.MeasureT-loop
 loop-holds : tie.Need-loop-holds Inv-loop μ-loop
 loop-holds c = (search needs, refl)
 
-shared-slice-read-is-plain : tie.Need-shared-slice-read-is-plain Inv-loop μ-loop
-shared-slice-read-is-plain c = search needs
-
-is-plain-requires : tie.Need-is-plain-requires Inv-loop μ-loop
-is-plain-requires c κs = search needs
-
-add-i : tie.Need-add-i Inv-loop μ-loop
-add-i c = search needs
-
-loop-less : tie.Need-loop-less Inv-loop μ-loop
-loop-less c = search needs
-
 loop-again : tie.Need-loop-again Inv-loop μ-loop
 loop-again c =
-    let at-loop = c .before .before .before in
+    let at-loop = c.before.before.before in
     let entry = at-loop.before.before in
     (search needs, cc (all-more plain entry.args.s.now at-loop.loop.i c.before.before.loop-test.taken))
 
 returns : tie.Need-returns Inv-loop μ-loop
-returns c = c .before .loop .inv .1 ∙ ap (all plain) (take-all _ _ (c .loop-test .left))
+returns c = c.before.loop.inv.1 ∙ ap (all plain) (take-all _ _ c.loop-test.left)
 
 pub all-plain-spec : {M : Type 1} → statement M
 all-plain-spec =
@@ -46,9 +34,9 @@ all-plain-spec =
     Inv-loop
     μ-loop
     loop-holds
-    shared-slice-read-is-plain
-    is-plain-requires
-    add-i
-    loop-less
+    (λ shared-slice-read-is-plain. search needs)
+    (λ is-plain-requires κs. search needs)
+    (λ add-i. search needs)
+    (λ loop-less. search needs)
     loop-again
     returns)

@@ -19,36 +19,24 @@ abbrev μ-loop : tie.MeasureT-loop
 μ-loop s case out₀ i₀ n₀ out i n = length s - i
 
 returns : tie.Need-returns Inv-loop μ-loop
-returns c = no-room _ _ _ (c .if1 .taken)
+returns c = no-room _ _ _ c.if1.taken
 
 loop-holds : tie.Need-loop-holds Inv-loop μ-loop
-loop-holds c = writing-start catalogue _ _ _ (c .if1 .left)
-
-decode-at-requires : tie.Need-decode-at-requires Inv-loop μ-loop
-decode-at-requires c κs = search needs
-
-enum-known-d : tie.Need-enum-known-d Inv-loop μ-loop
-enum-known-d c = search needs
-
-enum-told : tie.Need-enum-told Inv-loop μ-loop
-enum-told c = search needs
+loop-holds c = writing-start catalogue _ _ _ c.if1.left
 
 same-length : tie.Need-same-length Inv-loop μ-loop
 same-length c =
-    let at-loop = c .before .before .before .before in
+    let at-loop = c.before.before.before.before in
     writing-length at-loop.loop.inv
 
 returns-2 : tie.Need-returns-2 Inv-loop μ-loop
 returns-2 c =
-    let at-loop = c .before .before .before .before in
+    let at-loop = c.before.before.before.before in
     writing-end _ _ _ _ _ _ at-loop.loop.inv (sym c.before.before.decode-at.ensures ∙ ap asFirst c.enum-told.given.1)
-
-case-of-requires : tie.Need-case-of-requires Inv-loop μ-loop
-case-of-requires c κs = search needs
 
 write-mapped-requires : tie.Need-write-mapped-requires Inv-loop μ-loop
 write-mapped-requires c κs =
-    let after-d = c .before .before .before in
+    let after-d = c.before.before.before in
     let after-decode-at = after-d.before.before in
     let at-loop = after-decode-at.before.before in
     writing-fits catalogue _ _ _ catalogue-lawful _ _ _ _ _ _ at-loop.loop.inv
@@ -56,8 +44,8 @@ write-mapped-requires c κs =
 
 loop-again : tie.Need-loop-again Inv-loop μ-loop
 loop-again c =
-    let after-case-of = c .before .before .before in
-    let after-d = after-case-of .before .before .before in
+    let after-case-of = c.before.before.before in
+    let after-d = after-case-of.before.before.before in
     let after-decode-at = after-d.before.before in
     let at-loop = after-decode-at.before.before in
     writing-step catalogue _ _ _ catalogue-lawful _ _ _ _ _ _ at-loop.loop.inv
@@ -65,25 +53,29 @@ loop-again c =
     c.before.before.write-mapped.ensures
 
 add-n : tie.Need-add-n Inv-loop μ-loop
-add-n c = let w = loop-again c in omega (arith, w .under, w .within)
+add-n c =
+    let w = loop-again c in
+    omega (arith, w.under, w.within)
 
 add-i : tie.Need-add-i Inv-loop μ-loop
-add-i c = let w = loop-again c in omega (arith, w .within)
+add-i c =
+    let w = loop-again c in
+    omega (arith, w.within)
 
 loop-less : tie.Need-loop-less Inv-loop μ-loop
 loop-less c =
-    let after-d = c .before .before .before .before .before .before in
+    let after-d = c.before.before.before.before.before.before in
     let after-decode-at = after-d.before.before in
     let at-loop = after-decode-at.before.before in
     let h = within-at _ _ _ _ at-loop.loop.inv.within (sym after-decode-at.decode-at.ensures ∙ ap asFirst after-d.d.given.1) in
     omega (arith, h.0, h.1)
 
 same-length-2 : tie.Need-same-length-2 Inv-loop μ-loop
-same-length-2 c = writing-length (c .before .loop .inv)
+same-length-2 c = writing-length c.before.loop.inv
 
 returns-3 : tie.Need-returns-3 Inv-loop μ-loop
 returns-3 c =
-    let entry = c .before .before .before .before .before in
+    let entry = c.before.before.before.before.before in
     writing-end _ _ _ _ _ _ c.before.loop.inv (first-end entry.args.s.now c.before.loop.i c.loop-test.left)
 
 pub change-case-spec : {M : Type 1} → statement M
@@ -94,12 +86,12 @@ change-case-spec =
     μ-loop
     returns
     loop-holds
-    decode-at-requires
-    enum-known-d
-    enum-told
+    (λ decode-at-requires κs. search needs)
+    (λ enum-known-d. search needs)
+    (λ enum-told. search needs)
     same-length
     returns-2
-    case-of-requires
+    (λ case-of-requires κs. search needs)
     write-mapped-requires
     add-n
     add-i

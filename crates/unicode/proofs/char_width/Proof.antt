@@ -3,16 +3,13 @@ use borrow.Author.Needs.{needs}
 use Rattle.unicode.proofs.char_width.Statement.{statement}
 use Rattle.unicode.proofs.char_width.Tie as tie
 
-is-mark-requires : tie.Need-is-mark-requires
-is-mark-requires c κs = search needs
-
 returns : tie.Need-returns
 unfolding widthOf
-returns c = rw (← c .before .is-mark .ensures, c .if1 .taken)
+returns c = rw (← c.before.is-mark.ensures, c.if1.taken)
 
 returns-2 : tie.Need-returns-2
 unfolding widthOf
-returns-2 c = rw (← c .before .is-mark .ensures, c .if1 .left)
+returns-2 c = rw (← c.before.is-mark.ensures, c.if1.left)
 
 pub char-width-spec : {M : Type 1} → statement M
-char-width-spec = tie.close (tie.spec is-mark-requires returns returns-2)
+char-width-spec = tie.close (tie.spec (λ is-mark-requires κs. search needs) returns returns-2)

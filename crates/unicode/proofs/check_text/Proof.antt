@@ -19,47 +19,20 @@ abbrev μ-loop : tie.MeasureT-loop
 loop-holds : tie.Need-loop-holds Inv-loop μ-loop
 loop-holds c = (search needs, refl)
 
-block-end-requires : tie.Need-block-end-requires Inv-loop μ-loop
-block-end-requires c κs = search needs
-
-sub-all-plain : tie.Need-sub-all-plain Inv-loop μ-loop
-sub-all-plain c = search needs
-
-part-all-plain-start : tie.Need-part-all-plain-start Inv-loop μ-loop
-part-all-plain-start c = search needs
-
-part-all-plain-end : tie.Need-part-all-plain-end Inv-loop μ-loop
-part-all-plain-end c = search needs
-
-all-plain-requires : tie.Need-all-plain-requires Inv-loop μ-loop
-all-plain-requires c κs = search needs
-
-loop-less : tie.Need-loop-less Inv-loop μ-loop
-loop-less c = search needs
-
 loop-again : tie.Need-loop-again Inv-loop μ-loop
 loop-again c =
-    let at-loop = c .before .before .before .before .before in
+    let at-loop = c.before.before.before.before.before in
     let entry = at-loop.before.before in
-    let e = c .before .before .before .block-end in (
+    let e = c.before.before.before.block-end in (
       e.ensures.1,
       at-loop.loop.inv.1
           ∙ block catalogue plain plain-one entry.args.s.now at-loop.loop.i e.result (omega (arith, e.ensures.0))
           (sym c.before.all-plain.ensures ∙ c.if1.taken),
     )
 
-read-chars-requires : tie.Need-read-chars-requires Inv-loop μ-loop
-read-chars-requires c κs = search needs
-
-enum-known-r : tie.Need-enum-known-r Inv-loop μ-loop
-enum-known-r c = search needs
-
-enum-told : tie.Need-enum-told Inv-loop μ-loop
-enum-told c = search needs
-
 returns : tie.Need-returns Inv-loop μ-loop
 returns c =
-    let after-block-end = c .before .before .before .before .before .before in
+    let after-block-end = c.before.before.before.before.before.before in
     let at-loop = after-block-end.before.before in
     let entry = at-loop.before.before in
     sym
@@ -69,8 +42,8 @@ returns c =
 
 loop-less-2 : tie.Need-loop-less-2 Inv-loop μ-loop
 loop-less-2 c =
-    let after-read-chars = c .before .before .before in
-    let after-block-end = after-read-chars .before .before .before .before in
+    let after-read-chars = c.before.before.before in
+    let after-block-end = after-read-chars.before.before.before.before in
     let at-loop = after-block-end.before.before in
     let entry = at-loop.before.before in
     let h = subst (ReadTo entry.args.s.now at-loop.loop.i after-block-end.block-end.result) c.before.r.given.1
@@ -79,8 +52,8 @@ loop-less-2 c =
 
 loop-again-2 : tie.Need-loop-again-2 Inv-loop μ-loop
 loop-again-2 c =
-    let after-read-chars = c .before .before .before in
-    let after-block-end = after-read-chars .before .before .before .before in
+    let after-read-chars = c.before.before.before in
+    let after-block-end = after-read-chars.before.before.before.before in
     let at-loop = after-block-end.before.before in
     let entry = at-loop.before.before in
     let h = subst (ReadTo entry.args.s.now at-loop.loop.i after-block-end.block-end.result) c.before.r.given.1
@@ -89,7 +62,7 @@ loop-again-2 c =
 
 returns-2 : tie.Need-returns-2 Inv-loop μ-loop
 returns-2 c =
-    let entry = c .before .before .before in
+    let entry = c.before.before.before in
     sym (c.before.loop.inv.1 ∙ scan-end catalogue entry.args.s.now c.before.loop.i c.loop-test.left)
 
 pub check-text-spec : {M : Type 1} → statement M
@@ -99,16 +72,16 @@ check-text-spec =
     Inv-loop
     μ-loop
     loop-holds
-    block-end-requires
-    sub-all-plain
-    part-all-plain-start
-    part-all-plain-end
-    all-plain-requires
-    loop-less
+    (λ block-end-requires κs. search needs)
+    (λ sub-all-plain. search needs)
+    (λ part-all-plain-start. search needs)
+    (λ part-all-plain-end. search needs)
+    (λ all-plain-requires κs. search needs)
+    (λ loop-less. search needs)
     loop-again
-    read-chars-requires
-    enum-known-r
-    enum-told
+    (λ read-chars-requires κs. search needs)
+    (λ enum-known-r. search needs)
+    (λ enum-told. search needs)
     returns
     loop-less-2
     loop-again-2

@@ -3,33 +3,6 @@ use borrow.Author.Needs.{needs}
 use Rattle.unicode.proofs.is_alnum.Statement.{statement}
 use Rattle.unicode.proofs.is_alnum.Tie as tie
 
-between-requires : tie.Need-between-requires
-between-requires c κs = search needs
-
-between-requires-2 : tie.Need-between-requires-2
-between-requires-2 c κs = search needs
-
-between-requires-3 : tie.Need-between-requires-3
-between-requires-3 c κs = search needs
-
-between-requires-4 : tie.Need-between-requires-4
-between-requires-4 c κs = search needs
-
-between-requires-5 : tie.Need-between-requires-5
-between-requires-5 c κs = search needs
-
-between-requires-6 : tie.Need-between-requires-6
-between-requires-6 c κs = search needs
-
-between-requires-7 : tie.Need-between-requires-7
-between-requires-7 c κs = search needs
-
-between-requires-8 : tie.Need-between-requires-8
-between-requires-8 c κs = search needs
-
-between-requires-9 : tie.Need-between-requires-9
-between-requires-9 c κs = search needs
-
 returns : tie.Need-returns
 unfolding isAlnum
 returns c = cc
@@ -38,13 +11,13 @@ pub is-alnum-spec : {M : Type 1} → statement M
 is-alnum-spec =
     tie.close
     (tie.spec
-    between-requires
-    between-requires-2
-    between-requires-3
-    between-requires-4
-    between-requires-5
-    between-requires-6
-    between-requires-7
-    between-requires-8
-    between-requires-9
+    (λ between-requires κs. search needs)
+    (λ between-requires-2 κs. search needs)
+    (λ between-requires-3 κs. search needs)
+    (λ between-requires-4 κs. search needs)
+    (λ between-requires-5 κs. search needs)
+    (λ between-requires-6 κs. search needs)
+    (λ between-requires-7 κs. search needs)
+    (λ between-requires-8 κs. search needs)
+    (λ between-requires-9 κs. search needs)
     returns)

@@ -3,12 +3,9 @@ use borrow.Author.Needs.{needs}
 use Rattle.unicode.proofs.is_control.Statement.{statement}
 use Rattle.unicode.proofs.is_control.Tie as tie
 
-between-requires : tie.Need-between-requires
-between-requires c κs = search needs
-
 returns : tie.Need-returns
 unfolding isControl
 returns c = cc
 
 pub is-control-spec : {M : Type 1} → statement M
-is-control-spec = tie.close (tie.spec between-requires returns)
+is-control-spec = tie.close (tie.spec (λ between-requires κs. search needs) returns)

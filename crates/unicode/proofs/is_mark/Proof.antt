@@ -3,12 +3,9 @@ use borrow.Author.Needs.{needs}
 use Rattle.unicode.proofs.is_mark.Statement.{statement}
 use Rattle.unicode.proofs.is_mark.Tie as tie
 
-between-requires : tie.Need-between-requires
-between-requires c κs = search needs
-
 returns : tie.Need-returns
 unfolding isMark
 returns c = cc
 
 pub is-mark-spec : {M : Type 1} → statement M
-is-mark-spec = tie.close (tie.spec between-requires returns)
+is-mark-spec = tie.close (tie.spec (λ between-requires κs. search needs) returns)

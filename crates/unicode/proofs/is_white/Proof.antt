@@ -3,12 +3,9 @@ use borrow.Author.Needs.{needs}
 use Rattle.unicode.proofs.is_white.Statement.{statement}
 use Rattle.unicode.proofs.is_white.Tie as tie
 
-between-requires : tie.Need-between-requires
-between-requires c κs = search needs
-
 returns : tie.Need-returns
 unfolding isWhite
 returns c = cc
 
 pub is-white-spec : {M : Type 1} → statement M
-is-white-spec = tie.close (tie.spec between-requires returns)
+is-white-spec = tie.close (tie.spec (λ between-requires κs. search needs) returns)

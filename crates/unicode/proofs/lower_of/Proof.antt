@@ -6,33 +6,24 @@ use Rattle.unicode.proofs.lower_of.Statement.{statement}
 use Rattle.unicode.proofs.lower_of.Tie as tie
 
 returns : tie.Need-returns
-returns c = lower-diaeresis _ (c .if1 .taken)
-
-between-requires : tie.Need-between-requires
-between-requires c κs = search needs
-
-between-requires-2 : tie.Need-between-requires-2
-between-requires-2 c κs = search needs
-
-between-requires-3 : tie.Need-between-requires-3
-between-requires-3 c κs = search needs
+returns c = lower-diaeresis _ c.if1.taken
 
 add-t7 : tie.Need-add-t7
 unfolding isUppercase
 add-t7 c =
-    let entry = c .before .before .before .before .before in
+    let entry = c.before.before.before.before.before in
     omega (arith, capital-most entry.args.cp (cc))
 
 returns-2 : tie.Need-returns-2
 unfolding isUppercase
 returns-2 c =
-    let else1 = c .before .before .before .before in
+    let else1 = c.before.before.before.before in
     lower-capital _ else1.if1.left (cc)
 
 returns-3 : tie.Need-returns-3
 unfolding isUppercase
 returns-3 c =
-    let else1 = c .before .before .before .before in
+    let else1 = c.before.before.before.before in
     lower-other _ else1.if1.left (cc)
 
 pub lower-of-spec : {M : Type 1} → statement M
@@ -40,9 +31,9 @@ lower-of-spec =
     tie.close
     (tie.spec
     returns
-    between-requires
-    between-requires-2
-    between-requires-3
+    (λ between-requires κs. search needs)
+    (λ between-requires-2 κs. search needs)
+    (λ between-requires-3 κs. search needs)
     add-t7
     returns-2
     returns-3)

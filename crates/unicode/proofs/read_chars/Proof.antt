@@ -18,12 +18,9 @@ abbrev μ-loop : tie.MeasureT-loop
 loop-holds : tie.Need-loop-holds Inv-loop μ-loop
 loop-holds c = (search needs, refl)
 
-member-len-requires : tie.Need-member-len-requires Inv-loop μ-loop
-member-len-requires c κs = search needs
-
 returns : tie.Need-returns Inv-loop μ-loop
 returns c =
-    let at-loop = c .before .before .before in
+    let at-loop = c.before.before.before in
     let entry = at-loop.before.before in
     at-loop.loop.inv.1
     ∙ scan-stuck catalogue entry.args.s.now at-loop.loop.at c.before.member-len.result
@@ -31,7 +28,7 @@ returns c =
 
 add-at : tie.Need-add-at Inv-loop μ-loop
 add-at c =
-    let at-loop = c .before .before .before in
+    let at-loop = c.before.before.before in
     let entry = at-loop.before.before in
     omega (
       arith,
@@ -41,7 +38,7 @@ add-at c =
 
 loop-less : tie.Need-loop-less Inv-loop μ-loop
 loop-less c =
-    let at-loop = c .before .before .before in
+    let at-loop = c.before.before.before in
     let entry = at-loop.before.before in
     omega (
       arith,
@@ -51,14 +48,14 @@ loop-less c =
 
 loop-again : tie.Need-loop-again Inv-loop μ-loop
 loop-again c =
-    let at-loop = c .before .before .before in
+    let at-loop = c.before.before.before in
     let entry = at-loop.before.before in
     let h = scan-on catalogue entry.args.s.now at-loop.loop.at c.before.member-len.result at-loop.loop.inv.0 c.before.member-len.ensures
     (omega (arith, c.if1.left)) in
     (h.0, at-loop.loop.inv.1 ∙ h.1)
 
 returns-2 : tie.Need-returns-2 Inv-loop μ-loop
-returns-2 c = (c .loop-test .left, c .before .loop .inv .0, c .before .loop .inv .1)
+returns-2 c = (c.loop-test.left, c.before.loop.inv.0, c.before.loop.inv.1)
 
 pub read-chars-spec : {M : Type 1} → statement M
 read-chars-spec =
@@ -67,7 +64,7 @@ read-chars-spec =
     Inv-loop
     μ-loop
     loop-holds
-    member-len-requires
+    (λ member-len-requires κs. search needs)
     returns
     add-at
     loop-less

@@ -8,54 +8,39 @@ use Rattle.utf8.proofs.decode.Tie as tie
 
 returns : tie.Need-returns
 returns c =
-    let a = c .before .args in
-    sym (first-high (a .a) (a .b) (a .c) (a .d) (c .if1 .taken))
-
-cast-char-len : tie.Need-cast-char-len
-cast-char-len c = search needs
-
-char-len-requires : tie.Need-char-len-requires
-char-len-requires c κs = search needs
+    let a = c.before.args in
+    sym (first-high a.a a.b a.c a.d c.if1.taken)
 
 returns-2 : tie.Need-returns-2
 returns-2 c =
-    let a = c .before .before .before .before .args in
-    sym (first-one (a .a) (a .b) (a .c) (a .d) (c .if3 .taken))
+    let a = c.before.before.before.before.args in
+    sym (first-one a.a a.b a.c a.d c.if3.taken)
 
 returns-3 : tie.Need-returns-3
 returns-3 c =
-    let a = c .before .before .before .before .args in
+    let a = c.before.before.before.before.args in
     sym
     (first-none a.a a.b a.c a.d c.if3.left
     (omega (arith, lead-1 a.a (omega arith) (sym c.before.before.char-len.ensures ∙ c.before.if2.taken))))
 
-two-bytes-requires : tie.Need-two-bytes-requires
-two-bytes-requires c κs = search needs
-
 returns-4 : tie.Need-returns-4
 returns-4 c =
-    let after-char-len = c .before .before .before in
+    let after-char-len = c.before.before.before in
     let a = after-char-len.before.before.args in
     let r = lead-2 a.a (omega arith) (sym after-char-len.char-len.ensures ∙ c.before.if4.taken) in
     c.two-bytes.ensures ∙ sym (first-two a.a a.b a.c a.d r.0 r.1)
 
-three-bytes-requires : tie.Need-three-bytes-requires
-three-bytes-requires c κs = search needs
-
 returns-5 : tie.Need-returns-5
 returns-5 c =
-    let after-char-len = c .before .before .before .before in
+    let after-char-len = c.before.before.before.before in
     let a = after-char-len.before.before.args in
     let r = lead-3 a.a (omega arith) (sym after-char-len.char-len.ensures ∙ c.before.if5.taken) in
     c.three-bytes.ensures ∙ sym (first-three a.a a.b a.c a.d r.0 r.1)
 
-four-bytes-requires : tie.Need-four-bytes-requires
-four-bytes-requires c κs = search needs
-
 returns-6 : tie.Need-returns-6
 returns-6 c =
-    let else2 = c .before .before .before in
-    let a = else2 .before .before .before .args in
+    let else2 = c.before.before.before in
+    let a = else2.before.before.before.args in
     let e = else2.before.char-len.ensures in
     let r = lead-rest a.a (omega arith) (λ p. else2.if2.left (e ∙ p)) (λ p. c.before.before.if4.left (e ∙ p))
     (λ p. c.before.if5.left (e ∙ p)) in
@@ -66,13 +51,13 @@ decode-spec =
     tie.close
     (tie.spec
     returns
-    cast-char-len
-    char-len-requires
+    (λ cast-char-len. search needs)
+    (λ char-len-requires κs. search needs)
     returns-2
     returns-3
-    two-bytes-requires
+    (λ two-bytes-requires κs. search needs)
     returns-4
-    three-bytes-requires
+    (λ three-bytes-requires κs. search needs)
     returns-5
-    four-bytes-requires
+    (λ four-bytes-requires κs. search needs)
     returns-6)

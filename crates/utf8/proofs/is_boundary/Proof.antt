@@ -6,15 +6,10 @@ use borrow.Author.Needs.{needs}
 use Rattle.utf8.proofs.is_boundary.Statement.{statement}
 use Rattle.utf8.proofs.is_boundary.Tie as tie
 
-byte-at-requires : tie.Need-byte-at-requires
-byte-at-requires c κs = search needs
-
-is-tail-requires : tie.Need-is-tail-requires
-is-tail-requires c κs = search needs
-
 returns : tie.Need-returns
 returns c =
-    let any = ap not (c .is-tail .ensures ∙ ap tail (c .before .byte-at .ensures)) in (any, λ v. any ∙ sym (boundary-test _ _ v))
+    let any = ap not (c.is-tail.ensures ∙ ap tail c.before.byte-at.ensures) in
+    (any, λ v. any ∙ sym (boundary-test _ _ v))
 
 pub is-boundary-spec : {M : Type 1} → statement M
-is-boundary-spec = tie.close (tie.spec byte-at-requires is-tail-requires returns)
+is-boundary-spec = tie.close (tie.spec (λ byte-at-requires κs. search needs) (λ is-tail-requires κs. search needs) returns)

@@ -17,18 +17,9 @@ abbrev μ-loop : tie.MeasureT-loop
 loop-holds : tie.Need-loop-holds Inv-loop μ-loop
 loop-holds c = refl
 
-sub-j : tie.Need-sub-j Inv-loop μ-loop
-sub-j c = search needs
-
-byte-at-requires : tie.Need-byte-at-requires Inv-loop μ-loop
-byte-at-requires c κs = search needs
-
-is-tail-requires : tie.Need-is-tail-requires Inv-loop μ-loop
-is-tail-requires c κs = search needs
-
 returns : tie.Need-returns Inv-loop μ-loop
 returns c =
-    let in-loop = c .before .before .before in
+    let in-loop = c.before.before.before in
     let at-loop = in-loop.before in
     sym
     (at-loop.loop.inv
@@ -40,14 +31,14 @@ loop-less c = omega arith
 
 loop-again : tie.Need-loop-again Inv-loop μ-loop
 loop-again c =
-    let in-loop = c .before .before .before in
+    let in-loop = c.before.before.before in
     let at-loop = in-loop.before in
     at-loop.loop.inv
     ∙ start-back _ _ in-loop.loop-test.taken
     (sym (c.before.is-tail.ensures ∙ ap tail c.before.before.byte-at.ensures) ∙ not-false _ c.if1.left)
 
 returns-2 : tie.Need-returns-2 Inv-loop μ-loop
-returns-2 c = sym (c .before .loop .inv ∙ start-none _ _ (c .loop-test .left))
+returns-2 c = sym (c.before.loop.inv ∙ start-none _ _ c.loop-test.left)
 
 pub prev-char-spec : {M : Type 1} → statement M
 prev-char-spec =
@@ -56,9 +47,9 @@ prev-char-spec =
     Inv-loop
     μ-loop
     loop-holds
-    sub-j
-    byte-at-requires
-    is-tail-requires
+    (λ sub-j. search needs)
+    (λ byte-at-requires κs. search needs)
+    (λ is-tail-requires κs. search needs)
     returns
     loop-less
     loop-again

@@ -4,32 +4,20 @@ use borrow.Author.Needs.{needs}
 use Rattle.utf8.proofs.starts_four.Statement.{statement}
 use Rattle.utf8.proofs.starts_four.Tie as tie
 
-between-requires : tie.Need-between-requires
-between-requires c κs = search needs
-
 returns : tie.Need-returns
 unfolding lead4
-returns c = simp (eq-eqb _ _ (c .before .if1 .taken)) (c .between .ensures)
-
-between-requires-2 : tie.Need-between-requires-2
-between-requires-2 c κs = search needs
-
-between-requires-3 : tie.Need-between-requires-3
-between-requires-3 c κs = search needs
+returns c = simp (eq-eqb _ _ c.before.if1.taken) c.between.ensures
 
 returns-2 : tie.Need-returns-2
 unfolding lead4
 returns-2 c =
-    let else1 = c .before .before .before in
+    let else1 = c.before.before.before in
     simp (ne-eqb _ _ else1.if1.left, ← c.before.before.between2.ensures, c.before.if2.taken) c.between3.ensures
-
-between-requires-4 : tie.Need-between-requires-4
-between-requires-4 c κs = search needs
 
 returns-3 : tie.Need-returns-3
 unfolding lead4
 returns-3 c =
-    let after-between2 = c .before .before .before in
+    let after-between2 = c.before.before.before in
     let else1 = after-between2.before in
     simp (ne-eqb _ _ else1.if1.left, ← after-between2.between2.ensures, c.before.before.if2.left, eq-eqb _ _ c.before.if3.taken)
     c.between4.ensures
@@ -37,18 +25,18 @@ returns-3 c =
 returns-4 : tie.Need-returns-4
 unfolding lead4
 returns-4 c =
-    let else1 = c .before .before .before in
+    let else1 = c.before.before.before in
     simp (ne-eqb _ _ else1.if1.left, ← c.before.before.between2.ensures, c.before.if2.left, ne-eqb _ _ c.if3.left)
 
 pub starts-four-spec : {M : Type 1} → statement M
 starts-four-spec =
     tie.close
     (tie.spec
-    between-requires
+    (λ between-requires κs. search needs)
     returns
-    between-requires-2
-    between-requires-3
+    (λ between-requires-2 κs. search needs)
+    (λ between-requires-3 κs. search needs)
     returns-2
-    between-requires-4
+    (λ between-requires-4 κs. search needs)
     returns-3
     returns-4)

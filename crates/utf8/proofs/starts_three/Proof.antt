@@ -4,46 +4,28 @@ use borrow.Author.Needs.{needs}
 use Rattle.utf8.proofs.starts_three.Statement.{statement}
 use Rattle.utf8.proofs.starts_three.Tie as tie
 
-between-requires : tie.Need-between-requires
-between-requires c κs = search needs
-
 returns : tie.Need-returns
 unfolding lead3
-returns c = simp (eq-eqb _ _ (c .before .if1 .taken)) (c .between .ensures)
-
-between-requires-2 : tie.Need-between-requires-2
-between-requires-2 c κs = search needs
-
-between-requires-3 : tie.Need-between-requires-3
-between-requires-3 c κs = search needs
+returns c = simp (eq-eqb _ _ c.before.if1.taken) c.between.ensures
 
 returns-2 : tie.Need-returns-2
 unfolding lead3
 returns-2 c =
-    let else1 = c .before .before .before in
+    let else1 = c.before.before.before in
     simp (ne-eqb _ _ else1.if1.left, ← c.before.before.between2.ensures, c.before.if2.taken) c.between3.ensures
-
-between-requires-4 : tie.Need-between-requires-4
-between-requires-4 c κs = search needs
 
 returns-3 : tie.Need-returns-3
 unfolding lead3
 returns-3 c =
-    let after-between2 = c .before .before .before in
+    let after-between2 = c.before.before.before in
     let else1 = after-between2.before in
     simp (ne-eqb _ _ else1.if1.left, ← after-between2.between2.ensures, c.before.before.if2.left, eq-eqb _ _ c.before.if3.taken)
     c.between4.ensures
 
-between-requires-5 : tie.Need-between-requires-5
-between-requires-5 c κs = search needs
-
-between-requires-6 : tie.Need-between-requires-6
-between-requires-6 c κs = search needs
-
 returns-4 : tie.Need-returns-4
 unfolding lead3
 returns-4 c =
-    let else3 = c .before .before .before in
+    let else3 = c.before.before.before in
     let else2 = else3.before in
     let after-between2 = else2.before in
     let else1 = after-between2.before in
@@ -59,7 +41,7 @@ returns-4 c =
 returns-5 : tie.Need-returns-5
 unfolding lead3
 returns-5 c =
-    let else2 = c .before .before .before in
+    let else2 = c.before.before.before in
     let after-between2 = else2.before in
     let else1 = after-between2.before in
     simp (
@@ -75,14 +57,14 @@ pub starts-three-spec : {M : Type 1} → statement M
 starts-three-spec =
     tie.close
     (tie.spec
-    between-requires
+    (λ between-requires κs. search needs)
     returns
-    between-requires-2
-    between-requires-3
+    (λ between-requires-2 κs. search needs)
+    (λ between-requires-3 κs. search needs)
     returns-2
-    between-requires-4
+    (λ between-requires-4 κs. search needs)
     returns-3
-    between-requires-5
-    between-requires-6
+    (λ between-requires-5 κs. search needs)
+    (λ between-requires-6 κs. search needs)
     returns-4
     returns-5)

@@ -5,28 +5,22 @@ use borrow.Author.Needs.{needs}
 use Rattle.utf8.proofs.three_bytes.Statement.{statement}
 use Rattle.utf8.proofs.three_bytes.Tie as tie
 
-starts-three-requires : tie.Need-starts-three-requires
-starts-three-requires c κs = search needs
-
-between-requires : tie.Need-between-requires
-between-requires c κs = search needs
-
 join-requires : tie.Need-join-requires
 unfolding three
 join-requires c κs =
-    let entry = c .before .before .before .before in
+    let entry = c.before.before.before.before in
     omega (arith, mask-lt entry.args.a 4)
 
 join-requires-2 : tie.Need-join-requires-2
 unfolding three
 join-requires-2 c κs =
-    let entry = c .before .before .before .before .before in
+    let entry = c.before.before.before.before.before in
     omega (arith, mask-lt entry.args.a 4)
 
 returns : tie.Need-returns
 unfolding three
 returns c =
-    let after-between = c .before .before .before in
+    let after-between = c.before.before.before in
     let then1 = after-between.before in
     let after-starts-three = then1.before in
     let entry = after-starts-three.before in
@@ -36,19 +30,19 @@ returns c =
 returns-2 : tie.Need-returns-2
 unfolding three
 returns-2 c =
-    let after-starts-three = c .before .before .before in
+    let after-starts-three = c.before.before.before in
     simp (← after-starts-three.starts-three.ensures, c.before.before.if1.taken, ← c.before.between.ensures, c.if2.left)
 
 returns-3 : tie.Need-returns-3
 unfolding three
-returns-3 c = simp (← c .before .starts-three .ensures, c .if1 .left)
+returns-3 c = simp (← c.before.starts-three.ensures, c.if1.left)
 
 pub three-bytes-spec : {M : Type 1} → statement M
 three-bytes-spec =
     tie.close
     (tie.spec
-    starts-three-requires
-    between-requires
+    (λ starts-three-requires κs. search needs)
+    (λ between-requires κs. search needs)
     join-requires
     join-requires-2
     returns

@@ -7,70 +7,61 @@ use borrow.Author.Needs.{needs}
 use Rattle.keymap.proofs.Movement.from_codes.Statement.{statement}
 use Rattle.keymap.proofs.Movement.from_codes.Tie as tie
 
-backward-word-requires : tie.Need-backward-word-requires
-backward-word-requires c κs = search needs
-
-forward-word-requires : tie.Need-forward-word-requires
-forward-word-requires c κs = search needs
-
-char-search-requires : tie.Need-char-search-requires
-char-search-requires c κs = search needs
-
 returns : tie.Need-returns
 unfolding movements
-returns c = rw (c .match .keys1)
+returns c = rw c.match.keys1
 
 returns-2 : tie.Need-returns-2
 unfolding movements
-returns-2 c = rw (c .match .keys2)
+returns-2 c = rw c.match.keys2
 
 returns-3 : tie.Need-returns-3
 unfolding movements
-returns-3 c = rw (c .match .keys3)
+returns-3 c = rw c.match.keys3
 
 returns-4 : tie.Need-returns-4
 unfolding movements
-returns-4 c = c .backward-word .ensures ∙ rw (c .before .match .keys4)
+returns-4 c = c.backward-word.ensures ∙ rw c.before.match.keys4
 
 returns-5 : tie.Need-returns-5
 unfolding movements
-returns-5 c = c .forward-word .ensures ∙ rw (c .before .match .keys5)
+returns-5 c = c.forward-word.ensures ∙ rw c.before.match.keys5
 
 returns-6 : tie.Need-returns-6
 unfolding movements
-returns-6 c = c .char-search .ensures ∙ rw (c .before .match .keys6)
+returns-6 c = c.char-search.ensures ∙ rw c.before.match.keys6
 
 returns-7 : tie.Need-returns-7
 unfolding movements
-returns-7 c = rw (c .match .keys7)
+returns-7 c = rw c.match.keys7
 
 returns-8 : tie.Need-returns-8
 unfolding movements
-returns-8 c = rw (c .match .keys8)
+returns-8 c = rw c.match.keys8
 
 returns-9 : tie.Need-returns-9
 unfolding movements
-returns-9 c = rw (c .match .keys9)
+returns-9 c = rw c.match.keys9
 
 returns-10 : tie.Need-returns-10
 unfolding movements
-returns-10 c = rw (c .match .keys10)
+returns-10 c = rw c.match.keys10
 
 returns-11 : tie.Need-returns-11
 unfolding movements
-returns-11 c = rw (c .match .keys11)
+returns-11 c = rw c.match.keys11
 
 returns-12 : tie.Need-returns-12
 unfolding movements
-returns-12 c = rw (c .match .keys12)
+returns-12 c = rw c.match.keys12
 
 returns-13 : tie.Need-returns-13
 unfolding movements
-returns-13 c = rw (c .match .keys13)
+returns-13 c = rw c.match.keys13
 
 returns-14 : tie.Need-returns-14
 unfolding movements
-returns-14 c = rw (c .match .keys14)
+returns-14 c = rw c.match.keys14
 
 past : (k x : ℕ) → k ≤ x → (x ≡ k → ⊥) → k + 1 ≤ x
 past k x h n = omega arith
@@ -100,9 +91,9 @@ pub from-codes-spec : {M : Type 1} → statement M
 from-codes-spec =
     tie.close
     (tie.spec
-    backward-word-requires
-    forward-word-requires
-    char-search-requires
+    (λ backward-word-requires κs. search needs)
+    (λ forward-word-requires κs. search needs)
+    (λ char-search-requires κs. search needs)
     returns
     returns-2
     returns-3

@@ -13,44 +13,25 @@ use Rattle.log_state.proofs.Log.begin.Tie as tie
 abbrev lending : tie.Start → Lent
 lending s = lent (now s.args.records) (now s.args.texts) s.args.self
 
-says-requires : tie.Need-says-requires
-says-requires c κs = search needs
-
 returns : tie.Need-returns
 returns c =
-    let entry = c .before .before .before .before .before in
-    let l = lent (now entry.args.records) (now entry.args.texts) entry.args.self in
-    answered-as entry.args.f l (beginOut entry.args.f (sizesOf l) (valueOf catalogue entry.args.f l)) _ _ _ _ c.says.ensures
-    (begin-high entry.args.f l entry.pre.1.0 c.before.if1.taken)
-
-says-requires-2 : tie.Need-says-requires-2
-says-requires-2 c κs = search needs
+    let entry = c.before.before.before.before.before in
+    let a = entry.args in
+    let l = lent (now a.records) (now a.texts) a.self in
+    answered-as a.f l (beginOut a.f (sizesOf l) (valueOf catalogue a.f l)) _ _ _ _ c.says.ensures
+    (begin-high a.f l entry.pre.1.0 c.before.if1.taken)
 
 returns-2 : tie.Need-returns-2
 returns-2 c =
-    let entry = c .before .before .before .before .before .before in
-    let l = lent (now entry.args.records) (now entry.args.texts) entry.args.self in
-    answered-as entry.args.f l (beginOut entry.args.f (sizesOf l) (valueOf catalogue entry.args.f l)) _ _ _ _ c.says2.ensures
-    (begin-full entry.args.f l entry.pre.1.0 c.before.before.if1.left c.before.if2.taken)
-
-slice-write-records : tie.Need-slice-write-records
-slice-write-records c = search needs
-
-add-self : tie.Need-add-self
-add-self c = search needs
-
-add-only-undo : tie.Need-add-only-undo
-add-only-undo c = search needs
-
-only-undo-requires : tie.Need-only-undo-requires
-only-undo-requires c κs = search needs
-
-same-length : tie.Need-same-length
-same-length c = search needs
+    let entry = c.before.before.before.before.before.before in
+    let a = entry.args in
+    let l = lent (now a.records) (now a.texts) a.self in
+    answered-as a.f l (beginOut a.f (sizesOf l) (valueOf catalogue a.f l)) _ _ _ _ c.says2.ensures
+    (begin-full a.f l entry.pre.1.0 c.before.before.if1.left c.before.if2.taken)
 
 returns-3 : tie.Need-returns-3
 returns-3 c =
-    let entry = c .before .before .before .before .before .before in
+    let entry = c.before.before.before.before.before.before in
     let f = entry.args.f in
     let l = lending entry in
     let count = entry.args.newest.count in
@@ -63,13 +44,13 @@ pub begin-spec : {M : Type 1} → statement M
 begin-spec =
     tie.close
     (tie.spec
-    says-requires
+    (λ says-requires κs. search needs)
     returns
-    says-requires-2
+    (λ says-requires-2 κs. search needs)
     returns-2
-    slice-write-records
-    add-self
-    add-only-undo
-    only-undo-requires
-    same-length
+    (λ slice-write-records. search needs)
+    (λ add-self. search needs)
+    (λ add-only-undo. search needs)
+    (λ only-undo-requires κs. search needs)
+    (λ same-length. search needs)
     returns-3)

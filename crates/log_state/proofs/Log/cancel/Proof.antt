@@ -7,23 +7,18 @@ use Rattle.log_state.proofs.Sums.{lowered}
 use Rattle.log_state.proofs.Log.cancel.Statement.{statement}
 use Rattle.log_state.proofs.Log.cancel.Tie as tie
 
-drop-redo-requires : tie.Need-drop-redo-requires
-drop-redo-requires c κs = search needs
-
-least-requires : tie.Need-least-requires
-least-requires c κs = search needs
-
 sub-self : tie.Need-sub-self
 sub-self c =
-    let entry = c .before .before in
-    lowered entry.args.self.level entry.args.begins c.least.result c.least.ensures .0
+    let entry = c.before.before in
+    (lowered entry.args.self.level entry.args.begins c.least.result c.least.ensures) .0
 
 returns : tie.Need-returns
 returns c =
-    let entry = c .before .before in
-    let lowest = lowered entry.args.self.level entry.args.begins c.least.result c.least.ensures in
-    ap (λ (l : Log). record { undo = l .undo; redo = l .redo; level = entry.args.self.level - c.least.result }) c.before.drop-redo.ensures
-    ∙ ap (state entry.args.self.undo.records entry.args.self.undo.texts 0 0) (lowest .1)
+    let entry = c.before.before in
+    let a = entry.args in
+    let lowest = lowered a.self.level a.begins c.least.result c.least.ensures in
+    ap (λ (l : Log). record { undo = l.undo; redo = l.redo; level = a.self.level - c.least.result }) c.before.drop-redo.ensures
+    ∙ ap (state a.self.undo.records a.self.undo.texts 0 0) lowest.1
 
 pub cancel-spec : {M : Type 1} → statement M
-cancel-spec = tie.close (tie.spec drop-redo-requires least-requires sub-self returns)
+cancel-spec = tie.close (tie.spec (λ drop-redo-requires κs. search needs) (λ least-requires κs. search needs) sub-self returns)

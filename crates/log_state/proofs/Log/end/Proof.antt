@@ -29,89 +29,62 @@ gone : (c : tie.After-least) → (c.least.result ≤ c.before.before.before.befo
     Dropped c.before.before.before.before.args.f (held c.before.before.before.before) c.least.result
     (c.before.before.before.before.args.self.level - c.least.result)
 gone c =
-    let entry = c .before .before .before .before in
+    let entry = c.before.before.before.before in
     dropped entry.args.f (held entry) entry.pre.1.0 entry.args.newest c.least.result entry.pre.1.1 c.least.ensures
 
-least-requires : tie.Need-least-requires
-least-requires c κs = search needs
-
 sub-ends : tie.Need-sub-ends
-sub-ends c = gone c .1
-
-slice-reshare-prefix-end-of : tie.Need-slice-reshare-prefix-end-of
-slice-reshare-prefix-end-of c = search needs
+sub-ends c = (gone c) .1
 
 slice-aggregate-end-of : tie.Need-slice-aggregate-end-of
 slice-aggregate-end-of c =
-    let entry = c .before .before .before .before .before in
+    let entry = c.before.before.before.before.before in
     sym (length-take-le _ _ (omega (arith, entry.pre.1.0.hold.room)))
 
 end-of-requires : tie.Need-end-of-requires
 end-of-requires c κs =
-    let entry = c .before .before .before .before .before in
+    let entry = c.before.before.before.before.before in
     let ready = entry.pre.1.0 in
     let used = length-take-le entry.args.self.undo.records (now entry.args.records) (omega (arith, ready.hold.room)) in (
       entry.pre.0,
       (
         listed entry.args.f (held entry) ready,
-        (
-          omega (arith, used, ready.hold.room, ready.records, ready.fit.records),
-          (entry.pre.1.1, gone c.before .0),
-        ),
+        (omega (arith, used, ready.hold.room, ready.records, ready.fit.records), (entry.pre.1.1, (gone c.before) .0)),
       ),
     )
 
 sub-if1 : tie.Need-sub-if1
 sub-if1 c =
-    let after-least = c .before .before in
+    let after-least = c.before.before in
     let entry = after-least.before.before.before.before in
     let ready = entry.pre.1.0 in
     omega (
       arith,
-      stays-within entry.args.f (held entry) ready after-least.least.result _ (gone after-least .2) c.end-of.result c.end-of.ensures,
+      stays-within entry.args.f (held entry) ready after-least.least.result _ ((gone after-least) .2) c.end-of.result c.end-of.ensures,
       ready.hold.room,
     )
 
-says-requires : tie.Need-says-requires
-says-requires c κs = search needs
-
-same-length : tie.Need-same-length
-same-length c = search needs
-
 returns : tie.Need-returns
 returns c =
-    let then1 = c .before in
+    let then1 = c.before in
     let after-end-of = then1.before in
     let after-least = after-end-of.before.before in
     let entry = after-least.before.before.before.before in
     answered-as entry.args.f (held entry) (out entry) _ _ _ _ c.says.ensures
-    (end-full entry.args.f (held entry) entry.pre.1.0 after-least.least.result _ (gone after-least .2) after-end-of.end-of.result
+    (end-full entry.args.f (held entry) entry.pre.1.0 after-least.least.result _ ((gone after-least) .2) after-end-of.end-of.result
     after-end-of.end-of.ensures then1.if1.taken)
 
 fill-requires : tie.Need-fill-requires
 fill-requires c κs =
-    let else1 = c .before in
+    let else1 = c.before in
     let after-end-of = else1.before in
     let after-least = after-end-of.before.before in
     let entry = after-least.before.before.before.before in
-    room entry.args.f (held entry) entry.pre.1.0 after-least.least.result _ (gone after-least .2) after-end-of.end-of.result
+    room entry.args.f (held entry) entry.pre.1.0 after-least.least.result _ ((gone after-least) .2) after-end-of.end-of.result
     after-end-of.end-of.ensures else1.if1.left
-
-add-only-undo : tie.Need-add-only-undo
-add-only-undo c = search needs
-
-only-undo-requires : tie.Need-only-undo-requires
-only-undo-requires c κs = search needs
-
-says-requires-2 : tie.Need-says-requires-2
-says-requires-2 c κs = search needs
-
-same-length-2 : tie.Need-same-length-2
-same-length-2 c = search needs
 
 returns-2 : tie.Need-returns-2
 returns-2 c =
-    let then2 = c .before in
+    let then2 = c.before in
     let after-only-undo = then2.before in
     let after-fill = after-only-undo.before.before.before in
     let else1 = after-fill.before.before in
@@ -121,19 +94,12 @@ returns-2 c =
     let k = entry.args.self.level - after-least.least.result in
     ended-as entry.args.f (held entry) (out entry) _ _ _ _ _ (c.says2.ensures ∙ ap (says 1) after-only-undo.only-undo.ensures)
     after-fill.fill.ensures
-    (end-takes entry.args.f (held entry) entry.pre.1.0 after-least.least.result k (gone after-least .2) after-end-of.end-of.result
-    after-end-of.end-of.ensures else1.if1.left 1
-    (sym (ap (λ (b : Bool). cond b 0 1) (le-ltb 0 k (omega (arith, then2.if2.taken))))))
-
-says-requires-3 : tie.Need-says-requires-3
-says-requires-3 c κs = search needs
-
-same-length-3 : tie.Need-same-length-3
-same-length-3 c = search needs
+    (end-takes entry.args.f (held entry) entry.pre.1.0 after-least.least.result k ((gone after-least) .2) after-end-of.end-of.result
+    after-end-of.end-of.ensures else1.if1.left 1 (sym (ap (λ (b : Bool). cond b 0 1) (le-ltb 0 k (omega (arith, then2.if2.taken))))))
 
 returns-3 : tie.Need-returns-3
 returns-3 c =
-    let else2 = c .before in
+    let else2 = c.before in
     let after-only-undo = else2.before in
     let after-fill = after-only-undo.before.before.before in
     let else1 = after-fill.before.before in
@@ -143,29 +109,28 @@ returns-3 c =
     let k = entry.args.self.level - after-least.least.result in
     ended-as entry.args.f (held entry) (out entry) _ _ _ _ _ (c.says3.ensures ∙ ap (says 0) after-only-undo.only-undo.ensures)
     after-fill.fill.ensures
-    (end-takes entry.args.f (held entry) entry.pre.1.0 after-least.least.result k (gone after-least .2) after-end-of.end-of.result
-    after-end-of.end-of.ensures else1.if1.left 0
-    (sym (ap (λ (b : Bool). cond b 0 1) (lt-ltb 0 k (omega (arith, else2.if2.left))))))
+    (end-takes entry.args.f (held entry) entry.pre.1.0 after-least.least.result k ((gone after-least) .2) after-end-of.end-of.result
+    after-end-of.end-of.ensures else1.if1.left 0 (sym (ap (λ (b : Bool). cond b 0 1) (lt-ltb 0 k (omega (arith, else2.if2.left))))))
 
 pub end-spec : {M : Type 1} → statement M
 end-spec =
     tie.close
     (tie.spec
-    least-requires
+    (λ least-requires κs. search needs)
     sub-ends
-    slice-reshare-prefix-end-of
+    (λ slice-reshare-prefix-end-of. search needs)
     slice-aggregate-end-of
     end-of-requires
     sub-if1
-    says-requires
-    same-length
+    (λ says-requires κs. search needs)
+    (λ same-length. search needs)
     returns
     fill-requires
-    add-only-undo
-    only-undo-requires
-    says-requires-2
-    same-length-2
+    (λ add-only-undo. search needs)
+    (λ only-undo-requires κs. search needs)
+    (λ says-requires-2 κs. search needs)
+    (λ same-length-2. search needs)
     returns-2
-    says-requires-3
-    same-length-3
+    (λ says-requires-3 κs. search needs)
+    (λ same-length-3. search needs)
     returns-3)

@@ -13,41 +13,35 @@ held s = lent (now s.args.records) (now s.args.texts) s.args.self
 
 slice-aggregate-read-record : tie.Need-slice-aggregate-read-record
 slice-aggregate-read-record c =
-    let entry = c .before .before .before .before in
+    let entry = c.before.before.before.before in
     sym (length-take-le _ _ (omega (arith, entry.pre.1.0.hold.room)))
-
-read-record-requires : tie.Need-read-record-requires
-read-record-requires c κs = search needs
 
 sub-t15 : tie.Need-sub-t15
 sub-t15 c =
-    let read = c .before .before .before .before .read-record in
-    let entry = c .before .before .before .before .before .before .before .before .before in
+    let read = c.before.before.before.before.read-record in
+    let entry = c.before.before.before.before.before.before.before.before.before in
     new-within entry.args.f (held entry) entry.pre.1.0 entry.args.newest entry.pre.1.1 read.result read.ensures.same
 
 returns : tie.Need-returns
 returns c =
-    let read = c .before .before .before .before .read-record in
-    let entry = c .before .before .before .before .before .before .before .before .before in
+    let read = c.before.before.before.before.read-record in
+    let entry = c.before.before.before.before.before.before.before.before.before in
     finds entry.args.f (held entry) entry.pre.1.0 entry.args.newest entry.pre.1.1 read.result read.ensures.same c.before.if1.taken
-
-says-requires : tie.Need-says-requires
-says-requires c κs = search needs
 
 returns-2 : tie.Need-returns-2
 returns-2 c =
-    let read = c .before .before .before .before .read-record in
-    let entry = c .before .before .before .before .before .before .before .before .before in
-    c.says.ensures ∙ finds-none entry.args.f (held entry) entry.pre.1.0 entry.args.newest entry.pre.1.1 read.result read.ensures.same
-    c.before.if1.left
+    let read = c.before.before.before.before.read-record in
+    let entry = c.before.before.before.before.before.before.before.before.before in
+    c.says.ensures
+    ∙ finds-none entry.args.f (held entry) entry.pre.1.0 entry.args.newest entry.pre.1.1 read.result read.ensures.same c.before.if1.left
 
 pub last-insert-spec : {M : Type 1} → statement M
 last-insert-spec =
     tie.close
     (tie.spec
     slice-aggregate-read-record
-    read-record-requires
+    (λ read-record-requires κs. search needs)
     sub-t15
     returns
-    says-requires
+    (λ says-requires κs. search needs)
     returns-2)
