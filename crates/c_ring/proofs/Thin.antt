@@ -42,15 +42,15 @@ use denote.Triple.Walked.{walk-meets}
 use denote.Exit.{yes}
 use Rattle.checks.specs.Outcome.{Outcome}
 use Rattle.kill_ring.specs.declared.Ring.{Ring}
-use Rattle.kill_ring.specs.declared.Left.{Left}
+use Rattle.kill_ring.specs.declared.AnswerAndRing.{AnswerAndRing}
 use Rattle.kill_ring.specs.Ring.{KillRing}
-use Rattle.kill_ring.specs.Calls.{Lent, lent, leftOf}
+use Rattle.kill_ring.specs.Calls.{Lent, lent, answerAndRing}
 use Rattle.kill_ring.proofs.Ring as T
 use Rattle.kill_ring.proofs.Ring.Laws as T′
 use Rattle.kill_ring.proofs.RingAnswer as S
 use Rattle.kill_ring.proofs.RingAnswer.Laws as S′
-use Rattle.kill_ring.proofs.Left as U
-use Rattle.kill_ring.proofs.Left.Laws as U′
+use Rattle.kill_ring.proofs.AnswerAndRing as U
+use Rattle.kill_ring.proofs.AnswerAndRing.Laws as U′
 use Rattle.kill_ring.proofs.reset as core
 use Rattle.c_ring.proofs.tlf_ring_reset as f
 
@@ -87,8 +87,8 @@ vals = LL.vals T.the-type T′.the-laws
 
 -- ---- the contracts by the outcome: of the callee, and of the function
 module _ (out : Lent → Outcome KillRing) where
-  abbrev pub left : List ℕ → List ℕ → Ring → Left
-  left s t h = leftOf h (out (lent s t h))
+  abbrev pub left : List ℕ → List ℕ → Ring → AnswerAndRing
+  left s t h = answerAndRing h (out (lent s t h))
 
   module _ {M : Type 1} (𝓤 : URA M) where
     abbrev pub coreClauses : Clauses 𝓤 core.ended
@@ -144,7 +144,7 @@ module _ {M : Type 1} (𝓤 : URA M) (H : Heap 𝓤) (A : Atoms 𝓤) (W : Given
   argvals = (sv ∷ [], (tv ∷ [], (vals h, tt)))
 
   -- what the callee returns
-  abbrev res : Left
+  abbrev res : AnswerAndRing
   res = left out (s .now) (t .now) h
 
   abbrev Post : Val → SProp 𝓤
@@ -154,7 +154,7 @@ module _ {M : Type 1} (𝓤 : URA M) (H : Heap 𝓤) (A : Atoms 𝓤) (W : Given
   to-core = (((κ, (κ′, tt)), (q, (q′, tt)), tt, args, argvals), tt)
 
   -- of the callee's `ensured`, the clause alone
-  said : (r : Left) → ent 𝓤 (ensured 𝓤 H A core.ended (coreClauses out 𝓤) (κ, (κ′, tt)) args tt r) (fact 𝓤 (r ≡ res))
+  said : (r : AnswerAndRing) → ent 𝓤 (ensured 𝓤 H A core.ended (coreClauses out 𝓤) (κ, (κ′, tt)) args tt r) (fact 𝓤 (r ≡ res))
   said r = exE 𝓤 _ (λ ws. snd∗ 𝓤 (sem 𝓤 H A (lasts core.ended (κ, (κ′, tt)) args ws)) (fact 𝓤 (r ≡ res)))
 
   goes-core : ent 𝓤 (⋆ 𝓤 H A
@@ -167,10 +167,10 @@ module _ {M : Type 1} (𝓤 : URA M) (H : Heap 𝓤) (A : Atoms 𝓤) (W : Given
       frame ! $ done !
 
   -- the answer's machine value
-  abbrev answer : Left → Val
+  abbrev answer : AnswerAndRing → Val
   answer r = only (LL.vals S.the-type S′.the-laws (r .answer))
 
-  exits : (r : Left) → r ≡ res → Is S.the-row (r .answer) (answer r ∷ [])
+  exits : (r : AnswerAndRing) → r ≡ res → Is S.the-row (r .answer) (answer r ∷ [])
       → ent 𝓤 (⋆ 𝓤 H A (‵ (fobs γ (T.the-row .coded .code (r .ring))) ∷ ‵ (fbor κ″ (Body (mem T.the-row) b o γ))
       ∷ ‵ (flft κ″ q″) ∷ (‵ (flft κ q) ⊛ ‵ (flft κ′ q′) ⊛ ‵ ftrue) ∷ ‵ OwnT ∷ ‵ OwnS
       ∷ [])) (Post (answer r))
@@ -180,7 +180,7 @@ module _ {M : Type 1} (𝓤 : URA M) (H : Heap 𝓤) (A : Atoms 𝓤) (W : Given
       suffices ! _ (ends-at 𝓤 H A f.ended stayed (thinClauses out 𝓤) W
       (((κ, (κ′, (κ″, tt))), (q, (q′, (q″, tt))), tt, x, at), tt) (answer r) (r .answer) (tt, (tt, (r .ring, tt)))
       (tt, (tt, (tt, tt)))) $
-      says ! (ap (λ (k : Left). k .answer) e, ap (λ (k : Left). k .ring) e) $
+      says ! (ap (λ (k : AnswerAndRing). k .answer) e, ap (λ (k : AnswerAndRing). k .ring) e) $
       move ! (3 ∷ []) $ split ! $ move ! (1 ∷ []) $ split ! $ move ! (5 ∷ 1 ∷ []) $ join ! $ move ! (1 ∷ 0 ∷ []) $ join ! $
       move ! (1 ∷ 0 ∷ []) $ join ! $ frame ! $
       feqI ! (List Val) (vptr b o ∷ []) (vptr b o ∷ []) refl $ fjoin3 ! $ nothing ! $ move ! (1 ∷ 0 ∷ []) $ fjoin ! $
@@ -223,7 +223,7 @@ module _ {M : Type 1} (𝓤 : URA M) (H : Heap 𝓤) (A : Atoms 𝓤) (W : Given
         calls-at ! fm (Core out 𝓤 H A) known to-core
         (and-then ! (load ! (from ! (stop !)) (look ! 15 refl))
         (and-then ! (load ! (from ! (stop !)) (look ! 13 refl)) (and-then ! (load ! (from ! (stop !)) (look ! 7 refl)) (no-more !)))) (λ v.
-        use1 W (later (some (λ (r : Left).
+        use1 W (later (some (λ (r : AnswerAndRing).
         ((‵ (flft κ q) ⊛ ‵ (flft κ′ q′) ⊛ ‵ ftrue) ⊛ ‵ (U.the-row .own r (v ∷ [])))
         ⊛ raw (ensured 𝓤 H A core.ended (coreClauses out 𝓤) (κ, (κ′, tt)) args tt r)))) (id⊢ 𝓤 _) $ await ! tt $
         pick ! (λ r.

@@ -9,8 +9,8 @@ use kill_ring::RingAnswer;
 // count and last action form one record that a kill updates for its caller."
 #[no_mangle]
 pub extern "C" fn tlf_ring_new(ring: &mut Ring, size: usize) -> u32
-    ensures { λ n. ⌜ (n ≡ rings.leftOf (now (ring .entry)) (rings.newCall size) .answer .number)
-        × (now (ring .exit) ≡ rings.leftOf (now (ring .entry)) (rings.newCall size) .ring) ⌝ }
+    ensures { λ n. ⌜ (n ≡ rings.answerAndRing (now (ring .entry)) (rings.newCall size) .answer .number)
+        × (now (ring .exit) ≡ rings.answerAndRing (now (ring .entry)) (rings.newCall size) .ring) ⌝ }
 {
     let a = kill_ring::new(*ring, size);
     *ring = a.ring;
@@ -19,9 +19,9 @@ pub extern "C" fn tlf_ring_new(ring: &mut Ring, size: usize) -> u32
 
 #[no_mangle]
 pub extern "C" fn tlf_ring_reset(slots: &[u8], lens: &[u8], ring: &mut Ring) -> RingAnswer
-    ensures { λ r. ⌜ (r ≡ rings.leftOf (now (ring .entry))
+    ensures { λ r. ⌜ (r ≡ rings.answerAndRing (now (ring .entry))
         (rings.resetCall catalogue (rings.lent (now (slots .entry)) (now (lens .entry)) (now (ring .entry)))) .answer)
-        × (now (ring .exit) ≡ rings.leftOf (now (ring .entry))
+        × (now (ring .exit) ≡ rings.answerAndRing (now (ring .entry))
         (rings.resetCall catalogue (rings.lent (now (slots .entry)) (now (lens .entry)) (now (ring .entry)))) .ring) ⌝ }
 {
     let a = kill_ring::reset(slots, lens, *ring);
@@ -37,9 +37,9 @@ pub extern "C" fn tlf_ring_kill(
     text: &[u8],
     mode: u32,
 ) -> RingAnswer
-    ensures { λ r. ⌜ (r ≡ rings.leftOf (now (ring .entry))
+    ensures { λ r. ⌜ (r ≡ rings.answerAndRing (now (ring .entry))
         (rings.killCall catalogue (rings.lent (now (slots .entry)) (now (lens .entry)) (now (ring .entry))) (now (text .entry)) mode) .answer)
-        × (now (ring .exit) ≡ rings.leftOf (now (ring .entry))
+        × (now (ring .exit) ≡ rings.answerAndRing (now (ring .entry))
         (rings.killCall catalogue (rings.lent (now (slots .entry)) (now (lens .entry)) (now (ring .entry))) (now (text .entry)) mode) .ring)
         × rings.Bytes (rings.lent (now (slots .entry)) (now (lens .entry)) (now (ring .entry)))
         (rings.killCall catalogue (rings.lent (now (slots .entry)) (now (lens .entry)) (now (ring .entry))) (now (text .entry)) mode)
@@ -52,9 +52,9 @@ pub extern "C" fn tlf_ring_kill(
 
 #[no_mangle]
 pub extern "C" fn tlf_ring_yank(slots: &[u8], lens: &[u8], ring: &mut Ring) -> RingAnswer
-    ensures { λ r. ⌜ (r ≡ rings.leftOf (now (ring .entry))
+    ensures { λ r. ⌜ (r ≡ rings.answerAndRing (now (ring .entry))
         (rings.yankCall catalogue (rings.lent (now (slots .entry)) (now (lens .entry)) (now (ring .entry)))) .answer)
-        × (now (ring .exit) ≡ rings.leftOf (now (ring .entry))
+        × (now (ring .exit) ≡ rings.answerAndRing (now (ring .entry))
         (rings.yankCall catalogue (rings.lent (now (slots .entry)) (now (lens .entry)) (now (ring .entry)))) .ring) ⌝ }
 {
     let a = kill_ring::yank(slots, lens, *ring);
@@ -64,9 +64,9 @@ pub extern "C" fn tlf_ring_yank(slots: &[u8], lens: &[u8], ring: &mut Ring) -> R
 
 #[no_mangle]
 pub extern "C" fn tlf_ring_yank_pop(slots: &[u8], lens: &[u8], ring: &mut Ring) -> RingAnswer
-    ensures { λ r. ⌜ (r ≡ rings.leftOf (now (ring .entry))
+    ensures { λ r. ⌜ (r ≡ rings.answerAndRing (now (ring .entry))
         (rings.yankPopCall catalogue (rings.lent (now (slots .entry)) (now (lens .entry)) (now (ring .entry)))) .answer)
-        × (now (ring .exit) ≡ rings.leftOf (now (ring .entry))
+        × (now (ring .exit) ≡ rings.answerAndRing (now (ring .entry))
         (rings.yankPopCall catalogue (rings.lent (now (slots .entry)) (now (lens .entry)) (now (ring .entry)))) .ring) ⌝ }
 {
     let a = kill_ring::yank_pop(slots, lens, *ring);

@@ -51,11 +51,11 @@ refusal-passed t e =
 
 -- a lent text and its cursor that pass
 pub record Fit (R : Repertoire) (F : Format) (buffer : List ℕ) (line : Line) : Type 0 where
-  pub small : length buffer ≤ F .text
+  pub limit : length buffer ≤ F .text
   pub used : line .len ≤ length buffer
   pub text : isText R (lentText buffer line) ≡ true
   pub within : line .cursor ≤ line .len
-  pub edge : boundary (lentText buffer line) (line .cursor) ≡ true
+  pub at-boundary : boundary (lentText buffer line) (line .cursor) ≡ true
 
 module _ (R : Repertoire) (F : Format) (buffer : List ℕ) (line : Line) where
   pub fit : (own : Tests) → refusal (both (lineTests R F buffer line) own) ≡ 0 → Fit R F buffer line × Passed own
@@ -68,11 +68,11 @@ module _ (R : Repertoire) (F : Format) (buffer : List ℕ) (line : Line) where
       let q = or-none (t .place) (own .place) (p .place) in
       let x = or-none (t .split) (own .split) (p .split) in (
         record {
-          small = ltb-false (F .text) (length buffer) (u .0);
+          limit = ltb-false (F .text) (length buffer) (u .0);
           used = ltb-false (length buffer) (line .len) (u .1);
           text = not-false (isText R (lentText buffer line)) (f .0);
           within = ltb-false (line .len) (line .cursor) (q .0);
-          edge = not-false (boundary (lentText buffer line) (line .cursor)) (x .0);
+          at-boundary = not-false (boundary (lentText buffer line) (line .cursor)) (x .0);
         },
         record {
           sizes = s .1;
@@ -92,8 +92,8 @@ module _ (R : Repertoire) (F : Format) (buffer : List ℕ) (line : Line) where
   pub fit-within : Fit R F buffer line → line .cursor ≤ length (lentText buffer line)
   fit-within f = let h = f .within in let l = length-take-le (line .len) buffer (f .used) in omega arith
 
-  pub fit-small : formats.Fit F → Fit R F buffer line → length (lentText buffer line) ≤ 131072
-  fit-small g f = let m = g .text in let h = f .small in let u = f .used in let l = length-take-le (line .len) buffer (f .used) in omega arith
+  pub fit-limit : formats.Fit F → Fit R F buffer line → length (lentText buffer line) ≤ 131072
+  fit-limit g f = let m = g .text in let h = f .limit in let u = f .used in let l = length-take-le (line .len) buffer (f .used) in omega arith
 
   -- a number that names nothing is always refused
   pub code-refused : (foreign place : Bool) → refusal (both (lineTests R F buffer line) (ownTests true foreign place)) ≡ 0 → ⊥

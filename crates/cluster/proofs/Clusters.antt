@@ -127,15 +127,15 @@ module _ (R : Repertoire) where
     pub final : List ℕ
     pub parts : cs ≡ front ++ final
     pub some : 0 < length final
-    pub split : clusters R cs ≡ clusters R front ++ (final ∷ [])
+    pub last-cluster : clusters R cs ≡ clusters R front ++ (final ∷ [])
 
   last-attach : (c d : ℕ) (cs front final : List ℕ) → (d ∷ cs) ≡ front ++ final → 0 < length final → clusters R (d ∷ cs) ≡ clusters R front ++ (final ∷ []) →
       Last (c ∷ (d ∷ cs))
   unfolding clusters
   last-attach c d cs [] final p n e =
       by-test _ (joined R c d)
-      (λ j. record { front = []; final = c ∷ final; parts = ap (λ (l : List ℕ). c ∷ l) p; some = omega arith; split = rw (j, e) })
-      (λ j. record { front = c ∷ []; final = final; parts = ap (λ (l : List ℕ). c ∷ l) p; some = n; split = rw (j, e) })
+      (λ j. record { front = []; final = c ∷ final; parts = ap (λ (l : List ℕ). c ∷ l) p; some = omega arith; last-cluster = rw (j, e) })
+      (λ j. record { front = c ∷ []; final = final; parts = ap (λ (l : List ℕ). c ∷ l) p; some = n; last-cluster = rw (j, e) })
   last-attach c d cs (u ∷ us) final p n e =
       let q : d ≡ u = cc in
       record {
@@ -143,14 +143,14 @@ module _ (R : Repertoire) where
         final = final;
         parts = ap (λ (l : List ℕ). c ∷ l) p;
         some = n;
-        split =
+        last-cluster =
             ap (attach (joined R c d) c) e ∙ attach-append (joined R c d) c (clusters R (u ∷ us)) (final ∷ []) (clusters-some u us) ∙
             ap (λ (x : ℕ). attach (joined R c x) c (clusters R (u ∷ us)) ++ (final ∷ [])) q;
       }
 
   pub clusters-last : (c : ℕ) (cs : List ℕ) → Last (c ∷ cs)
   unfolding clusters
-  clusters-last c [] = record { front = []; final = c ∷ []; parts = refl; some = omega arith; split = refl }
+  clusters-last c [] = record { front = []; final = c ∷ []; parts = refl; some = omega arith; last-cluster = refl }
   clusters-last c (d ∷ cs) =
       let l = clusters-last d cs in
-      last-attach c d cs (l .front) (l .final) (l .parts) (l .some) (l .split)
+      last-attach c d cs (l .front) (l .final) (l .parts) (l .some) (l .last-cluster)

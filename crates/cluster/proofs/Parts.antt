@@ -32,7 +32,7 @@ bytes-all t v = sym (bytes-length (chars t)) ∙ ap length (encode-chars t v)
 -- a text cut behind some of its characters
 pub record Cut (t us vs : List ℕ) : Type 0 where
   pub fits : bytes us ≤ length t
-  pub edge : boundary t (bytes us) ≡ true
+  pub at-boundary : boundary t (bytes us) ≡ true
   pub front : chars (take (bytes us) t) ≡ us
   pub back : chars (drop (bytes us) t) ≡ vs
   pub whole : length t ≡ bytes us + bytes vs
@@ -47,7 +47,7 @@ cut-chars t us vs v e =
     let p = and-both (all scalar us) (all scalar vs) (sym (all-append scalar us vs) ∙ ap (all scalar) (sym e) ∙ chars-scalar t) in
     record {
       fits = omega arith;
-      edge = ap valid f ∙ valid-encode us (p .0);
+      at-boundary = ap valid f ∙ valid-encode us (p .0);
       front = ap chars f ∙ chars-encode us (p .0);
       back = ap chars g ∙ chars-encode vs (p .1);
       whole = l;
@@ -90,15 +90,15 @@ module _ (R : Repertoire) (t : List ℕ) (v : valid t ≡ true) (h : 0 < length 
   pub record LastCut (k : List ℕ) : Type 0 where
     pub some : 0 < bytes k
     pub fits : bytes k ≤ length t
-    pub edge : boundary t (length t - bytes k) ≡ true
-    pub split : clustersOf R t ≡ clustersOf R (take (length t - bytes k) t) ++ (k ∷ [])
+    pub at-boundary : boundary t (length t - bytes k) ≡ true
+    pub last-cluster : clustersOf R t ≡ clustersOf R (take (length t - bytes k) t) ++ (k ∷ [])
 
   pub last-cut : LastCut (lastCluster R t)
   last-cut =
       some-char _ t v h
       (λ c cs e.
       let l = clusters-last R c cs in
-      let s : clustersOf R t ≡ clusters R (l .front) ++ (l .final ∷ []) = ap (clusters R) e ∙ l .split in
+      let s : clustersOf R t ≡ clusters R (l .front) ++ (l .final ∷ []) = ap (clusters R) e ∙ l .last-cluster in
       let f : lastCluster R t ≡ l .final = ap (lastOr []) s ∙ last-snoc [] (clusters R (l .front)) (l .final) in
       let z = cut-chars t (l .front) (l .final) v (e ∙ l .parts) in
       let w = z .whole in
@@ -107,6 +107,6 @@ module _ (R : Repertoire) (t : List ℕ) (v : valid t ≡ true) (h : 0 < length 
       (record {
         some = bytes-some (l .final) (l .some);
         fits = omega arith;
-        edge = rw n (z .edge);
-        split = s ∙ ap (λ (x : List ℕ). clusters R x ++ (l .final ∷ [])) (sym (ap (λ (x : ℕ). chars (take x t)) n ∙ z .front));
+        at-boundary = rw n (z .at-boundary);
+        last-cluster = s ∙ ap (λ (x : List ℕ). clusters R x ++ (l .final ∷ [])) (sym (ap (λ (x : ℕ). chars (take x t)) n ∙ z .front));
       }))

@@ -61,7 +61,7 @@ module _ (R : Repertoire) where
       next : 0 < firstSize R (drop n t)
       next =
           let c = first-cut R t v (omega arith) .cut in
-          first-cut R (drop n t) (sym (valid-cut t n (c .edge)) ∙ v) (simp length-drop (omega arith)) .some
+          first-cut R (drop n t) (sym (valid-cut t n (c .at-boundary)) ∙ v) (simp length-drop (omega arith)) .some
 
       go : (ks : List (List ℕ)) → clustersOf R (drop n t) ≡ ks → P
       go [] e = absurd (omega (arith, next, ap (λ (x : List (List ℕ)). bytes (headOr [] x)) e))
@@ -80,8 +80,8 @@ module _ (R : Repertoire) where
   pub record Before (s : List ℕ) (at n : ℕ) (k : List ℕ) : Type 0 where
     pub some : 0 < n
     pub fits : n ≤ at
-    pub edge : boundary s (at - n) ≡ true
-    pub split : clustersOf R (take at s) ≡ clustersOf R (take (at - n) s) ++ (k ∷ [])
+    pub at-boundary : boundary s (at - n) ≡ true
+    pub last-cluster : clustersOf R (take at s) ≡ clustersOf R (take (at - n) s) ++ (k ∷ [])
 
   before : (s : List ℕ) (at : ℕ) → boundary s at ≡ true → at ≤ length s → 0 < at → Before s at (bytes (lastCluster R (take at s))) (lastCluster R (take at s))
   before s at b h p =
@@ -92,9 +92,9 @@ module _ (R : Repertoire) where
       record {
         some = z .some;
         fits = omega arith;
-        edge = boundary-take s at (at - n) (omega arith) ∙ ap (λ (x : ℕ). boundary (take at s) (x - n)) (sym l) ∙ z .edge;
-        split =
-            z .split ∙ ap (λ (x : ℕ). clustersOf R (take (x - n) (take at s)) ++ (lastCluster R (take at s) ∷ [])) l ∙
+        at-boundary = boundary-take s at (at - n) (omega arith) ∙ ap (λ (x : ℕ). boundary (take at s) (x - n)) (sym l) ∙ z .at-boundary;
+        last-cluster =
+            z .last-cluster ∙ ap (λ (x : ℕ). clustersOf R (take (x - n) (take at s)) ++ (lastCluster R (take at s) ∷ [])) l ∙
             ap (λ (x : List ℕ). clustersOf R x ++ (lastCluster R (take at s) ∷ [])) (take-take (at - n) at s (omega arith));
       }
 

@@ -12,13 +12,13 @@ use Rattle.checks.specs.Outcome.{Outcome, called}
 use Rattle.checks.proofs.Outcomes.{called-refused, called-passed}
 use Rattle.log_model.specs.Change.{Change, turn}
 use Rattle.formats.specs.declared.Format.{Format}
-use Rattle.log_model.specs.Hold.{Holds}
+use Rattle.log_model.specs.Holds.{Holds}
 use Rattle.log_model.specs.Groups as groups
 use Rattle.log_model.specs.UndoBytes.{fits}
 use Rattle.log_model.proofs.Newest.{turned-back}
 use Rattle.log_state.specs.declared.Log.{Log}
 use Rattle.log_state.specs.Calls as log
-use Rattle.log_state.proofs.Answers.{held-state, held-bytes}
+use Rattle.log_state.proofs.Answers.{holds-state, holds-bytes}
 use Rattle.log_state.proofs.Recorded.{holding, fits-now}
 use Rattle.edit.specs.declared.EditAnswer.{EditAnswer}
 use Rattle.edit.specs.Plan.{State, Plan, nothing, textAfter, listAfter, tooLong, edited}
@@ -36,13 +36,13 @@ module _ (F : Format) (l : Lent) where
   passed-by k n o r t rb tb e h q = called-passed (λ (x : Outcome State). Edited F l x r t rb tb) o k n e h q
 
   -- 9, and 10 where 9 passes
-  pub nine : (p : Plan) (r : EditAnswer) → tooLong (length (l .text)) (p .pieces) (textOf l) ≡ true → r ≡ says 9 (l .line) (l .log)
+  pub nine : (p : Plan) (r : EditAnswer) → tooLong (length (l .text)) (p .changes) (textOf l) ≡ true → r ≡ says 9 (l .line) (l .log)
       → Edited F l (edited catalogue F (sizesOf l) (length (l .text)) p (stateOf catalogue F l)) r (l .text) (l .records) (l .texts)
   unfolding edited
   nine p r e q = rw e (record { answer = q; bytes = record { text = refl; records = refl; texts = refl } })
 
-  pub ten : (p : Plan) (r : EditAnswer) → tooLong (length (l .text)) (p .pieces) (textOf l) ≡ false
-      → fits F (sizesOf l) (listAfter catalogue (p .pieces) (textOf l) (stateOf catalogue F l .log .undo)) ≡ false → r ≡ says 10 (l .line) (l .log)
+  pub ten : (p : Plan) (r : EditAnswer) → tooLong (length (l .text)) (p .changes) (textOf l) ≡ false
+      → fits F (sizesOf l) (listAfter catalogue (p .changes) (textOf l) (stateOf catalogue F l .log .undo)) ≡ false → r ≡ says 10 (l .line) (l .log)
       → Edited F l (edited catalogue F (sizesOf l) (length (l .text)) p (stateOf catalogue F l)) r (l .text) (l .records) (l .texts)
   unfolding edited
   ten p r e f q = rw (e, f) (record { answer = q; bytes = record { text = refl; records = refl; texts = refl } })
@@ -61,7 +61,7 @@ module _ (F : Format) (l : Lent) where
         (sym (turned-back (log.redos catalogue F (logLent l)))) (holding F (logLent l) (h .log))
 
     pub log-kept : l .log ≡ log.logOf F v
-    log-kept = held-state catalogue F (l .records) (l .texts) (l .log .undo .records) (l .log .undo .texts) (l .log .redo .records)
+    log-kept = holds-state catalogue F (l .records) (l .texts) (l .log .undo .records) (l .log .undo .texts) (l .log .redo .records)
         (l .log .redo .texts) (l .log .level) (v .undo) (v .redo) hold
 
     pub length-kept : length (textOf l) ≡ l .line .len
@@ -69,13 +69,13 @@ module _ (F : Format) (l : Lent) where
 
     -- the lent cursor stands between characters
     pub cursor-in : In (textOf l) (l .line .cursor) (l .line .cursor)
-    cursor-in = (omega arith, omega (arith, length-kept, h .within), h .edge, h .edge)
+    cursor-in = (omega arith, omega (arith, length-kept, h .within), h .at-boundary, h .at-boundary)
 
     pub state-kept : (p : ℕ) → Stored F (record { text = textOf l; cursor = p; log = v }) (l .text) (l .records) (l .texts)
     state-kept p =
         record {
           text = ap (λ (n : ℕ). take n (l .text)) length-kept;
-          log = held-bytes catalogue F (l .records) (l .texts) (l .log .undo .records) (l .log .undo .texts) (l .log .redo .records)
+          log = holds-bytes catalogue F (l .records) (l .texts) (l .log .undo .records) (l .log .undo .texts) (l .log .redo .records)
               (l .log .redo .texts) (l .log .level) (v .undo) (v .redo) hold;
         }
 

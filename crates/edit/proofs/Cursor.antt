@@ -11,14 +11,14 @@ use Rattle.checks.specs.Outcome.{Outcome, refused, answered}
 use Rattle.formats.specs.declared.Format.{Format}
 use Rattle.log_model.specs.UndoBytes.{Sizes, fits}
 use Rattle.edit.specs.declared.EditAnswer.{EditAnswer}
-use Rattle.edit.specs.Plan.{Piece, Plan, State, planned, textAfter, listAfter, tooLong, edited}
+use Rattle.edit.specs.Plan.{PlannedChange, Plan, State, planned, textAfter, listAfter, tooLong, edited}
 use Rattle.edit.specs.Calls.{Lent, says, Edited}
-use Rattle.edit.proofs.Held.{take-within}
+use Rattle.edit.proofs.Stored.{take-within}
 
-module _ (R : Repertoire) (F : Format) (l : Lent) (z : Sizes) (C : ℕ) (xs : List Piece) (s : State) where
+module _ (R : Repertoire) (F : Format) (l : Lent) (z : Sizes) (C : ℕ) (xs : List PlannedChange) (s : State) where
   -- the changes xs, answered by 0, with the cursor at a place
   abbrev pub ending : ℕ → Plan
-  ending c = record { pieces = xs; cursor = c; number = 0; from = 0; to = 0 }
+  ending c = record { changes = xs; cursor = c; number = 0; from = 0; to = 0 }
 
   abbrev out : Bool → Bool → ℕ → Outcome State
   out a b c = cond a (refused 9) (cond b (answered 0 0 0 (planned R (ending c) s)) (refused 10))

@@ -18,4 +18,4 @@ in-format l call {r} {t} {rb} {tb} e q = subst (λ (G : Format). Edited G l (cal
 
 -- a text is no longer than an array of a call's own frame
 pub text-most : (F : Format) (l : Lent) → Ready F l → length (l .text) ≤ textMax
-text-most F l h = omega (arith, h .small, h .log .fit .text)
+text-most F l h = omega (arith, h .limit, h .log .fit .text)

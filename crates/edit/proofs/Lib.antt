@@ -4,13 +4,14 @@ pub mod Splice
 pub mod Made
 pub mod Once
 pub mod Answers
-pub mod Pieces
+pub mod PlannedChanges
 pub mod Steps
-pub mod Held
-pub mod Left
+pub mod Stored
+pub mod Underway
 pub mod Rooms
 pub mod Tests
 pub mod Cursor
 pub mod Suits
 pub mod Formats
+pub mod Called
 pub mod Pair

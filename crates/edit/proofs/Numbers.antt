@@ -1,5 +1,5 @@
 -- The checks of a text and of a log together: the text's come first, then a place inside a character, then the log. Assumes nothing.
-use Prim.Native.Nat.{ℕ, _<_}
+use Prim.Native.Nat.{ℕ}
 use mathlib.Core.Path.{_≡_, refl, sym, ap, _∙_}
 use mathlib.Core.Bool.{Bool, true, false, cond, _||_, or-false}
 use native.Mathlib.Omega.{arith}
@@ -99,4 +99,4 @@ module _ (F : Format) (l : Lent) (o : Own) where
       pub ready : Bytes (l .records) → broken ≡ false → Fit F → Ready F l
       ready y d j =
           let f = fit catalogue F (l .text) (l .line) (ownTests (o .code) (o .foreign) (o .place)) (sym e ∙ z) .0 in
-          record { small = f .small; used = f .used; text = f .text; within = f .within; edge = f .edge; log = passed.ready F (logLent l) y j a d }
+          record { limit = f .limit; used = f .used; text = f .text; within = f .within; at-boundary = f .at-boundary; log = passed.ready F (logLent l) y j a d }

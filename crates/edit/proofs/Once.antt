@@ -1,4 +1,4 @@
--- A plan of one piece is one change. Assumes nothing.
+-- A plan of one planned change is that change. Assumes nothing.
 use Prim.Native.Nat.{ℕ, _+_, _<_}
 use native.Mathlib.Omega.{arith}
 use mathlib.Core.Path.{_≡_, refl, sym, ap, ap₂, _∙_}
@@ -18,14 +18,15 @@ use Rattle.log_model.specs.Change.{Edit, insert, delete, replace, Change}
 use Rattle.formats.specs.declared.Format.{Format}
 use Rattle.log_model.specs.Recording.{isSingle, note, recordInsert, recordInsertStr, recordDelete, recordReplace}
 use Rattle.log_model.specs.UndoBytes.{Sizes, fits}
-use Rattle.edit.specs.Plan.{Piece, State, changeOut, changed, cutting, edited, listAfter, made, notedOr, once, pasted, recorded, splice, swapping, textAfter, tooLong, typed}
+use Rattle.edit.specs.Plan.{PlannedChange, typed, pasted, cutting, swapping, made, recorded, splice, State, once, edited}
+use Rattle.edit.specs.Plan.{listAfter, textAfter, tooLong, changeOut, changed, notedOr}
 use Rattle.edit.proofs.Parts.{part-length}
 
--- ---- the outcome of one piece, where it is the change x
-one-piece : (R : Repertoire) (F : Format) (z : Sizes) (C : ℕ) (y : Piece) (p : ℕ) (s : State) (j : Bool) (x : Edit)
+-- ---- the outcome of one planned change, where it is the change x
+one-change : (R : Repertoire) (F : Format) (z : Sizes) (C : ℕ) (y : PlannedChange) (p : ℕ) (s : State) (j : Bool) (x : Edit)
     → made y (s .text) ≡ changed x (s .text) → recorded R y (s .text) (s .log .undo) ≡ notedOr j x (s .log .undo) → changeOut F z C j x p s ≡ edited R F z C (once y p) s
 unfolding edited changeOut textAfter listAfter tooLong
-one-piece R F z C y p s j x e f =
+one-change R F z C y p s j x e f =
     sym (ap (λ (b : Bool). cond b (refused 9) (behind (made y (s .text)) (recorded R y (s .text) (s .log .undo)))) (or-false (ltb C (length (made y (s .text)))))
     ∙ ap₂ (λ (t : List ℕ) (u : List Change). cond (ltb C (length t)) (refused 9) (behind t u)) e f)
   where
@@ -59,7 +60,7 @@ module _ (R : Repertoire) (F : Format) (z : Sizes) (C p : ℕ) (s : State) where
   once-cut a b j i e =
       let h = i .0 in
       let k : b ≡ a + length (part (s .text) a b) = omega (arith, part-length R (s .text) a b i) in
-      one-piece R F z C (cutting a b) p s j (delete a (part (s .text) a b)) (ap (λ (m : ℕ). splice (s .text) a m []) k)
+      one-change R F z C (cutting a b) p s j (delete a (part (s .text) a b)) (ap (λ (m : ℕ). splice (s .text) a m []) k)
       (noted-delete R a (part (s .text) a b) (s .log .undo) ∙ ap (λ (c : Bool). notedOr c (delete a (part (s .text) a b)) (s .log .undo)) (sym e))
 
   -- bytes replaced
@@ -68,16 +69,16 @@ module _ (R : Repertoire) (F : Format) (z : Sizes) (C p : ℕ) (s : State) where
   once-swap a b n i =
       let h = i .0 in
       let k : b ≡ a + length (part (s .text) a b) = omega (arith, part-length R (s .text) a b i) in
-      one-piece R F z C (swapping a b n) p s true (replace a (part (s .text) a b) n) (ap (λ (m : ℕ). splice (s .text) a m n) k) refl
+      one-change R F z C (swapping a b n) p s true (replace a (part (s .text) a b) n) (ap (λ (m : ℕ). splice (s .text) a m n) k) refl
 
   -- a text put in
   pub once-paste : (a : ℕ) (n : List ℕ) → changeOut F z C false (insert a n) p s ≡ edited R F z C (once (pasted a n) p) s
   once-paste a n =
       let k : a ≡ a + 0 = omega arith in
-      one-piece R F z C (pasted a n) p s false (insert a n) (ap (λ (m : ℕ). splice (s .text) a m n) k) (noted-insert a n (s .log .undo))
+      one-change R F z C (pasted a n) p s false (insert a n) (ap (λ (m : ℕ). splice (s .text) a m n) k) (noted-insert a n (s .log .undo))
 
   -- a character typed
   pub once-typed : (a c : ℕ) (j : Bool) (n : List ℕ) → j ≡ R .alnum c → n ≡ encode c → changeOut F z C j (insert a n) p s ≡ edited R F z C (once (typed a c) p) s
   once-typed a c j n e f =
       let k : a ≡ a + 0 = omega arith in
-      one-piece R F z C (typed a c) p s j (insert a n) (ap₂ (λ (m : ℕ) (x : List ℕ). splice (s .text) a m x) k (sym f)) (noted-typed R a c j n (s .log .undo) e f)
+      one-change R F z C (typed a c) p s j (insert a n) (ap₂ (λ (m : ℕ) (x : List ℕ). splice (s .text) a m x) k (sym f)) (noted-typed R a c j n (s .log .undo) e f)

@@ -21,14 +21,14 @@ use Rattle.log_model.specs.UndoBytes.{fits}
 use Rattle.log_recording.specs.Tails.{tailOf, InRange}
 use Rattle.edit.specs.declared.EditAnswer.{EditAnswer}
 use Rattle.edit.specs.declared.Room.{Room}
-use Rattle.edit.specs.Plan.{Piece, cutting, pasted, made, recorded, Plan, once, listAfter, Suits, AllSuit, tooLong, edited}
+use Rattle.edit.specs.Plan.{PlannedChange, cutting, pasted, made, recorded, Plan, once, listAfter, Suits, AllSuit, tooLong, edited}
 use Rattle.edit.specs.Calls.{Lent, lent, textOf, sizesOf, stateOf, Edited, Ready}
 use Rattle.edit.specs.Room.{roomCut, roomPut}
 use Rattle.edit.proofs.Answers.{length-kept}
-use Rattle.edit.proofs.Pieces.{made-text}
+use Rattle.edit.proofs.PlannedChanges.{made-text}
 use Rattle.edit.proofs.Splice.{splice-length}
 use Rattle.edit.proofs.Rooms.{Roomy, dry-now, dry-in-range, dry-cut, dry-put}
-use Rattle.edit.proofs.Left.{Left, begins, goes-on, ends}
+use Rattle.edit.proofs.Underway.{Underway, begins, goes-on, ends}
 
 module _ (F : Format) (l : Lent) (h : Ready F l) (a b p : ℕ) (n : List ℕ) (s : AllSuit catalogue (cutting a b ∷ pasted p n ∷ []) (textOf l)) where
   abbrev t : List ℕ
@@ -41,7 +41,7 @@ module _ (F : Format) (l : Lent) (h : Ready F l) (a b p : ℕ) (n : List ℕ) (s
   abbrev mid : List ℕ
   mid = made (cutting a b) t
 
-  abbrev both : List Piece
+  abbrev both : List PlannedChange
   both = cutting a b ∷ pasted p n ∷ []
 
   pub cut-suits : In t a b
@@ -85,7 +85,7 @@ module _ (F : Format) (l : Lent) (h : Ready F l) (a b p : ℕ) (n : List ℕ) (s
 
     pub first-in-range : r₀ .fits ≡ true → InRange (r₀ .tail) (b - a) 0
     first-in-range = dry-in-range F l h u r₀ now-roomy (b - a) 0 w (let e = length-kept F l h in let i = cut-suits .1 in omega
-        (arith, h .used, h .small, h .log .fit .text)) (omega arith)
+        (arith, h .used, h .limit, h .log .fit .text)) (omega arith)
 
     module _ (j : Bool) (ej : j ≡ isSingle catalogue (clustersOf catalogue (part t a b))) (r₁ : Room) (e₁ : r₁ ≡ roomCut F (sizesOf l) j a b r₀) where
       mid-roomy : Roomy catalogue F (sizesOf l) (recorded catalogue (cutting a b) t u) r₁
@@ -104,7 +104,7 @@ module _ (F : Format) (l : Lent) (h : Ready F l) (a b p : ℕ) (n : List ℕ) (s
 
   -- ---- the two changes made
   abbrev plan : ℕ → ℕ → Plan
-  plan c k = record { pieces = both; cursor = c; number = k; from = 0; to = 0 }
+  plan c k = record { changes = both; cursor = c; number = k; from = 0; to = 0 }
 
   module _ (c k : ℕ) (short : tooLong (length (l .text)) both t ≡ false) (room : fits F (sizesOf l) (listAfter catalogue both t u) ≡ true) where
     module _ (r₁ : EditAnswer) (t₁ rb₁ tb₁ : List ℕ) (q₁ : Edited F l
@@ -113,7 +113,7 @@ module _ (F : Format) (l : Lent) (h : Ready F l) (a b p : ℕ) (n : List ℕ) (s
       abbrev l₁ : Lent
       l₁ = lent t₁ rb₁ tb₁ (r₁ .line) (r₁ .log)
 
-      pub pair-mid : Left F l (plan c k) (pasted p n ∷ []) l₁
+      pub pair-mid : Underway F l (plan c k) (pasted p n ∷ []) l₁
       pair-mid = goes-on F l (plan c k) (cutting a b) (pasted p n ∷ []) l (begins F l (plan c k) h s short room) r₁ t₁ rb₁ tb₁ q₁ et er es
 
       pub pair-made : (r₂ : EditAnswer) (t₂ rb₂ tb₂ : List ℕ) → Edited F l₁

@@ -32,11 +32,11 @@ use Rattle.log_recording.proofs.Put.{put}
 use Rattle.log_state.specs.Calls as log
 use Rattle.log_state.proofs.Recorded.{lays, good, fits-now}
 use Rattle.edit.specs.declared.Room.{Room}
-use Rattle.edit.specs.Plan.{cutting, pasted, Piece, Suits, recorded, blank, notedOr}
+use Rattle.edit.specs.Plan.{cutting, pasted, PlannedChange, Suits, recorded, blank, notedOr}
 use Rattle.edit.specs.Calls.{Lent, logLent, sizesOf, stateOf, Ready}
 use Rattle.edit.specs.Room.{roomFor, tailCut, tailPut, roomCut, roomPut}
 use Rattle.edit.proofs.Parts.{part-length}
-use Rattle.edit.proofs.Pieces.{recorded-as, blank-insert, blank-delete}
+use Rattle.edit.proofs.PlannedChanges.{recorded-as, blank-insert, blank-delete}
 use Rattle.edit.proofs.Steps.{records-grow, texts-grow, good-step, fits-lengths}
 
 -- ---- the definitions by their tests
@@ -135,7 +135,7 @@ module _ (R : Repertoire) (F : Format) (z : Sizes) (w : z .texts < top (F .width
       })
 
   -- one change more
-  module _ (C : ℕ) (v : C < top (F .width)) (x : Piece) (t : List ℕ) (u : List Change) (s : Suits R x t) (is : isText R t ≡ true) (h : length t ≤ C)
+  module _ (C : ℕ) (v : C < top (F .width)) (x : PlannedChange) (t : List ℕ) (u : List Change) (s : Suits R x t) (is : isText R t ≡ true) (h : length t ≤ C)
       (r : Room) (q : Roomy R F z u r) where
     abbrev y : List Change
     y = recorded R x t u
@@ -194,24 +194,24 @@ module _ (F : Format) (l : log.Lent) (h : log.Ready F l) where
 
 -- ---- the same of an edit that is lent l, whose log has buffers of its sizes and whose texts stay within C
 module _ (F : Format) (l : Lent) (h : Ready F l) where
-  wide : length (l .texts) < top (F .width)
-  wide = omega (arith, h .log .texts, h .log .fit .lengths)
+  below-top : length (l .texts) < top (F .width)
+  below-top = omega (arith, h .log .texts, h .log .fit .lengths)
 
   high : length (l .text) < top (F .width)
-  high = omega (arith, h .small, h .log .fit .places, h .log .fit .lengths)
+  high = omega (arith, h .limit, h .log .fit .places, h .log .fit .lengths)
 
   pub dry-now : Roomy catalogue F (sizesOf l) (stateOf catalogue F l .log .undo) (record { fits = true; tail = tailOf F (stateOf catalogue F l .log .undo) })
   dry-now = roomy-now F (logLent l) (h .log)
 
   module _ (u : List Change) (r : Room) (q : Roomy catalogue F (sizesOf l) u r) where
     pub dry-in-range : (o n : ℕ) → top (F .width) ≤ 4294967296 → o ≤ textMax → n ≤ textMax → r .fits ≡ true → InRange (r .tail) o n
-    dry-in-range o n w a b e = roomy-in-range catalogue F (sizesOf l) wide u r o n q (omega (arith, wide)) w (omega (arith, h .log .records, h .log .fit .records)) a b e
+    dry-in-range o n w a b e = roomy-in-range catalogue F (sizesOf l) below-top u r o n q (omega (arith, below-top)) w (omega (arith, h .log .records, h .log .fit .records)) a b e
 
     module _ (t : List ℕ) (is : isText catalogue t ≡ true) (m : length t ≤ length (l .text)) where
       pub dry-cut : (a b : ℕ) (j : Bool) → Suits catalogue (cutting a b) t → j ≡ isSingle catalogue (clustersOf catalogue (part t a b))
           → Roomy catalogue F (sizesOf l) (recorded catalogue (cutting a b) t u) (roomCut F (sizesOf l) j a b r)
-      dry-cut a b j s e = roomy-cut catalogue F (sizesOf l) wide (length (l .text)) high t u is m r q a b j s e
+      dry-cut a b j s e = roomy-cut catalogue F (sizesOf l) below-top (length (l .text)) high t u is m r q a b j s e
 
       pub dry-put : (p : ℕ) (x : List ℕ) → Suits catalogue (pasted p x) t
           → Roomy catalogue F (sizesOf l) (recorded catalogue (pasted p x) t u) (roomPut F (sizesOf l) p (length x) r)
-      dry-put p x s = roomy-put catalogue F (sizesOf l) wide (length (l .text)) high t u is m r q p x s
+      dry-put p x s = roomy-put catalogue F (sizesOf l) below-top (length (l .text)) high t u is m r q p x s

@@ -14,10 +14,10 @@ use Rattle.log_model.specs.Change.{Change, old, new}
 use Rattle.numbers.specs.Numbers.{top}
 use Rattle.formats.specs.declared.Format.{Format}
 use Rattle.log_model.specs.Layout.{AllGood}
-use Rattle.log_model.specs.UndoBytes.{undoRecords, undoTexts, allSmall, Sizes, fits}
+use Rattle.log_model.specs.UndoBytes.{undoRecords, undoTexts, allNumbersFit, Sizes, fits}
 use Rattle.log_model.proofs.UndoBytes.{fits-yes, full-records, full-texts}
-use Rattle.edit.specs.Plan.{Piece, Suits, AllSuit, made, recorded, textAfter, listAfter, tooLong}
-use Rattle.edit.proofs.Pieces.{editAt, joinsAt, place-at, recorded-as, ok-at, suits-in, made-text, more-records, more-texts, more-good}
+use Rattle.edit.specs.Plan.{PlannedChange, Suits, AllSuit, made, recorded, textAfter, listAfter, tooLong}
+use Rattle.edit.proofs.PlannedChanges.{editAt, joinsAt, place-at, recorded-as, ok-at, suits-in, made-text, more-records, more-texts, more-good}
 
 -- check 10 by the two lengths, of a list whose numbers fit their bytes where its texts are not too long
 pub fits-lengths : (R : Repertoire) (F : Format) (z : Sizes) → z .texts < top (F .width) → (y : List Change) → (length (undoTexts y) < top (F .width) → AllGood R (F .width) y)
@@ -31,33 +31,33 @@ fits-lengths R F z w y g =
 
 module _ (R : Repertoire) where
   -- the text afterwards is a text
-  pub text-after : (xs : List Piece) (t : List ℕ) → isText R t ≡ true → AllSuit R xs t → isText R (textAfter xs t) ≡ true
+  pub text-after : (xs : List PlannedChange) (t : List ℕ) → isText R t ≡ true → AllSuit R xs t → isText R (textAfter xs t) ≡ true
   unfolding textAfter AllSuit
   text-after [] t v h = v
   text-after (x ∷ xs) t v h = text-after xs (made x t) (made-text R x t (h .0) v) (h .1)
 
   module _ (F : Format) where
     -- the log grows
-    pub records-grow : (x : Piece) (t : List ℕ) (u : List Change) → length (undoRecords F u) ≤ length (undoRecords F (recorded R x t u))
+    pub records-grow : (x : PlannedChange) (t : List ℕ) (u : List Change) → length (undoRecords F u) ≤ length (undoRecords F (recorded R x t u))
     records-grow x t u = omega (arith, more-records F (joinsAt R x t) (editAt x t) u, ap (λ (v : List Change). length (undoRecords F v)) (recorded-as R x t u))
 
-    pub texts-grow : (x : Piece) (t : List ℕ) (u : List Change) → length (undoTexts (recorded R x t u)) ≡ length (undoTexts u) +
+    pub texts-grow : (x : PlannedChange) (t : List ℕ) (u : List Change) → length (undoTexts (recorded R x t u)) ≡ length (undoTexts u) +
         (length (old (editAt x t)) + length (new (editAt x t)))
     texts-grow x t u = ap (λ (v : List Change). length (undoTexts v)) (recorded-as R x t u) ∙ more-texts F (joinsAt R x t) (editAt x t) u
 
-    pub records-after : (xs : List Piece) (t : List ℕ) (u : List Change) → length (undoRecords F u) ≤ length (undoRecords F (listAfter R xs t u))
+    pub records-after : (xs : List PlannedChange) (t : List ℕ) (u : List Change) → length (undoRecords F u) ≤ length (undoRecords F (listAfter R xs t u))
     unfolding listAfter
     records-after [] t u = omega arith
     records-after (x ∷ xs) t u = omega (arith, records-grow x t u, records-after xs (made x t) (recorded R x t u))
 
-    pub texts-after : (xs : List Piece) (t : List ℕ) (u : List Change) → length (undoTexts u) ≤ length (undoTexts (listAfter R xs t u))
+    pub texts-after : (xs : List PlannedChange) (t : List ℕ) (u : List Change) → length (undoTexts u) ≤ length (undoTexts (listAfter R xs t u))
     unfolding listAfter
     texts-after [] t u = omega arith
     texts-after (x ∷ xs) t u = omega (arith, texts-grow x t u, texts-after xs (made x t) (recorded R x t u))
 
     -- its numbers fit their bytes, where places are within C and the texts are not too long
     module _ (C : ℕ) (w : C < top (F .width)) where
-      pub good-step : (x : Piece) (t : List ℕ) (u : List Change) → Suits R x t → isText R t ≡ true → length t ≤ C → AllGood R (F .width) u
+      pub good-step : (x : PlannedChange) (t : List ℕ) (u : List Change) → Suits R x t → isText R t ≡ true → length t ≤ C → AllGood R (F .width) u
           → length (undoTexts (recorded R x t u)) < top (F .width) → AllGood R (F .width) (recorded R x t u)
       good-step x t u h v c g l =
           let e = recorded-as R x t u in
@@ -68,7 +68,7 @@ module _ (R : Repertoire) where
           (more-good F (joinsAt R x t) (editAt x t) u R g (ok-at R x t v h) (omega arith) (omega (arith, place-at x t))
           (omega (arith, ap (λ (y : List Change). length (undoTexts y)) e)))
 
-      pub good-after : (xs : List Piece) (t : List ℕ) (u : List Change) → AllSuit R xs t → isText R t ≡ true → length t ≤ C → tooLong C xs t ≡ false
+      pub good-after : (xs : List PlannedChange) (t : List ℕ) (u : List Change) → AllSuit R xs t → isText R t ≡ true → length t ≤ C → tooLong C xs t ≡ false
           → AllGood R (F .width) u → length (undoTexts (listAfter R xs t u)) < top (F .width)
           → AllGood R (F .width) (listAfter R xs t u)
       unfolding listAfter AllSuit tooLong
@@ -80,17 +80,17 @@ module _ (R : Repertoire) where
 
       -- check 10 by the two lengths alone
       module _ (z : Sizes) (k : z .texts < top (F .width)) where
-        pub room-is : (xs : List Piece) (t : List ℕ) (u : List Change) → AllSuit R xs t → isText R t ≡ true → length t ≤ C → tooLong C xs t ≡ false → AllGood R (F .width) u
+        pub room-is : (xs : List PlannedChange) (t : List ℕ) (u : List Change) → AllSuit R xs t → isText R t ≡ true → length t ≤ C → tooLong C xs t ≡ false → AllGood R (F .width) u
             → fits F z (listAfter R xs t u) ≡ (leb (length (undoRecords F (listAfter R xs t u))) (z .records) && leb (length (undoTexts (listAfter R xs t u))) (z .texts))
         room-is xs t u h v c n g = fits-lengths R F z k (listAfter R xs t u) (λ l. good-after xs t u h v c n g l)
 
         -- where there is room for all, there is for the first
-        pub room-first : (x : Piece) (xs : List Piece) (t : List ℕ) (u : List Change) → Suits R x t → isText R t ≡ true → length t ≤ C → AllGood R (F .width) u
+        pub room-first : (x : PlannedChange) (xs : List PlannedChange) (t : List ℕ) (u : List Change) → Suits R x t → isText R t ≡ true → length t ≤ C → AllGood R (F .width) u
             → fits F z (listAfter R (x ∷ xs) t u) ≡ true → fits F z (recorded R x t u) ≡ true
         unfolding listAfter fits
         room-first x xs t u h v c g e =
             let y = listAfter R xs (made x t) (recorded R x t u) in
-            let p = and-both (leb (length (undoRecords F y)) (z .records)) (leb (length (undoTexts y)) (z .texts)) (and-both (allSmall (F .width) y) _ e .1) in
+            let p = and-both (leb (length (undoRecords F y)) (z .records)) (leb (length (undoTexts y)) (z .texts)) (and-both (allNumbersFit (F .width) y) _ e .1) in
             let a = leb-true (length (undoRecords F y)) (z .records) (p .0) in
             let b = leb-true (length (undoTexts y)) (z .texts) (p .1) in
             let l = texts-after xs (made x t) (recorded R x t u) in

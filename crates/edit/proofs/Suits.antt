@@ -13,15 +13,15 @@ use Rattle.edit.proofs.Splice.{splice-start, splice-end}
 
 -- a plan suits the text, and leaves the cursor between its characters
 abbrev pub PlanSuits : Repertoire → List ℕ → Plan → Type 0
-PlanSuits R t p = AllSuit R (p .pieces) t × In (textAfter (p .pieces) t) (p .cursor) (p .cursor)
+PlanSuits R t p = AllSuit R (p .changes) t × In (textAfter (p .changes) t) (p .cursor) (p .cursor)
 
 module _ (R : Repertoire) (t : List ℕ) where
   -- nothing
-  pub nothing-suits : (pos : ℕ) → AllSuit R (nothing pos .pieces) t
+  pub nothing-suits : (pos : ℕ) → AllSuit R (nothing pos .changes) t
   unfolding AllSuit
   nothing-suits pos = tt
 
-  pub nothing-cursor : (pos : ℕ) → In t pos pos → In (textAfter (nothing pos .pieces) t) pos pos
+  pub nothing-cursor : (pos : ℕ) → In t pos pos → In (textAfter (nothing pos .changes) t) pos pos
   unfolding textAfter
   nothing-cursor pos i = i
 

@@ -101,9 +101,9 @@ module _ (R : Repertoire) (F : Format) (l : Lent) where
 
 -- ---- what holds where the checks pass
 pub record Ready (F : Format) (l : Lent) : Type 0 where
-  pub small : length (l .text) ≤ F .text
+  pub limit : length (l .text) ≤ F .text
   pub used : l .line .len ≤ length (l .text)
   pub text : isText catalogue (textOf l) ≡ true
   pub within : l .line .cursor ≤ l .line .len
-  pub edge : boundary (textOf l) (l .line .cursor) ≡ true
+  pub at-boundary : boundary (textOf l) (l .line .cursor) ≡ true
   pub log : log.Ready F (logLent l)

@@ -22,28 +22,28 @@ unfoldable pub splice : List ℕ → ℕ → ℕ → List ℕ → List ℕ
 splice t a b s = take a t ++ (s ++ drop b t)
 
 -- a character typed at a place, a text put in there, the bytes from a up to b cut out, the same replaced by a text
-pub data Piece : Type 0 where
-  typed : ℕ → ℕ → Piece
-  pasted : ℕ → List ℕ → Piece
-  cutting : ℕ → ℕ → Piece
-  swapping : ℕ → ℕ → List ℕ → Piece
+pub data PlannedChange : Type 0 where
+  typed : ℕ → ℕ → PlannedChange
+  pasted : ℕ → List ℕ → PlannedChange
+  cutting : ℕ → ℕ → PlannedChange
+  swapping : ℕ → ℕ → List ℕ → PlannedChange
 
 -- the text after it
-abbrev pub made : Piece → List ℕ → List ℕ
+abbrev pub made : PlannedChange → List ℕ → List ℕ
 made (typed p c) t = splice t p p (encode c)
 made (pasted p s) t = splice t p p s
 made (cutting a b) t = splice t a b []
 made (swapping a b s) t = splice t a b s
 
 -- the undo list after it, from the text before it
-abbrev pub recorded : Repertoire → Piece → List ℕ → List Change → List Change
+abbrev pub recorded : Repertoire → PlannedChange → List ℕ → List Change → List Change
 recorded R (typed p c) t u = recordInsert R p c u
 recorded R (pasted p s) t u = recordInsertStr p s u
 recorded R (cutting a b) t u = recordDelete R a (part t a b) u
 recorded R (swapping a b s) t u = recordReplace a (part t a b) s u
 
 -- it suits the text that it is made in: its places stand between characters, and what it puts in is of the repertoire
-abbrev pub Suits : Repertoire → Piece → List ℕ → Type 0
+abbrev pub Suits : Repertoire → PlannedChange → List ℕ → Type 0
 Suits R (typed p c) t = In t p p × (isChar R c ≡ true)
 Suits R (pasted p s) t = In t p p × (isText R s ≡ true)
 Suits R (cutting a b) t = In t a b
@@ -51,40 +51,40 @@ Suits R (swapping a b s) t = In t a b × (isText R s ≡ true)
 
 -- what a call makes of a text and a cursor: its changes, the cursor afterwards, its number 0 or 1, and the places that it answers
 pub record Plan : Type 0 where
-  pub pieces : List Piece
+  pub changes : List PlannedChange
   pub cursor : ℕ
   pub number : ℕ
   pub from : ℕ
   pub to : ℕ
 
 -- one change, answered by 0
-abbrev pub once : Piece → ℕ → Plan
-once x p = record { pieces = x ∷ []; cursor = p; number = 0; from = 0; to = 0 }
+abbrev pub once : PlannedChange → ℕ → Plan
+once x p = record { changes = x ∷ []; cursor = p; number = 0; from = 0; to = 0 }
 
 -- nothing: answer 1, the cursor where it is
 abbrev pub nothing : ℕ → Plan
-nothing p = record { pieces = []; cursor = p; number = 1; from = 0; to = 0 }
+nothing p = record { changes = []; cursor = p; number = 1; from = 0; to = 0 }
 
-unfoldable pub textAfter : List Piece → List ℕ → List ℕ
+unfoldable pub textAfter : List PlannedChange → List ℕ → List ℕ
 textAfter [] t = t
 textAfter (x ∷ xs) t = textAfter xs (made x t)
 
-unfoldable pub listAfter : Repertoire → List Piece → List ℕ → List Change → List Change
+unfoldable pub listAfter : Repertoire → List PlannedChange → List ℕ → List Change → List Change
 listAfter R [] t u = u
 listAfter R (x ∷ xs) t u = listAfter R xs (made x t) (recorded R x t u)
 
 -- each suits the text that those before it leave
-unfoldable pub AllSuit : Repertoire → List Piece → List ℕ → Type 0
+unfoldable pub AllSuit : Repertoire → List PlannedChange → List ℕ → Type 0
 AllSuit R [] t = Unit {0}
 AllSuit R (x ∷ xs) t = Suits R x t × AllSuit R xs (made x t)
 
 -- each change drops the redo list
-abbrev pub redoAfter : List Piece → List Change → List Change
+abbrev pub redoAfter : List PlannedChange → List Change → List Change
 redoAfter [] r = r
 redoAfter (x ∷ xs) r = []
 
 -- 9: a text in between is longer than C
-unfoldable pub tooLong : ℕ → List Piece → List ℕ → Bool
+unfoldable pub tooLong : ℕ → List PlannedChange → List ℕ → Bool
 tooLong C [] t = false
 tooLong C (x ∷ xs) t = ltb C (length (made x t)) || tooLong C xs (made x t)
 
@@ -97,19 +97,19 @@ pub record State : Type 0 where
 abbrev pub planned : Repertoire → Plan → State → State
 planned R p s =
     record {
-      text = textAfter (p .pieces) (s .text);
+      text = textAfter (p .changes) (s .text);
       cursor = p .cursor;
-      log = record { undo = listAfter R (p .pieces) (s .text) (s .log .undo); redo = redoAfter (p .pieces) (s .log .redo); level = s .log .level };
+      log = record { undo = listAfter R (p .changes) (s .text) (s .log .undo); redo = redoAfter (p .changes) (s .log .redo); level = s .log .level };
     }
 
 -- a plan carried out: 9 is tried over all its changes, then 10 at the end. Within a call the log only grows, so its end decides
 unfoldable pub edited : Repertoire → Format → Sizes → ℕ → Plan → State → Outcome State
 edited R F z C p s =
-    cond (tooLong C (p .pieces) (s .text)) (refused 9)
-    (cond (fits F z (listAfter R (p .pieces) (s .text) (s .log .undo))) (answered (p .number) (p .from) (p .to) (planned R p s))
+    cond (tooLong C (p .changes) (s .text)) (refused 9)
+    (cond (fits F z (listAfter R (p .changes) (s .text) (s .log .undo))) (answered (p .number) (p .from) (p .to) (planned R p s))
     (refused 10))
 
--- ---- one change by its edit x, where j says that it may be merged: what a plan of one piece comes to
+-- ---- one change by its edit x, where j says that it may be merged: what a plan of one change comes to
 abbrev pub blank : Edit → Bool
 blank (insert p []) = true
 blank (insert p (b ∷ s)) = false

@@ -432,7 +432,7 @@ pub fn cut_and_put(
     requires { ⌜ LastAt catalogue f (take (log .undo .records) (now records)) last ⌝ }
     requires { ⌜ AllSuit catalogue (cutting from to ∷ pasted at (now new) ∷ []) (take (line .len) (now text)) ⌝ }
     ensures { λ r. ⌜ Makes f (lent (now (text .entry)) (now (records .entry)) (now (texts .entry)) line log)
-        (record { pieces = cutting from to ∷ pasted at (now (new .entry)) ∷ []; cursor = cursor; number = number; from = 0; to = 0 })
+        (record { changes = cutting from to ∷ pasted at (now (new .entry)) ∷ []; cursor = cursor; number = number; from = 0; to = 0 })
         r (now (text .exit)) (now (records .exit)) (now (texts .exit)) ⌝ }
 {
     let left = line.len - (to - from);

@@ -110,9 +110,9 @@ unfolding clusters charsFrom validFrom
 nothing-first R = refl
 
 module _ (R : Repertoire) (s : List ℕ) (is : isText R s ≡ true) where
-  first-edge : boundary s (firstSize R s) ≡ true
-  first-edge =
-      by-less (boundary s (firstSize R s) ≡ true) 0 (length s) (λ h. first-cut R s (text-valid R s is) h .cut .edge) (λ h. no-bytes s (omega arith))
+  first-boundary : boundary s (firstSize R s) ≡ true
+  first-boundary =
+      by-less (boundary s (firstSize R s) ≡ true) 0 (length s) (λ h. first-cut R s (text-valid R s is) h .cut .at-boundary) (λ h. no-bytes s (omega arith))
     where
       no-bytes : (t : List ℕ) → length t ≡ 0 → boundary t (firstSize R t) ≡ true
       no-bytes [] e = nothing-first R
@@ -120,7 +120,7 @@ module _ (R : Repertoire) (s : List ℕ) (is : isText R s ≡ true) where
 
   pub case-text : Lawful R → (w : WordAction) → isText R (inCase R w s) ≡ true
   case-text law Capitalize =
-      let c = text-cut R s (firstSize R s) is first-edge in
+      let c = text-cut R s (firstSize R s) is first-boundary in
       text-append R (cased R Upper (take (firstSize R s) s)) (cased R Lower (drop (firstSize R s) s))
       (cased-text R law Upper (take (firstSize R s) s) (c .0)) ∙ cased-text R law Lower (drop (firstSize R s) s) (c .1)
   case-text law Lowercase = cased-text R law Lower s is

@@ -30,14 +30,14 @@ module _ (F : Format) (l : Lent) (h : Ready F l) (a : ℕ) (i : In (textOf l) a 
     recased-suits = subst (λ (y : List ℕ). AllSuit catalogue (cutting a b ∷ pasted a y ∷ []) (textOf l)) (sym ex)
         (case-suits catalogue (textOf l) (h .text) catalogue-lawful w a b word-in)
 
-    same : (n : ℕ) → n ≡ length x → record { pieces = cutting a b ∷ pasted a x ∷ []; cursor = a + n; number = 0; from = 0; to = 0 } ≡ casePlan
+    same : (n : ℕ) → n ≡ length x → record { changes = cutting a b ∷ pasted a x ∷ []; cursor = a + n; number = 0; from = 0; to = 0 } ≡ casePlan
         catalogue (textOf l) w a (wordsOn catalogue (textOf l) 1 a)
     same n e =
-        ap₂ (λ (y : List ℕ) (m : ℕ). record { pieces = cutting a b ∷ pasted a y ∷ []; cursor = a + m; number = 0; from = 0; to = 0 }) ex (e ∙ ap length ex)
+        ap₂ (λ (y : List ℕ) (m : ℕ). record { changes = cutting a b ∷ pasted a y ∷ []; cursor = a + m; number = 0; from = 0; to = 0 }) ex (e ∙ ap length ex)
         ∙ ap (casePlan catalogue (textOf l) w a) eb
 
     pub recased : (n : ℕ) → n ≡ length x → (r : EditAnswer) (t rb tb : List ℕ)
         → Edited F l (edited catalogue F (sizesOf l) (length (l .text))
-        (record { pieces = cutting a b ∷ pasted a x ∷ []; cursor = a + n; number = 0; from = 0; to = 0 }) (stateOf catalogue F l)) r t rb tb
+        (record { changes = cutting a b ∷ pasted a x ∷ []; cursor = a + n; number = 0; from = 0; to = 0 }) (stateOf catalogue F l)) r t rb tb
         → Edited F l (edited catalogue F (sizesOf l) (length (l .text)) (casePlan catalogue (textOf l) w a (wordsOn catalogue (textOf l) 1 a)) (stateOf catalogue F l)) r t rb tb
     recased n e r t rb tb q = outcome-as F l _ _ r t rb tb (ap (λ (p : Plan). edited catalogue F (sizesOf l) (length (l .text)) p (stateOf catalogue F l)) (same n e)) q

@@ -24,10 +24,10 @@ module _ (R : Repertoire) (t : List ℕ) (is : isText R t ≡ true) where
     word-text : isText R word ≡ true
     word-text = case-text R (part t a b) (part-text R t a b i is) law w
 
-    pub case-suits : AllSuit R (casePlan R t w a b .pieces) t
+    pub case-suits : AllSuit R (casePlan R t w a b .changes) t
     unfolding AllSuit
     case-suits = (i, ((splice-start t a b [] i, word-text), tt))
 
-    pub case-cursor : In (textAfter (casePlan R t w a b .pieces) t) (casePlan R t w a b .cursor) (casePlan R t w a b .cursor)
+    pub case-cursor : In (textAfter (casePlan R t w a b .changes) t) (casePlan R t w a b .cursor) (casePlan R t w a b .cursor)
     unfolding textAfter
     case-cursor = splice-end (splice t a b []) a a word (splice-start t a b [] i) (text-valid R word word-text)

@@ -42,7 +42,7 @@ pub record Written (x after : List ℕ) (count : ℕ) : Type 0 where
 abbrev pub casePlan : Repertoire → List ℕ → WordAction → ℕ → ℕ → Plan
 casePlan R t w a b =
     record {
-      pieces = cutting a b ∷ pasted a (inCase R w (part t a b)) ∷ [];
+      changes = cutting a b ∷ pasted a (inCase R w (part t a b)) ∷ [];
       cursor = a + length (inCase R w (part t a b));
       number = 0;
       from = 0;

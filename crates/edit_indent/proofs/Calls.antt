@@ -23,7 +23,7 @@ use Rattle.edit.proofs.Parts.{raw-part}
 use Rattle.edit.proofs.Answers.{refused-by, passed-by}
 use Rattle.edit.proofs.Tests.{split-within, own-passed}
 use Rattle.motion_lines.specs.declared.Span.{Span}
-use Rattle.edit_indent_plans.specs.Touched.{split, splits, touched}
+use Rattle.edit_indent_plans.specs.Touched.{splitLines, splits, touched}
 use Rattle.edit_indent_plans.specs.IndentPlans.{linesIn, indentPlan}
 use Rattle.edit_indent.specs.Indents.{indentTests, indentOf}
 use Rattle.edit_indent_plans.proofs.Spans.{Inside, touched-in}
@@ -48,7 +48,7 @@ module _ (F : Format) (text : List ℕ) (line : Line) (mvt : Movement) (amount :
     text-used = fits .used
 
     pub text-fit : (valid t ≡ true) × (boundary t (line .cursor) ≡ true) × (line .cursor ≤ length t)
-    text-fit = (fit-valid catalogue F text line fits, fits .edge, fit-within catalogue F text line fits)
+    text-fit = (fit-valid catalogue F text line fits, fits .at-boundary, fit-within catalogue F text line fits)
 
     module _ (r : Span) (e : r ≡ touched catalogue t (line .cursor) mvt) where
       pub lines-in : In t (r .start) (r .end)
@@ -63,10 +63,10 @@ module _ (F : Format) (text : List ℕ) (line : Line) (mvt : Movement) (amount :
       pub raw-valid : valid (take (r .end - r .start) (drop (r .start) text)) ≡ true
       raw-valid = ap valid raw ∙ part-valid t (r .start) (r .end) (text-fit .0) lines-in
 
-      pub tried : (b dedent : Bool) → dedent ≡ true → b ≡ splits catalogue amount (split (take (r .end - r .start) (drop (r .start) text)))
+      pub tested : (b dedent : Bool) → dedent ≡ true → b ≡ splits catalogue amount (splitLines (take (r .end - r .start) (drop (r .start) text)))
           → b ≡ cond dedent (splits catalogue amount (linesIn t (touched catalogue t (line .cursor) mvt))) false
-      tried b dedent d f =
-          f ∙ ap (λ (x : List ℕ). splits catalogue amount (split x)) raw ∙ ap (λ (q : Span). splits catalogue amount (linesIn t q)) e
+      tested b dedent d f =
+          f ∙ ap (λ (x : List ℕ). splits catalogue amount (splitLines x)) raw ∙ ap (λ (q : Span). splits catalogue amount (linesIn t q)) e
           ∙ sym (ap (λ (c : Bool). cond c (splits catalogue amount (linesIn t (touched catalogue t (line .cursor) mvt))) false) d)
 
 -- the four tests are all of the first
@@ -78,7 +78,7 @@ unfolding refusal
 passes F l s f p x = rw (s, f, p, x)
 
 pub ready-text : {F : Format} (l : Lent) → Ready F l → (valid (textOf l) ≡ true) × (boundary (textOf l) (l .line .cursor) ≡ true) × (l .line .cursor ≤ length (textOf l))
-ready-text l h = let w = h .within in (text-valid catalogue (textOf l) (h .text), h .edge, omega (arith, length-take-le (l .line .len) (l .text) (h .used)))
+ready-text l h = let w = h .within in (text-valid catalogue (textOf l) (h .text), h .at-boundary, omega (arith, length-take-le (l .line .len) (l .text) (h .used)))
 
 -- ---- the call
 module _ (F : Format) (l : Lent) (mvt : Movement) (amount : ℕ) (dedent : Bool) where
@@ -104,7 +104,7 @@ module _ (F : Format) (l : Lent) (mvt : Movement) (amount : ℕ) (dedent : Bool)
           let v = ready-text l h in
           subst (Inside (textOf l)) (sym e) (touched-in catalogue (textOf l) (l .line .cursor) (v .0) (v .1) (v .2) mvt)
 
-      pub indent-whole : dedent ≡ true → splits catalogue amount (split (part (textOf l) (s .start) (s .end))) ≡ false
+      pub indent-whole : dedent ≡ true → splits catalogue amount (splitLines (part (textOf l) (s .start) (s .end))) ≡ false
       indent-whole d =
           ap (λ (q : Span). splits catalogue amount (linesIn (textOf l) q)) e
           ∙ sym (ap (λ (c : Bool). cond c (splits catalogue amount (linesIn (textOf l) (touched catalogue (textOf l) (l .line .cursor) mvt))) false) d)
@@ -112,7 +112,7 @@ module _ (F : Format) (l : Lent) (mvt : Movement) (amount : ℕ) (dedent : Bool)
 
       pub indent-passed : (d : Bool) → dedent ≡ d → (r : EditAnswer) (tn rb tb : List ℕ)
           → Edited F l (edited catalogue F (sizesOf l) (length (l .text))
-          (indentPlan catalogue amount d (l .line .cursor) (s .start) (split (part (textOf l) (s .start) (s .end)))) (stateOf catalogue F l)) r tn rb tb
+          (indentPlan catalogue amount d (l .line .cursor) (s .start) (splitLines (part (textOf l) (s .start) (s .end)))) (stateOf catalogue F l)) r tn rb tb
           → Edited F l (indentOf catalogue F l amount dedent mvt) r tn rb tb
       indent-passed d y r tn rb tb q =
           passed-by F l k (checked catalogue F l tests) _ r tn rb tb number z

@@ -23,7 +23,7 @@ use Rattle.edit.specs.declared.EditAnswer.{EditAnswer}
 use Rattle.edit.specs.Plan.{cutting, once, Plan, edited}
 use Rattle.edit.specs.Calls.{Lent, lent, textOf, sizesOf, stateOf, Edited}
 use Rattle.edit.proofs.Parts.{raw-part, part-text}
-use Rattle.edit_indent_plans.specs.Touched.{split, deleting}
+use Rattle.edit_indent_plans.specs.Touched.{splitLines, deleting}
 use Rattle.edit_indent_plans.proofs.White.{deleting-in, deleting-white}
 use Rattle.edit_indent_plans.specs.IndentPlans.{dedentLines, dedented, dedentCursor}
 use Rattle.edit_indent_plans.proofs.Counted.{white-apart}
@@ -41,8 +41,8 @@ module _ {F : Format} (m : ℕ) {l₀ l : Lent} {p : Plan} {cursor at end : ℕ}
   pub cut-in : (at + d ≤ e) × (e ≤ end) × (end ≤ textMax)
   cut-in = let z = line-in k q in (omega (arith, line-width k q, deleting-in catalogue m (part t at e), size), z .1, end-in k .1)
 
-  first-cut : {xs : List (List ℕ)} {c : ℕ} → split (part t at end) ≡ part t at e ∷ xs → c ≡ dedented at d cursor
-      → way m true at (split (part t at end)) cursor ≡ ahead (cutting at (at + d)) (way m true (e - d + 1) xs c)
+  first-cut : {xs : List (List ℕ)} {c : ℕ} → splitLines (part t at end) ≡ part t at e ∷ xs → c ≡ dedented at d cursor
+      → way m true at (splitLines (part t at end)) cursor ≡ ahead (cutting at (at + d)) (way m true (e - d + 1) xs c)
   unfolding dedentLines dedentCursor
   first-cut {xs} j h =
       let z : at + (length (part t at e) - deleting catalogue m (part t at e)) + 1 ≡ e - d + 1 = omega (arith, line-in k q, line-width k q, cut-in, size) in

@@ -17,11 +17,11 @@ use Rattle.motion_lines.specs.Lines.{endOfLine}
 use Rattle.formats.specs.declared.Format.{Format}
 use Rattle.formats.specs.Formats.{textMax}
 use Rattle.edit.specs.declared.EditAnswer.{EditAnswer}
-use Rattle.edit.specs.Plan.{Piece, pasted, once, Plan, edited}
+use Rattle.edit.specs.Plan.{PlannedChange, pasted, once, Plan, edited}
 use Rattle.edit.specs.Calls.{Lent, lent, textOf, sizesOf, stateOf, Edited}
-use Rattle.edit.proofs.Left.{rest}
-use Rattle.edit_indent_plans.specs.Touched.{split}
-use Rattle.edit_indent_plans.proofs.Newlines.{split-some}
+use Rattle.edit.proofs.Underway.{rest}
+use Rattle.edit_indent_plans.specs.Touched.{splitLines}
+use Rattle.edit_indent_plans.proofs.Newlines.{lines-some}
 use Rattle.edit_indent_plans.specs.IndentPlans.{spaces, indentPieces, indentLines, indentCursor, pieceOf, indented}
 use Rattle.edit_indent_plans.proofs.Suits.{piece-in}
 use Rattle.edit_indent_plans.proofs.Lines.{Way, way, none, ahead, Lines, end-in, seen, line-in, last-line, more-lines, line-width, suits, turn}
@@ -32,7 +32,7 @@ take-spaces zero k h = refl
 take-spaces (suc n) zero h = absurd (omega arith)
 take-spaces (suc n) (suc k) h = ap (λ (l : List ℕ). 0x20 ∷ l) (take-spaces n k (omega arith))
 
--- ---- a line's pieces
+-- ---- a line's changes
 -- as many as are enough
 enough : (k j at m : ℕ) → m ≤ 32 * k → m ≤ 32 * j → indentPieces k at m ≡ indentPieces j at m
 unfolding indentPieces
@@ -40,13 +40,14 @@ enough zero zero at m h g = refl
 enough zero (suc j) at m h g = rw (eq-eqb m 0 (omega arith))
 enough (suc k) zero at m h g = rw (eq-eqb m 0 (omega arith))
 enough (suc k) (suc j) at m h g = by-test _ (eqb m 0) (λ z. rw z) (λ z. rw z
-    (ap (λ (l : List Piece). pasted at (spaces (pieceOf m)) ∷ l) (enough k j at (m - 32) (omega arith) (omega arith))))
+    (ap (λ (l : List PlannedChange). pasted at (spaces (pieceOf m)) ∷ l) (enough k j at (m - 32) (omega arith) (omega arith))))
 
 first-piece : (at m : ℕ) → 0 < m → indentPieces m at m ≡ pasted at (spaces (pieceOf m)) ∷ indentPieces (m - 32) at (m - 32)
 unfolding indentPieces
 first-piece at zero h = absurd (omega arith)
 first-piece at (suc m) h =
-    rw (ne-eqb (suc m) 0 (λ e. omega arith)) (ap (λ (l : List Piece). pasted at (spaces (pieceOf (suc m))) ∷ l) (enough m (suc m - 32) at (suc m - 32) (omega arith) (omega arith)))
+    rw (ne-eqb (suc m) 0 (λ e. omega arith))
+    (ap (λ (l : List PlannedChange). pasted at (spaces (pieceOf (suc m))) ∷ l) (enough m (suc m - 32) at (suc m - 32) (omega arith) (omega arith)))
 
 -- ---- the lines behind the first, once it is indented
 abbrev pub behind : ℕ → ℕ → Way
@@ -55,7 +56,7 @@ behind m at (x ∷ xs) pos = way m false (at + m + length x + 1) xs pos
 
 -- of the first some spaces are left to put in
 abbrev pub spacing : ℕ → ℕ → ℕ → Way
-spacing m left at xs pos = rest (behind m at xs pos) (indentPieces left at left ++ behind m at xs pos .pieces)
+spacing m left at xs pos = rest (behind m at xs pos) (indentPieces left at left ++ behind m at xs pos .changes)
 
 opened : (m at : ℕ) (xs : List (List ℕ)) (pos : ℕ) → 0 < length xs → way m false at xs pos ≡ spacing m m at xs (indented at m pos)
 unfolding indentLines indentCursor
@@ -78,8 +79,8 @@ opens {F} {l₀} {p} {m} {l} {cursor} {at} {end} k h e =
     let z : at ≡ at + (m - m) = omega arith in
     record {
       bound = omega arith;
-      lines = seen k (spacing m m at) (omega (arith, k .order)) (opened m at _ cursor (split-some (part (textOf l) at end))
-          ∙ ap₂ (λ (i j : ℕ). spacing m m at (split (part (textOf l) i end)) j) z (sym e));
+      lines = seen k (spacing m m at) (omega (arith, k .order)) (opened m at _ cursor (lines-some (part (textOf l) at end))
+          ∙ ap₂ (λ (i j : ℕ). spacing m m at (splitLines (part (textOf l) i end)) j) z (sym e));
       low = omega (arith, moved-low at m cursor);
     }
 
@@ -95,12 +96,12 @@ module _ {F : Format} {l₀ l : Lent} {p : Plan} {m cursor at end left : ℕ} (k
     pub done-in : (at + m ≤ e) × (e ≤ end) × (end ≤ textMax)
     done-in = let y = line-in (k .lines) q′ in (omega arith, y .1, end-in (k .lines) .1)
 
-    done : {xs : List (List ℕ)} → split (part t (at + (m - left)) end) ≡ part t (at + (m - left)) e ∷ xs
-        → spacing m left at (split (part t (at + (m - left)) end)) cursor ≡ way m false (e + 1) xs cursor
+    done : {xs : List (List ℕ)} → splitLines (part t (at + (m - left)) end) ≡ part t (at + (m - left)) e ∷ xs
+        → spacing m left at (splitLines (part t (at + (m - left)) end)) cursor ≡ way m false (e + 1) xs cursor
     unfolding indentPieces
     done {xs} j =
         let i : at + m + length (part t (at + (m - left)) e) + 1 ≡ e + 1 = omega (arith, line-width (k .lines) q′, done-in) in
-        ap (λ (ys : List (List ℕ)). spacing m left at ys cursor) j ∙ ap₂ (λ (n i : ℕ). rest (way m false i xs cursor) (indentPieces n at n ++ way m false i xs cursor .pieces)) z i
+        ap (λ (ys : List (List ℕ)). spacing m left at ys cursor) j ∙ ap₂ (λ (n i : ℕ). rest (way m false i xs cursor) (indentPieces n at n ++ way m false i xs cursor .changes)) z i
 
     pub last-done : e ≡ end → Lines F l₀ p none l cursor end end
     unfolding indentLines indentCursor
@@ -118,12 +119,12 @@ module _ {F : Format} {l₀ l : Lent} {p : Plan} {m cursor at end left : ℕ} (k
     piece-text = ap spaces (sym nq) ∙ sym (take-spaces n 32 (piece-within .1))
 
     abbrev xs : List (List ℕ)
-    xs = split (part t (at + (m - left)) end)
+    xs = splitLines (part t (at + (m - left)) end)
 
     first-put : spacing m left at xs cursor ≡ ahead (pasted at (take n (spaces 32))) (spacing m (left - n) at xs cursor)
     first-put =
         let z : left - 32 ≡ left - n = omega (arith, piece-in left some .2) in
-        ap (λ (ys : List Piece). rest (behind m at xs cursor) (ys ++ behind m at xs cursor .pieces)) (first-piece at left (omega (arith, piece-within))
+        ap (λ (ys : List PlannedChange). rest (behind m at xs cursor) (ys ++ behind m at xs cursor .changes)) (first-piece at left (omega (arith, piece-within))
         ∙ ap₂ (λ (s : List ℕ) (i : ℕ). pasted at s ∷ indentPieces i at i) piece-text z)
 
     pub put-suits : In t at at × (isText catalogue (take n (spaces 32)) ≡ true)

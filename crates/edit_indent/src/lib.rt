@@ -9,7 +9,7 @@ ghost use Rattle.unicode.specs.Repertoire.{catalogue};
 ghost use Rattle.checks.specs.Checks.{refusal as Checks·refusal, both, lineTests, ownTests};
 ghost use Rattle.formats.specs.Formats.{Fit, textMax};
 ghost use Rattle.edit.specs.Calls.{lent, Edited, sizesOf, stateOf, Ready, Answers, Makes};
-ghost use Rattle.edit_indent_plans.specs.Touched.{touched as Touched·touched, splits as Touched·splits, split};
+ghost use Rattle.edit_indent_plans.specs.Touched.{touched as Touched·touched, splits as Touched·splits, splitLines};
 ghost use Rattle.edit_indent_plans.specs.IndentPlans.{linesIn, pieceOf, indentLines, indented as Plans·indented, indentPlan, dedented as Plans·dedented, dedentLines};
 ghost use Rattle.edit_indent.specs.Indents.{indentOf, indentCall};
 ghost use Rattle.lists.specs.Lists.{part};
@@ -69,13 +69,13 @@ fn indent_lines(
     requires { ⌜ m ≤ 256 ⌝ }
     requires { ⌜ Ready f (lent (now text) (now records) (now texts) line log) ⌝ }
     requires { ⌜ (from ≤ to) × (to ≤ line .len) ⌝ }
-    requires { ⌜ AllSuit catalogue (indentLines m from (split (part (take (line .len) (now text)) from to))) (take (line .len) (now text)) ⌝ }
-    requires { ⌜ tooLong (length (now text)) (indentLines m from (split (part (take (line .len) (now text)) from to))) (take (line .len) (now text)) ≡ false ⌝ }
+    requires { ⌜ AllSuit catalogue (indentLines m from (splitLines (part (take (line .len) (now text)) from to))) (take (line .len) (now text)) ⌝ }
+    requires { ⌜ tooLong (length (now text)) (indentLines m from (splitLines (part (take (line .len) (now text)) from to))) (take (line .len) (now text)) ≡ false ⌝ }
     requires { ⌜ fits f (sizesOf (lent (now text) (now records) (now texts) line log))
-        (listAfter catalogue (indentLines m from (split (part (take (line .len) (now text)) from to))) (take (line .len) (now text))
+        (listAfter catalogue (indentLines m from (splitLines (part (take (line .len) (now text)) from to))) (take (line .len) (now text))
         (stateOf catalogue f (lent (now text) (now records) (now texts) line log) .log .undo)) ≡ true ⌝ }
     ensures { λ r. ⌜ Makes f (lent (now (text .entry)) (now (records .entry)) (now (texts .entry)) line log)
-        (indentPlan catalogue m false (line .cursor) from (split (part (take (line .len) (now (text .entry))) from to)))
+        (indentPlan catalogue m false (line .cursor) from (splitLines (part (take (line .len) (now (text .entry))) from to)))
         r (now (text .exit)) (now (records .exit)) (now (texts .exit)) ⌝ }
 {
     let spaces = [0x20u8; 32];
@@ -132,7 +132,7 @@ pub fn indent_range(
     requires { ⌜ Ready f (lent (now text) (now records) (now texts) line log) ⌝ }
     requires { ⌜ In (take (line .len) (now text)) from to ⌝ }
     ensures { λ r. ⌜ Makes f (lent (now (text .entry)) (now (records .entry)) (now (texts .entry)) line log)
-        (indentPlan catalogue m false (line .cursor) from (split (part (take (line .len) (now (text .entry))) from to)))
+        (indentPlan catalogue m false (line .cursor) from (splitLines (part (take (line .len) (now (text .entry))) from to)))
         r (now (text .exit)) (now (records .exit)) (now (texts .exit)) ⌝ }
 {
     let k = count_lines(&text[from..to]);
@@ -169,13 +169,13 @@ fn dedent_lines(
 ) -> EditAnswer
     requires { ⌜ Ready f (lent (now text) (now records) (now texts) line log) ⌝ }
     requires { ⌜ (from ≤ to) × (to ≤ line .len) ⌝ }
-    requires { ⌜ AllSuit catalogue (dedentLines catalogue m from (split (part (take (line .len) (now text)) from to))) (take (line .len) (now text)) ⌝ }
-    requires { ⌜ tooLong (length (now text)) (dedentLines catalogue m from (split (part (take (line .len) (now text)) from to))) (take (line .len) (now text)) ≡ false ⌝ }
+    requires { ⌜ AllSuit catalogue (dedentLines catalogue m from (splitLines (part (take (line .len) (now text)) from to))) (take (line .len) (now text)) ⌝ }
+    requires { ⌜ tooLong (length (now text)) (dedentLines catalogue m from (splitLines (part (take (line .len) (now text)) from to))) (take (line .len) (now text)) ≡ false ⌝ }
     requires { ⌜ fits f (sizesOf (lent (now text) (now records) (now texts) line log))
-        (listAfter catalogue (dedentLines catalogue m from (split (part (take (line .len) (now text)) from to))) (take (line .len) (now text))
+        (listAfter catalogue (dedentLines catalogue m from (splitLines (part (take (line .len) (now text)) from to))) (take (line .len) (now text))
         (stateOf catalogue f (lent (now text) (now records) (now texts) line log) .log .undo)) ≡ true ⌝ }
     ensures { λ r. ⌜ Makes f (lent (now (text .entry)) (now (records .entry)) (now (texts .entry)) line log)
-        (indentPlan catalogue m true (line .cursor) from (split (part (take (line .len) (now (text .entry))) from to)))
+        (indentPlan catalogue m true (line .cursor) from (splitLines (part (take (line .len) (now (text .entry))) from to)))
         r (now (text .exit)) (now (records .exit)) (now (texts .exit)) ⌝ }
 {
     let mut line_now = line;
@@ -213,9 +213,9 @@ pub fn dedent_range(
 ) -> EditAnswer
     requires { ⌜ Ready f (lent (now text) (now records) (now texts) line log) ⌝ }
     requires { ⌜ In (take (line .len) (now text)) from to ⌝ }
-    requires { ⌜ Touched·splits catalogue m (split (part (take (line .len) (now text)) from to)) ≡ false ⌝ }
+    requires { ⌜ Touched·splits catalogue m (splitLines (part (take (line .len) (now text)) from to)) ≡ false ⌝ }
     ensures { λ r. ⌜ Makes f (lent (now (text .entry)) (now (records .entry)) (now (texts .entry)) line log)
-        (indentPlan catalogue m true (line .cursor) from (split (part (take (line .len) (now (text .entry))) from to)))
+        (indentPlan catalogue m true (line .cursor) from (splitLines (part (take (line .len) (now (text .entry))) from to)))
         r (now (text .exit)) (now (records .exit)) (now (texts .exit)) ⌝ }
 {
     let n = count_cuts(&text[from..to], m);

@@ -1,4 +1,4 @@
--- How much the pieces of indenting and dedenting put in, and what they record. Assumes nothing.
+-- How much the changes of indenting and dedenting put in, and what they record. Assumes nothing.
 use mathlib.Core.Path.{_≡_, refl, sym, ap, ap₂, _∙_}
 use mathlib.Core.Bool.{Bool, true, false, cond, _||_}
 use mathlib.Core.List.{List, [], _∷_, _++_}
@@ -26,8 +26,8 @@ use Rattle.log_model.specs.Recording.{isSingle, note, recordInsertStr, recordDe
 use Rattle.log_model.specs.UndoBytes.{undoRecords, undoTexts}
 use Rattle.log_model.proofs.UndoBytes.{records-size, texts-size}
 use Rattle.log_model.proofs.Recording.{delete-none, delete-some, insert-some}
-use Rattle.edit.specs.Plan.{Piece, typed, pasted, cutting, swapping, splice, listAfter, tooLong}
-use Rattle.edit.proofs.Pieces.{textIn}
+use Rattle.edit.specs.Plan.{PlannedChange, typed, pasted, cutting, swapping, splice, listAfter, tooLong}
+use Rattle.edit.proofs.PlannedChanges.{textIn}
 use Rattle.edit_indent_plans.specs.Touched.{leading, deleting, splits}
 use Rattle.edit_indent_plans.specs.Counts.{cutsIn, bytesIn}
 use Rattle.edit_indent_plans.specs.IndentPlans.{indentLine, indentLines, dedentLines, pieceOf, changeSize}
@@ -36,20 +36,20 @@ use Rattle.edit_indent_plans.proofs.Joined.{behind, Valid, part-is}
 use Rattle.edit_indent_plans.proofs.Suits.{piece-in, by-pieces, whole, dedent-next, dedent-place, dedent-before}
 
 -- ---- texts put in, none of them empty
-abbrev pub Pastes : Piece → Type 0
+abbrev pub Pastes : PlannedChange → Type 0
 Pastes (typed p c) = ⊥
 Pastes (pasted p s) = 0 < length s
 Pastes (cutting a b) = ⊥
 Pastes (swapping a b s) = ⊥
 
-abbrev pub Pasting : List Piece → Type 0
+abbrev pub Pasting : List PlannedChange → Type 0
 Pasting xs = Every Pastes xs
 
-abbrev pub total : List Piece → ℕ
+abbrev pub total : List PlannedChange → ℕ
 total [] = 0
 total (x ∷ xs) = length (textIn x) + total xs
 
-total-append : (xs ys : List Piece) → total (xs ++ ys) ≡ total xs + total ys
+total-append : (xs ys : List PlannedChange) → total (xs ++ ys) ≡ total xs + total ys
 total-append [] ys = omega arith
 total-append (x ∷ xs) ys = let r = total-append xs ys in omega arith
 
@@ -62,7 +62,7 @@ or-ltb true b c f g = sym (f refl)
 or-ltb false b c f g = g refl
 
 -- 9 by the sum of the lengths
-pub long-is : (C : ℕ) (xs : List Piece) (t : List ℕ) → Pasting xs → length t ≤ C → tooLong C xs t ≡ ltb C (length t + total xs)
+pub long-is : (C : ℕ) (xs : List PlannedChange) (t : List ℕ) → Pasting xs → length t ≤ C → tooLong C xs t ≡ ltb C (length t + total xs)
 unfolding tooLong
 long-is C [] t h k = sym (le-ltb C (length t + 0) (omega arith))
 long-is C (typed p c ∷ xs) t h k = absurd (h .0)
@@ -86,7 +86,7 @@ change-size : (F : Format) (k p n : ℕ) → length (k ∷ (le (F .width) p ++ l
 change-size F k p n = omega (arith, length-append (le (F .width) p) (le (F .width) n), length-le (F .width) p, length-le (F .width) n)
 
 -- what they record: a record for each, and the texts
-pub puts-records : (F : Format) (R : Repertoire) (xs : List Piece) (t : List ℕ) (u : List Change) → Pasting xs
+pub puts-records : (F : Format) (R : Repertoire) (xs : List PlannedChange) (t : List ℕ) (u : List Change) → Pasting xs
     → (length (undoRecords F (listAfter R xs t u)) ≡ length (undoRecords F u) + changeSize F * length xs)
     × (length (undoTexts (listAfter R xs t u)) ≡ length (undoTexts u) + total xs)
 unfolding listAfter
@@ -104,14 +104,14 @@ puts-records F R (swapping a b s ∷ xs) t u h = absurd (h .0)
 
 -- ---- indenting
 line-pasting : (at m : ℕ) → Pasting (indentLine at m)
-line-pasting at = by-pieces (λ (n : ℕ) (xs : List Piece). Pasting xs) at tt (λ n xs h r. (omega (arith, piece-in n h .0, length-replicate {A = ℕ} (pieceOf n) 0x20), r))
+line-pasting at = by-pieces (λ (n : ℕ) (xs : List PlannedChange). Pasting xs) at tt (λ n xs h r. (omega (arith, piece-in n h .0, length-replicate {A = ℕ} (pieceOf n) 0x20), r))
 
 line-total : (at m : ℕ) → total (indentLine at m) ≡ m
-line-total at = by-pieces (λ (n : ℕ) (xs : List Piece). total xs ≡ n) at refl (λ n xs h r. omega (arith, piece-in n h .2, length-replicate {A = ℕ} (pieceOf n) 0x20, r))
+line-total at = by-pieces (λ (n : ℕ) (xs : List PlannedChange). total xs ≡ n) at refl (λ n xs h r. omega (arith, piece-in n h .2, length-replicate {A = ℕ} (pieceOf n) 0x20, r))
 
 -- a piece for each 32 spaces, and one for what is left
 line-count : (at m : ℕ) → length (indentLine at m) ≡ (m + 31) / 32
-line-count at = by-pieces (λ (n : ℕ) (xs : List Piece). length xs ≡ (n + 31) / 32) at refl (λ n xs h r. omega (arith, r, piece-in n h .0, piece-in n h .2))
+line-count at = by-pieces (λ (n : ℕ) (xs : List PlannedChange). length xs ≡ (n + 31) / 32) at refl (λ n xs h r. omega (arith, r, piece-in n h .0, piece-in n h .2))
 
 one-more : (n k : ℕ) → k + n * k ≡ suc n * k
 one-more n k = omega arith

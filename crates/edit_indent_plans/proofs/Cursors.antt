@@ -12,7 +12,7 @@ use Rattle.utf8.specs.Chars.{validFrom, valid, boundary, In}
 use Rattle.unicode.specs.Repertoire.{Repertoire}
 use Rattle.unicode.specs.Text.{isText}
 use Rattle.keymap.specs.declared.Movement.{Movement}
-use Rattle.edit.specs.Plan.{Piece, splice, AllSuit, textAfter}
+use Rattle.edit.specs.Plan.{PlannedChange, splice, AllSuit, textAfter}
 use Rattle.edit.proofs.Splice.{splice-stays, splice-moves, splice-start}
 use Rattle.edit_indent_plans.specs.Touched.{deleting, splits, touched}
 use Rattle.edit_indent_plans.specs.IndentPlans.{spaces, indentLine, indentLines, indentCursor, dedentLines, dedented, dedentCursor, linesIn, indentPlan, pieceOf, indented}
@@ -65,12 +65,12 @@ unfolding textAfter
 none-after t pos j = j
 
 module _ (R : Repertoire) where
-  -- what holds of what comes behind a line's pieces, from where they leave text and cursor
-  pieces-cursor : (at m : ℕ) (t : List ℕ) (pos : ℕ) (ys : List Piece) → AllSuit R (indentLine at m ++ ys) t → At t pos
+  -- what holds of what comes behind a line's changes, from where they leave text and cursor
+  pieces-cursor : (at m : ℕ) (t : List ℕ) (pos : ℕ) (ys : List PlannedChange) → AllSuit R (indentLine at m ++ ys) t → At t pos
       → (C : List ℕ → Type 0) → ((u : List ℕ) → AllSuit R ys u → At u (indented at m pos) → C (textAfter ys u)) → C (textAfter (indentLine at m ++ ys) t)
   unfolding AllSuit textAfter
   pieces-cursor at m t pos ys s j C g =
-      by-pieces (λ (n : ℕ) (xs : List Piece). (t : List ℕ) (pos : ℕ) → AllSuit R (xs ++ ys) t → At t pos
+      by-pieces (λ (n : ℕ) (xs : List PlannedChange). (t : List ℕ) (pos : ℕ) → AllSuit R (xs ++ ys) t → At t pos
       → ((u : List ℕ) → AllSuit R ys u → At u (indented at n pos) → C (textAfter ys u)) → C (textAfter (xs ++ ys) t)) at
       (λ t pos s j g. g t s (subst (At t) (none-indented at pos) j))
       (λ n xs h r t pos s j g.
@@ -93,6 +93,6 @@ module _ (R : Repertoire) (mem : R .member 0x20 ≡ true) (m : ℕ) (t : List �
   lines = linesIn t (touched R t pos mvt)
 
   pub plan-cursor : (dedent : Bool) → (dedent ≡ true → splits R m lines ≡ false)
-      → At (textAfter (indentPlan R m dedent pos (touched R t pos mvt .start) lines .pieces) t) (indentPlan R m dedent pos (touched R t pos mvt .start) lines .cursor)
+      → At (textAfter (indentPlan R m dedent pos (touched R t pos mvt .start) lines .changes) t) (indentPlan R m dedent pos (touched R t pos mvt .start) lines .cursor)
   plan-cursor true s = dedent-cursor R m lines (touched R t pos mvt .start) t pos (indent-suits R mem m t pos v k h mvt true s) (omega arith, h, k, k)
   plan-cursor false s = indent-cursor R m lines (touched R t pos mvt .start) t pos (indent-suits R mem m t pos v k h mvt false s) (omega arith, h, k, k)

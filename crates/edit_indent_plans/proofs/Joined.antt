@@ -12,9 +12,9 @@ use Rattle.utf8.specs.Chars.{valid, boundary}
 use Rattle.utf8.proofs.Append.{valid-append}
 use Rattle.motion_lines.specs.Lines.{newline, endOfLine}
 use Rattle.edit.specs.Plan.{splice}
-use Rattle.edit_indent_plans.specs.Touched.{onFirst, split}
+use Rattle.edit_indent_plans.specs.Touched.{onFirst, splitLines}
 use borrow.Author.Tests.{eqb-true}
-use Rattle.edit_indent_plans.proofs.Newlines.{line-last, line-more, split-some, first-length}
+use Rattle.edit_indent_plans.proofs.Newlines.{line-last, line-more, lines-some, first-length}
 use Rattle.edit_indent_plans.proofs.Walks.{line-in, line-valid, rest-valid}
 
 -- ---- the lines behind the first one, each behind its \n
@@ -34,28 +34,28 @@ first-joined : (b : ℕ) (xs : List (List ℕ)) → 0 < length xs → joined (on
 first-joined b [] h = absurd (omega arith)
 first-joined b (x ∷ xs) h = refl
 
-pub split-joined : (p : List ℕ) → joined (split p) ≡ p
-unfolding split
+pub split-joined : (p : List ℕ) → joined (splitLines p) ≡ p
+unfolding splitLines
 split-joined [] = refl
 split-joined (b ∷ s) =
     by-test _ (newline b)
-    (λ t. rw t (behind-joined (split s) (split-some s) ∙ ap (λ (c : ℕ). c ∷ joined (split s)) (sym (eqb-true b 0x0A t)) ∙ ap (λ (l : List ℕ). b ∷ l) (split-joined s)))
-    (λ t. rw t (first-joined b (split s) (split-some s) ∙ ap (λ (l : List ℕ). b ∷ l) (split-joined s)))
+    (λ t. rw t (behind-joined (splitLines s) (lines-some s) ∙ ap (λ (c : ℕ). c ∷ joined (splitLines s)) (sym (eqb-true b 0x0A t)) ∙ ap (λ (l : List ℕ). b ∷ l) (split-joined s)))
+    (λ t. rw t (first-joined b (splitLines s) (lines-some s) ∙ ap (λ (l : List ℕ). b ∷ l) (split-joined s)))
 
 -- there are no more lines than bytes, and one
-pub split-count : (p : List ℕ) → length (split p) ≤ length p + 1
-unfolding split
-split-count [] = omega arith
-split-count (b ∷ s) =
-    let r = split-count s in
-    by-test _ (newline b) (λ t. rw t (omega arith)) (λ t. rw t (omega (arith, first-length b (split s) (split-some s))))
+pub few-lines : (p : List ℕ) → length (splitLines p) ≤ length p + 1
+unfolding splitLines
+few-lines [] = omega arith
+few-lines (b ∷ s) =
+    let r = few-lines s in
+    by-test _ (newline b) (λ t. rw t (omega arith)) (λ t. rw t (omega (arith, first-length b (splitLines s) (lines-some s))))
 
 -- ---- each line of a text is one
 abbrev pub Valid : List ℕ → Type 0
 Valid x = valid x ≡ true
 
 split-one : (n : ℕ) (p : List ℕ) → length p ≤ n → valid p ≡ true → (e : ℕ) → e ≡ endOfLine p 0
-    → ((q : List ℕ) → length q < length p → valid q ≡ true → Every Valid (split (drop 0 q))) → Every Valid (split (drop 0 p))
+    → ((q : List ℕ) → length q < length p → valid q ≡ true → Every Valid (splitLines (drop 0 q))) → Every Valid (splitLines (drop 0 p))
 split-one n p h v e q go =
     let w = line-in p 0 e (omega arith) q in
     let x = line-valid p 0 e (omega arith) q v in
@@ -63,11 +63,11 @@ split-one n p h v e q go =
     (λ l. rw (line-more p 0 e (omega arith) q l) (x, go (drop (e + 1) p) (omega (arith, length-drop (e + 1) p)) (rest-valid p 0 e (omega arith) q v l)))
     (λ l. rw (line-last p 0 e (omega arith) q (omega arith)) (x, tt))
 
-lines-valid : (n : ℕ) (p : List ℕ) → length p ≤ n → valid p ≡ true → Every Valid (split (drop 0 p))
+lines-valid : (n : ℕ) (p : List ℕ) → length p ≤ n → valid p ≡ true → Every Valid (splitLines (drop 0 p))
 lines-valid zero p h v = split-one zero p h v (endOfLine p 0) refl (λ q l w. absurd (omega arith))
 lines-valid (suc n) p h v = split-one (suc n) p h v (endOfLine p 0) refl (λ q l w. lines-valid n q (omega arith) w)
 
-pub split-valid : (p : List ℕ) → valid p ≡ true → Every Valid (split p)
+pub split-valid : (p : List ℕ) → valid p ≡ true → Every Valid (splitLines p)
 split-valid p v = lines-valid (length p) p (omega arith) v
 
 -- ---- a text a ++ (x ++ b), at the end of a

@@ -16,15 +16,15 @@ use Rattle.formats.specs.declared.Format.{Format}
 use Rattle.formats.specs.Formats.{textMax}
 use Rattle.log_model.specs.UndoBytes.{fits}
 use Rattle.edit.specs.declared.EditAnswer.{EditAnswer}
-use Rattle.edit.specs.Plan.{splice, Piece, Suits, once, Plan, AllSuit, tooLong, listAfter, edited}
+use Rattle.edit.specs.Plan.{splice, PlannedChange, Suits, once, Plan, AllSuit, tooLong, listAfter, edited}
 use Rattle.edit.specs.Calls.{Lent, lent, textOf, sizesOf, stateOf, Edited, Ready}
 use Rattle.edit.proofs.Parts.{raw-part}
 use Rattle.edit.proofs.Answers.{length-kept}
 use Rattle.edit.proofs.Made.{edited-as}
 use Rattle.edit.proofs.Splice.{splice-length, drop-splice}
-use Rattle.edit.proofs.Pieces.{startOf, endOf, textIn, made-is, suits-in}
-use Rattle.edit.proofs.Left.{rest, Left, begins, next-suits, goes-on, ends, text-now}
-use Rattle.edit_indent_plans.specs.Touched.{split}
+use Rattle.edit.proofs.PlannedChanges.{startOf, endOf, textIn, made-is, suits-in}
+use Rattle.edit.proofs.Underway.{rest, Underway, begins, next-suits, goes-on, ends, text-now}
+use Rattle.edit_indent_plans.specs.Touched.{splitLines}
 use Rattle.edit_indent_plans.proofs.Newlines.{line-last, line-more}
 use Rattle.edit_indent_plans.specs.IndentPlans.{indentPlan}
 
@@ -37,29 +37,29 @@ abbrev pub way : ℕ → Bool → ℕ → Way
 way m dedent at xs pos = indentPlan catalogue m dedent pos at xs
 
 abbrev pub linesPlan : Lent → ℕ → Bool → ℕ → ℕ → Plan
-linesPlan l m dedent from to = way m dedent from (split (part (textOf l) from to)) (l .line .cursor)
+linesPlan l m dedent from to = way m dedent from (splitLines (part (textOf l) from to)) (l .line .cursor)
 
 -- none is left
 abbrev pub none : Way
-none xs pos = record { pieces = []; cursor = pos; number = 0; from = 0; to = 0 }
+none xs pos = record { changes = []; cursor = pos; number = 0; from = 0; to = 0 }
 
 -- a piece before those of a plan
-abbrev pub ahead : Piece → Plan → Plan
-ahead x q = rest q (x ∷ q .pieces)
+abbrev pub ahead : PlannedChange → Plan → Plan
+ahead x q = rest q (x ∷ q .changes)
 
 -- of the plan p the lines from b up to end are left, in the text as it is
 pub record Lines (F : Format) (l₀ : Lent) (p : Plan) (w : Way) (l : Lent) (cursor b end : ℕ) : Type 0 where
   pub order : b ≤ end
   pub within : end ≤ l .line .len
-  pub left : Left F l₀ p (w (split (part (textOf l) b end)) cursor .pieces) l
-  pub moves : w (split (part (textOf l) b end)) cursor .cursor ≡ p .cursor
+  pub left : Underway F l₀ p (w (splitLines (part (textOf l) b end)) cursor .changes) l
+  pub moves : w (splitLines (part (textOf l) b end)) cursor .cursor ≡ p .cursor
 
 -- what a call tries before its first change: r says whether 10 passes
 abbrev pub Begins : Format → Lent → ℕ → Bool → ℕ → ℕ → Bool → Type 0
 Begins F l m dedent from to r =
-    Ready F l × (((from ≤ to) × (to ≤ l .line .len)) × (AllSuit catalogue (linesPlan l m dedent from to .pieces) (textOf l)
-    × ((tooLong (length (l .text)) (linesPlan l m dedent from to .pieces) (textOf l) ≡ false)
-    × (fits F (sizesOf l) (listAfter catalogue (linesPlan l m dedent from to .pieces) (textOf l) (stateOf catalogue F l .log .undo)) ≡ r))))
+    Ready F l × (((from ≤ to) × (to ≤ l .line .len)) × (AllSuit catalogue (linesPlan l m dedent from to .changes) (textOf l)
+    × ((tooLong (length (l .text)) (linesPlan l m dedent from to .changes) (textOf l) ≡ false)
+    × (fits F (sizesOf l) (listAfter catalogue (linesPlan l m dedent from to .changes) (textOf l) (stateOf catalogue F l .log .undo)) ≡ r))))
 
 -- at first all are left
 pub lines-begin : {F : Format} (l : Lent) (m : ℕ) (dedent : Bool) (from to : ℕ) → Begins F l m dedent from to true
@@ -75,25 +75,25 @@ module _ {F : Format} {l₀ : Lent} {p : Plan} {w : Way} {l : Lent} {cursor b en
   t = textOf l
 
   abbrev plan : Plan
-  plan = w (split (part t b end)) cursor
+  plan = w (splitLines (part t b end)) cursor
 
   pub end-in : (end ≤ length s) × (end ≤ textMax) × (end ≤ length t)
   end-in = let z = k .within in (
     omega (arith, k .left .ready .used),
     omega
-        (arith, k .left .ready .used, k .left .ready .small, k .left .ready .log .fit .text),
+        (arith, k .left .ready .used, k .left .ready .limit, k .left .ready .log .fit .text),
     omega (arith, length-kept F l (k .left .ready)),
   )
 
   -- ---- the plan said in another way
   module _ {q : Plan} (z : plan ≡ q) where
-    left-as : Left F l₀ p (q .pieces) l
-    left-as = subst (λ (x : Plan). Left F l₀ p (x .pieces) l) z (k .left)
+    left-as : Underway F l₀ p (q .changes) l
+    left-as = subst (λ (x : Plan). Underway F l₀ p (x .changes) l) z (k .left)
 
     moves-as : q .cursor ≡ p .cursor
     moves-as = sym (ap (λ (x : Plan). x .cursor) z) ∙ k .moves
 
-  pub seen : (v : Way) {c a : ℕ} → a ≤ end → plan ≡ v (split (part t a end)) c → Lines F l₀ p v l c a end
+  pub seen : (v : Way) {c a : ℕ} → a ≤ end → plan ≡ v (splitLines (part t a end)) c → Lines F l₀ p v l c a end
   seen v h z = record { order = h; within = k .within; left = left-as z; moves = moves-as z }
 
   -- ---- the first line ends at e
@@ -112,26 +112,26 @@ module _ {F : Format} {l₀ : Lent} {p : Plan} {w : Way} {l : Lent} {cursor b en
     behind : (a : ℕ) → drop a (take end s) ≡ part t a end
     behind a = drop-take a end s ∙ sym (raw-part s (l .line .len) a end (k .within))
 
-    pub last-line : e ≡ end → split (part t b end) ≡ part t b e ∷ []
-    last-line z = ap split (sym (behind b)) ∙ line-last (take end s) b e (omega (arith, size, k .order)) q (omega (arith, size)) ∙ ap (λ (x : List ℕ). x ∷ []) line
+    pub last-line : e ≡ end → splitLines (part t b end) ≡ part t b e ∷ []
+    last-line z = ap splitLines (sym (behind b)) ∙ line-last (take end s) b e (omega (arith, size, k .order)) q (omega (arith, size)) ∙ ap (λ (x : List ℕ). x ∷ []) line
 
-    pub more-lines : (e ≡ end → ⊥) → split (part t b end) ≡ part t b e ∷ split (part t (e + 1) end)
+    pub more-lines : (e ≡ end → ⊥) → splitLines (part t b end) ≡ part t b e ∷ splitLines (part t (e + 1) end)
     more-lines z =
-        ap split (sym (behind b)) ∙ line-more (take end s) b e (omega (arith, size, k .order)) q (omega (arith, size, line-in, z))
-        ∙ ap₂ (λ (x y : List ℕ). x ∷ split y) line (behind (e + 1))
+        ap splitLines (sym (behind b)) ∙ line-more (take end s) b e (omega (arith, size, k .order)) q (omega (arith, size, line-in, z))
+        ∙ ap₂ (λ (x y : List ℕ). x ∷ splitLines y) line (behind (e + 1))
 
-    pub first-line : (xs : List (List ℕ)) × (split (part t b end) ≡ part t b e ∷ xs)
-    first-line = by-less _ e end (λ h. (split (part t (e + 1) end), more-lines (λ z. omega arith))) (λ h. ([], last-line (omega (arith, line-in))))
+    pub first-line : (xs : List (List ℕ)) × (splitLines (part t b end) ≡ part t b e ∷ xs)
+    first-line = by-less _ e end (λ h. (splitLines (part t (e + 1) end), more-lines (λ z. omega arith))) (λ h. ([], last-line (omega (arith, line-in))))
 
     pub line-width : length (part t b e) ≡ e - b
     line-width = let z = line-in in length-take-le (e - b) (drop b t) (omega (arith, length-drop b t, end-in))
 
   -- ---- the next piece
-  pub suits : {x : Piece} {q : Plan} → plan ≡ ahead x q → Suits catalogue x t
-  suits {x} {q} z = next-suits F l₀ p x (q .pieces) l (left-as z)
+  pub suits : {x : PlannedChange} {q : Plan} → plan ≡ ahead x q → Suits catalogue x t
+  suits {x} {q} z = next-suits F l₀ p x (q .changes) l (left-as z)
 
   -- it is made; the lines from n on are left, and end behind it as they did
-  module _ (v : Way) {x : Piece} {n c : ℕ} (z : plan ≡ ahead x (v (split (part t n end)) c)) {r : EditAnswer} {tn rb tb : List ℕ}
+  module _ (v : Way) {x : PlannedChange} {n c : ℕ} (z : plan ≡ ahead x (v (splitLines (part t n end)) c)) {r : EditAnswer} {tn rb tb : List ℕ}
       (o : Edited F l (edited catalogue F (sizesOf l) (length s) (once x (startOf x)) (stateOf catalogue F l)) r tn rb tb)
       (lt : length tn ≡ length s) (lr : length rb ≡ length (l .records)) (ls : length tb ≡ length (l .texts))
       {b′ end′ : ℕ} (f : endOf x ≤ n) (g : n ≤ end) (bq : b′ ≡ startOf x + length (textIn x) + (n - endOf x)) (eq : end′ ≡ startOf x + length (textIn x) + (end - endOf x)) where
@@ -155,8 +155,8 @@ module _ {F : Format} {l₀ : Lent} {p : Plan} {w : Way} {l : Lent} {cursor b en
         record {
           order = omega arith;
           within = omega (arith, h, end-in, i .0, i .1);
-          left = subst (λ (u : List ℕ). Left F l₀ p (v (split u) c .pieces) (lent tn rb tb (r .line) (r .log))) (sym now-part) y;
-          moves = ap (λ (u : List ℕ). v (split u) c .cursor) now-part ∙ moves-as z;
+          left = subst (λ (u : List ℕ). Underway F l₀ p (v (splitLines u) c .changes) (lent tn rb tb (r .line) (r .log))) (sym now-part) y;
+          moves = ap (λ (u : List ℕ). v (splitLines u) c .cursor) now-part ∙ moves-as z;
         }
 
 -- ---- all are changed

@@ -13,7 +13,7 @@ use Rattle.lists.proofs.Bools.{by-test}
 use Rattle.utf8.specs.Chars.{valid, boundary}
 use Rattle.motion_lines.specs.Lines.{newline, beforeNewline, endOfLine}
 use Rattle.motion_lines.proofs.Places.{end-place}
-use Rattle.edit_indent_plans.specs.Touched.{beforeLast, lastNewline, onFirst, split}
+use Rattle.edit_indent_plans.specs.Touched.{beforeLast, lastNewline, onFirst, splitLines}
 
 -- ---- the last \n
 none-last : (x : List ℕ) → any newline x ≡ false → beforeLast x ≡ length x
@@ -87,27 +87,27 @@ module _ (s : List ℕ) where
   last-place pos v h = end-place s (lastNewline s pos) v (last-in pos h .1) (last-newline pos h)
 
 -- ---- the lines of a text
-split-last : (x : List ℕ) → length x ≤ beforeNewline x → split x ≡ x ∷ []
-unfolding split beforeNewline
-split-last [] h = refl
-split-last (b ∷ s) h =
+lines-last : (x : List ℕ) → length x ≤ beforeNewline x → splitLines x ≡ x ∷ []
+unfolding splitLines beforeNewline
+lines-last [] h = refl
+lines-last (b ∷ s) h =
     by-test _ (newline b)
     (λ t. absurd (let g : suc (length s) ≤ 0 = rw t at h in omega arith))
-    (λ t. let g : suc (length s) ≤ suc (beforeNewline s) = rw t at h in rw (t, split-last s (omega arith)))
+    (λ t. let g : suc (length s) ≤ suc (beforeNewline s) = rw t at h in rw (t, lines-last s (omega arith)))
 
-split-more : (x : List ℕ) → beforeNewline x < length x → split x ≡ take (beforeNewline x) x ∷ split (drop (suc (beforeNewline x)) x)
-unfolding split beforeNewline
-split-more [] h = absurd (omega arith)
-split-more (b ∷ s) h =
+lines-more : (x : List ℕ) → beforeNewline x < length x → splitLines x ≡ take (beforeNewline x) x ∷ splitLines (drop (suc (beforeNewline x)) x)
+unfolding splitLines beforeNewline
+lines-more [] h = absurd (omega arith)
+lines-more (b ∷ s) h =
     by-test _ (newline b)
     (λ t. rw t)
-    (λ t. let g : suc (beforeNewline s) < suc (length s) = rw t at h in rw (t, split-more s (omega arith)))
+    (λ t. let g : suc (beforeNewline s) < suc (length s) = rw t at h in rw (t, lines-more s (omega arith)))
 
 -- there is always one
-pub split-some : (x : List ℕ) → 0 < length (split x)
-unfolding split
-split-some [] = omega arith
-split-some (b ∷ s) = by-test _ (newline b) (λ t. rw t (omega arith)) (λ t. rw t (first-some b (split s)))
+pub lines-some : (x : List ℕ) → 0 < length (splitLines x)
+unfolding splitLines
+lines-some [] = omega arith
+lines-some (b ∷ s) = by-test _ (newline b) (λ t. rw t (omega arith)) (λ t. rw t (first-some b (splitLines s)))
   where
     first-some : (b : ℕ) (xs : List (List ℕ)) → 0 < length (onFirst b xs)
     first-some b [] = omega arith
@@ -119,22 +119,22 @@ module _ (s : List ℕ) (i e : ℕ) (h : i ≤ length s) (q : e ≡ endOfLine s 
   unfolding endOfLine
   width = q
 
-  pub line-last : e ≡ length s → split (drop i s) ≡ take (e - i) (drop i s) ∷ []
+  pub line-last : e ≡ length s → splitLines (drop i s) ≡ take (e - i) (drop i s) ∷ []
   line-last z =
       let w = width in
       let l = length-drop i s in
       let t : take (e - i) (drop i s) ≡ drop i s = take-all (e - i) (drop i s) (omega arith) in
-      split-last (drop i s) (omega arith) ∙ ap (λ (y : List ℕ). y ∷ []) (sym t)
+      lines-last (drop i s) (omega arith) ∙ ap (λ (y : List ℕ). y ∷ []) (sym t)
 
-  pub line-more : e < length s → split (drop i s) ≡ take (e - i) (drop i s) ∷ split (drop (e + 1) s)
+  pub line-more : e < length s → splitLines (drop i s) ≡ take (e - i) (drop i s) ∷ splitLines (drop (e + 1) s)
   line-more z =
       let w = width in
       let l = length-drop i s in
       let k : beforeNewline (drop i s) ≡ e - i = omega arith in
       let d : i + suc (beforeNewline (drop i s)) ≡ e + 1 = omega arith in
-      split-more (drop i s) (omega arith)
-      ∙ ap (λ (y : List ℕ). take (beforeNewline (drop i s)) (drop i s) ∷ split y) (drop-drop (suc (beforeNewline (drop i s))) i s ∙ ap (λ (n : ℕ). drop n s) d)
-      ∙ ap (λ (n : ℕ). take n (drop i s) ∷ split (drop (e + 1) s)) k
+      lines-more (drop i s) (omega arith)
+      ∙ ap (λ (y : List ℕ). take (beforeNewline (drop i s)) (drop i s) ∷ splitLines y) (drop-drop (suc (beforeNewline (drop i s))) i s ∙ ap (λ (n : ℕ). drop n s) d)
+      ∙ ap (λ (n : ℕ). take n (drop i s) ∷ splitLines (drop (e + 1) s)) k
 
 -- ---- how many: one more than there are \n
 pub first-length : (b : ℕ) (xs : List (List ℕ)) → 0 < length xs → length (onFirst b xs) ≡ length xs
@@ -143,18 +143,18 @@ first-length b (x ∷ xs) h = refl
 
 module _ (s : List ℕ) (i : ℕ) where
   abbrev lines : ℕ → ℕ
-  lines k = length (split (drop k s))
+  lines k = length (splitLines (drop k s))
 
   pub count-newline : i < length s → getD s i 256 ≡ 0x0A → lines i ≡ suc (lines (i + 1))
-  unfolding split
-  count-newline h e = ap (λ (x : List ℕ). length (split x)) (drop-cons s i 256 h) ∙ rw (eq-eqb (getD s i 256) 0x0A e, add-one i)
+  unfolding splitLines
+  count-newline h e = ap (λ (x : List ℕ). length (splitLines x)) (drop-cons s i 256 h) ∙ rw (eq-eqb (getD s i 256) 0x0A e, add-one i)
 
   pub count-other : i < length s → (getD s i 256 ≡ 0x0A → ⊥) → lines i ≡ lines (i + 1)
-  unfolding split
+  unfolding splitLines
   count-other h e =
-      ap (λ (x : List ℕ). length (split x)) (drop-cons s i 256 h)
-      ∙ rw (ne-eqb (getD s i 256) 0x0A e, add-one i) (first-length (getD s i 256) (split (drop (suc i) s)) (split-some (drop (suc i) s)))
+      ap (λ (x : List ℕ). length (splitLines x)) (drop-cons s i 256 h)
+      ∙ rw (ne-eqb (getD s i 256) 0x0A e, add-one i) (first-length (getD s i 256) (splitLines (drop (suc i) s)) (lines-some (drop (suc i) s)))
 
   pub count-end : length s ≤ i → lines i ≡ 1
-  unfolding split
-  count-end h = ap (λ (x : List ℕ). length (split x)) (drop-of-length-le s h)
+  unfolding splitLines
+  count-end h = ap (λ (x : List ℕ). length (splitLines x)) (drop-of-length-le s h)

@@ -25,10 +25,10 @@ use Rattle.edit.specs.Calls.{Lent, logLent, textOf, sizesOf, stateOf, says, Edi
 use Rattle.edit.proofs.Answers.{length-kept, nine, ten}
 use Rattle.edit.proofs.Parts.{raw-part}
 use Rattle.edit.proofs.Steps.{room-is}
-use Rattle.edit_indent_plans.specs.Touched.{split, deleting, splits}
+use Rattle.edit_indent_plans.specs.Touched.{splitLines, deleting, splits}
 use Rattle.edit_indent_plans.specs.Counts.{cutsIn, bytesIn}
 use Rattle.edit_indent_plans.specs.IndentPlans.{dedentLines, changeSize, changesMax}
-use Rattle.edit_indent_plans.proofs.Joined.{split-count}
+use Rattle.edit_indent_plans.proofs.Joined.{few-lines}
 use Rattle.edit_indent_plans.proofs.Suits.{front-length, by-lines, dedent-all, indent-all}
 use Rattle.edit_indent_plans.proofs.Counted.{total, long-is, puts-records, lines-pasting, lines-total, lines-count, dedent-short, dedent-records}
 use Rattle.edit_indent_plans.proofs.Lines.{linesPlan, Begins}
@@ -69,7 +69,7 @@ abbrev pub asks : {F : Format} (l : Lent) → Ready F l → (m from to : ℕ) �
 asks {F} l h m from to i = record { F = F; l = l; ready = h; m = m; from = from; to = to; inside = i }
 
 -- 9 passes, and r says whether 10 does
-pub record Tried (x : Part) (dedent r : Bool) : Type 0 where
+pub record RoomTested (x : Part) (dedent r : Bool) : Type 0 where
   pub begins : Begins (x .F) (x .l) (x .m) dedent (x .from) (x .to) r
 
 module _ (x : Part) where
@@ -86,10 +86,10 @@ module _ (x : Part) where
   t = textOf l
 
   abbrev lines : List (List ℕ)
-  lines = split (part t (x .from) (x .to))
+  lines = splitLines (part t (x .from) (x .to))
 
   abbrev raw : List (List ℕ)
-  raw = split (take (x .to - x .from) (drop (x .from) (l .text)))
+  raw = splitLines (take (x .to - x .from) (drop (x .from) (l .text)))
 
   abbrev u : List Change
   u = stateOf catalogue F l .log .undo
@@ -111,20 +111,20 @@ module _ (x : Part) where
   to-within = let k = x .inside .1 in omega (arith, length-kept F l (x .ready), x .ready .used)
 
   raw-lines : raw ≡ lines
-  raw-lines = ap split (sym (raw-part (l .text) (l .line .len) (x .from) (x .to) (to-within .0)))
+  raw-lines = ap splitLines (sym (raw-part (l .text) (l .line .len) (x .from) (x .to) (to-within .0)))
 
   few : length lines ≤ textMax + 1
-  few = omega (arith, split-count (part t (x .from) (x .to)), part-short t (x .from) (x .to), length-kept F l (x .ready), x .ready .used, x .ready .small, x .ready .log .fit .text)
+  few = omega (arith, few-lines (part t (x .from) (x .to)), part-short t (x .from) (x .to), length-kept F l (x .ready), x .ready .used, x .ready .limit, x .ready .log .fit .text)
 
   -- 10 by what is recorded
-  tried-by : (dedent : Bool) (n b : ℕ) → AllSuit catalogue (plan dedent .pieces) t → tooLong (length (l .text)) (plan dedent .pieces) t ≡ false
-      → length (undoRecords F (listAfter catalogue (plan dedent .pieces) t u)) ≡ length (undoRecords F u) + changeSize F * n
-      → length (undoTexts (listAfter catalogue (plan dedent .pieces) t u)) ≡ length (undoTexts u) + b
-      → {r : Bool} → r ≡ roomFor n b → Tried x dedent r
+  tried-by : (dedent : Bool) (n b : ℕ) → AllSuit catalogue (plan dedent .changes) t → tooLong (length (l .text)) (plan dedent .changes) t ≡ false
+      → length (undoRecords F (listAfter catalogue (plan dedent .changes) t u)) ≡ length (undoRecords F u) + changeSize F * n
+      → length (undoTexts (listAfter catalogue (plan dedent .changes) t u)) ≡ length (undoTexts u) + b
+      → {r : Bool} → r ≡ roomFor n b → RoomTested x dedent r
   tried-by dedent n b s k e f q =
       let w =
-      room-is catalogue F (length (l .text)) (omega (arith, x .ready .small, x .ready .log .fit .places, x .ready .log .fit .lengths)) (sizesOf l)
-      (omega (arith, x .ready .log .texts, x .ready .log .fit .lengths)) (plan dedent .pieces) t u s (x .ready .text)
+      room-is catalogue F (length (l .text)) (omega (arith, x .ready .limit, x .ready .log .fit .places, x .ready .log .fit .lengths)) (sizesOf l)
+      (omega (arith, x .ready .log .texts, x .ready .log .fit .lengths)) (plan dedent .changes) t u s (x .ready .text)
       (omega (arith, length-kept F l (x .ready), x .ready .used)) k (good F (logLent l) (x .ready .log))
       ∙ ap₂ (λ (y z : ℕ). leb y (length (l .records)) && leb z (length (l .texts)))
       (e ∙ ap (λ (y : ℕ). y + changeSize F * n) (sym (records-used F (logLent l) (x .ready .log))))
@@ -136,8 +136,8 @@ module _ (x : Part) where
   pub cuts-few : {n : ℕ} → n ≡ cutsIn catalogue m raw → n ≤ changesMax
   cuts-few e = omega (arith, ap (cutsIn catalogue m) raw-lines, cuts-le m lines, few)
 
-  pub dedent-tried : splits catalogue m lines ≡ false → {n b : ℕ} → n ≡ cutsIn catalogue m raw → b ≡ bytesIn catalogue m raw → {r : Bool} → r ≡ roomFor n b → Tried x true r
-  dedent-tried s {n} {b} e f =
+  pub dedent-tested : splits catalogue m lines ≡ false → {n b : ℕ} → n ≡ cutsIn catalogue m raw → b ≡ bytesIn catalogue m raw → {r : Bool} → r ≡ roomFor n b → RoomTested x true r
+  dedent-tested s {n} {b} e f =
       let c = by-lines t (x .from) (x .to) v (x .inside)
       (λ (ls : List (List ℕ)). splits catalogue m ls ≡ false → (length
       (undoRecords F (listAfter catalogue (dedentLines catalogue m (x .from) ls) t u)) ≡ length (undoRecords F u) + changeSize F * cutsIn
@@ -161,28 +161,28 @@ module _ (x : Part) where
         let b : (m + 31) / 32 ≤ 8 = omega arith in
         (a, mul-le-mul a small, mul-le-mul a b)
 
-    sum : total (plan false .pieces) ≡ k * m
+    sum : total (plan false .changes) ≡ k * m
     sum = lines-total m lines (x .from) ∙ ap (λ (y : ℕ). y * m) e′
 
-    long-sum : tooLong (length (l .text)) (plan false .pieces) t ≡ ltb (length (l .text)) (l .line .len + k * m)
+    long-sum : tooLong (length (l .text)) (plan false .changes) t ≡ ltb (length (l .text)) (l .line .len + k * m)
     long-sum =
-        long-is (length (l .text)) (plan false .pieces) t (lines-pasting m lines (x .from)) (omega (arith, length-kept F l (x .ready), x .ready .used))
+        long-is (length (l .text)) (plan false .changes) t (lines-pasting m lines (x .from)) (omega (arith, length-kept F l (x .ready), x .ready .used))
         ∙ ap₂ (λ (y z : ℕ). ltb (length (l .text)) (y + z)) (length-kept F l (x .ready)) sum
 
     pub indent-long : length (l .text) - l .line .len < k * m → {a : EditAnswer} → a ≡ says 9 (l .line) (l .log)
         → Edited F l (edited catalogue F (sizesOf l) (length (l .text)) (plan false) (stateOf catalogue F l)) a (l .text) (l .records) (l .texts)
     indent-long c {a} q = nine F l (plan false) a (long-sum ∙ lt-ltb (length (l .text)) (l .line .len + k * m) (omega (arith, x .ready .used))) q
 
-    pub indent-tried : k * m ≤ length (l .text) - l .line .len → {r : Bool} → r ≡ roomFor (k * ((m + 31) / 32)) (k * m) → Tried x false r
-    indent-tried c =
-        let r = puts-records F catalogue (plan false .pieces) t u (lines-pasting m lines (x .from)) in
+    pub indent-tested : k * m ≤ length (l .text) - l .line .len → {r : Bool} → r ≡ roomFor (k * ((m + 31) / 32)) (k * m) → RoomTested x false r
+    indent-tested c =
+        let r = puts-records F catalogue (plan false .changes) t u (lines-pasting m lines (x .from)) in
         tried-by false (k * ((m + 31) / 32)) (k * m) (indent-all t (x .from) (x .to) v (x .inside) catalogue m (catalogue-lawful .space))
         (long-sum ∙ le-ltb (length (l .text)) (l .line .len + k * m) (omega (arith, x .ready .used)))
         (r .0 ∙ ap (λ (z : ℕ). length (undoRecords F u) + changeSize F * z) (lines-count m lines (x .from) ∙ ap (λ (y : ℕ). y * ((m + 31) / 32)) e′))
         (r .1 ∙ ap (λ (z : ℕ). length (undoTexts u) + z) sum)
 
   -- ---- 10 fails, or the changes begin
-  module _ {dedent r : Bool} (k : Tried x dedent r) where
+  module _ {dedent r : Bool} (k : RoomTested x dedent r) where
     pub full : r ≡ false → {a : EditAnswer} → a ≡ says 10 (l .line) (l .log)
         → Edited F l (edited catalogue F (sizesOf l) (length (l .text)) (plan dedent) (stateOf catalogue F l)) a (l .text) (l .records) (l .texts)
     full e {a} q = let b = k .begins .1 .1 .1 in ten F l (plan dedent) a (b .0) (b .1 ∙ e) q

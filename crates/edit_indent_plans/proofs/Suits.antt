@@ -1,4 +1,4 @@
--- The pieces of indenting and dedenting suit the text, over any repertoire. Assumes nothing.
+-- The changes of indenting and dedenting suit the text, over any repertoire. Assumes nothing.
 use mathlib.Core.Path.{_≡_, refl, sym, ap, subst, _∙_}
 use mathlib.Core.Bool.{Bool, true, false, not}
 use mathlib.Core.List.{List, [], _∷_, _++_, append-assoc}
@@ -19,11 +19,11 @@ use Rattle.unicode.specs.Repertoire.{Repertoire}
 use Rattle.unicode.specs.Text.{isText}
 use Rattle.unicode.proofs.Text.{text-nil, text-append, text-valid}
 use Rattle.keymap.specs.declared.Movement.{Movement}
-use Rattle.edit.specs.Plan.{Piece, pasted, cutting, made, splice, AllSuit}
+use Rattle.edit.specs.Plan.{PlannedChange, pasted, cutting, made, splice, AllSuit}
 use Rattle.edit.proofs.Parts.{part-between}
-use Rattle.edit_indent_plans.specs.Touched.{split, deleting, splits, touched}
+use Rattle.edit_indent_plans.specs.Touched.{splitLines, deleting, splits, touched}
 use Rattle.edit_indent_plans.specs.IndentPlans.{spaces, indentPieces, indentLine, indentLines, dedentLines, linesIn, indentPlan, pieceOf}
-use Rattle.edit_indent_plans.proofs.Newlines.{split-some}
+use Rattle.edit_indent_plans.proofs.Newlines.{lines-some}
 use Rattle.edit_indent_plans.proofs.Spans.{touched-in}
 use Rattle.edit_indent_plans.proofs.White.{deleting-in}
 use Rattle.edit_indent_plans.proofs.Walks.{newline-valid}
@@ -101,8 +101,8 @@ piece-in m h =
     some zero k = absurd (k refl)
     some (suc n) k = omega arith
 
--- what holds of a line's pieces: of none for no spaces, and of one more where it does for 32 spaces fewer
-pub by-pieces : (P : ℕ → List Piece → Type 0) (at : ℕ) → P 0 [] → ((n : ℕ) (xs : List Piece) → (n ≡ 0 → ⊥) → P (n - 32) xs
+-- what holds of a line's changes: of none for no spaces, and of one more where it does for 32 spaces fewer
+pub by-pieces : (P : ℕ → List PlannedChange → Type 0) (at : ℕ) → P 0 [] → ((n : ℕ) (xs : List PlannedChange) → (n ≡ 0 → ⊥) → P (n - 32) xs
     → P n (pasted at (spaces (pieceOf n)) ∷ xs)) → (m : ℕ) → P m (indentLine at m)
 unfolding indentPieces
 by-pieces P at z s m = go m m (omega arith)
@@ -130,11 +130,11 @@ pub indent-before : (m : ℕ) (a x : List ℕ) → valid a ≡ true → valid x 
 indent-before m a x v w = before-next a (spaces m ++ x) v (valid-append (spaces m) x (spaces-valid m) ∙ w)
 
 module _ (R : Repertoire) (mem : R .member 0x20 ≡ true) where
-  pieces-suit : (m : ℕ) (a c t : List ℕ) (at : ℕ) (ys : List Piece) → valid a ≡ true → t ≡ a ++ c → at ≡ length a
+  pieces-suit : (m : ℕ) (a c t : List ℕ) (at : ℕ) (ys : List PlannedChange) → valid a ≡ true → t ≡ a ++ c → at ≡ length a
       → AllSuit R ys (a ++ (spaces m ++ c)) → AllSuit R (indentLine at m ++ ys) t
   unfolding AllSuit
   pieces-suit m a c t at ys v e f g =
-      by-pieces (λ (n : ℕ) (xs : List Piece). (c t : List ℕ) → t ≡ a ++ c → AllSuit R ys (a ++ (spaces n ++ c)) → AllSuit R (xs ++ ys) t) at
+      by-pieces (λ (n : ℕ) (xs : List PlannedChange). (c t : List ℕ) → t ≡ a ++ c → AllSuit R ys (a ++ (spaces n ++ c)) → AllSuit R (xs ++ ys) t) at
       (λ c t e g. subst (AllSuit R ys) (sym e) g)
       (λ n xs h r c t e g.
       let q = at-boundary a [] c t e at f v in
@@ -171,19 +171,19 @@ module _ (t : List ℕ) (from to : ℕ) (v : valid t ≡ true) (i : In t from to
 
   -- what holds of lines of characters that the part is put together from holds of its own
   pub by-lines : (P : List (List ℕ) → Type 0) → ((x : List ℕ) (xs : List (List ℕ)) → valid x ≡ true → Every Valid xs
-      → t ≡ take from t ++ (x ++ (behind xs ++ drop to t)) → P (x ∷ xs)) → P (split (part t from to))
-  by-lines P f = go (split (part t from to)) (split-some (part t from to)) (split-joined (part t from to)) (split-valid (part t from to) part-valid)
+      → t ≡ take from t ++ (x ++ (behind xs ++ drop to t)) → P (x ∷ xs)) → P (splitLines (part t from to))
+  by-lines P f = go (splitLines (part t from to)) (lines-some (part t from to)) (split-joined (part t from to)) (split-valid (part t from to) part-valid)
     where
       go : (ls : List (List ℕ)) → 0 < length ls → joined ls ≡ part t from to → Every Valid ls → P ls
       go [] h j ws = absurd (omega arith)
       go (x ∷ xs) h j ws = f x xs (ws .0) (ws .1) (opened x xs (take from t) (part t from to) (drop to t) t (part-between t from to (i .0)) j)
 
   module _ (R : Repertoire) (m : ℕ) where
-    pub dedent-all : splits R m (split (part t from to)) ≡ false → AllSuit R (dedentLines R m from (split (part t from to))) t
+    pub dedent-all : splits R m (splitLines (part t from to)) ≡ false → AllSuit R (dedentLines R m from (splitLines (part t from to))) t
     dedent-all = by-lines (λ (ls : List (List ℕ)). splits R m ls ≡ false → AllSuit R (dedentLines R m from ls) t)
         (λ x xs w ws e s. dedents R m (drop to t) xs x (take from t) t from (i .2) w ws s e front-length)
 
-    pub indent-all : R .member 0x20 ≡ true → AllSuit R (indentLines m from (split (part t from to))) t
+    pub indent-all : R .member 0x20 ≡ true → AllSuit R (indentLines m from (splitLines (part t from to))) t
     indent-all mem = by-lines (λ (ls : List (List ℕ)). AllSuit R (indentLines m from ls) t)
         (λ x xs w ws e. indents R mem m (drop to t) xs x (take from t) t from (i .2) w ws e front-length)
 
@@ -193,6 +193,6 @@ module _ (R : Repertoire) (mem : R .member 0x20 ≡ true) (m : ℕ) (t : List �
   abbrev lines : List (List ℕ)
   lines = linesIn t (touched R t pos mvt)
 
-  pub indent-suits : (dedent : Bool) → (dedent ≡ true → splits R m lines ≡ false) → AllSuit R (indentPlan R m dedent pos (touched R t pos mvt .start) lines .pieces) t
+  pub indent-suits : (dedent : Bool) → (dedent ≡ true → splits R m lines ≡ false) → AllSuit R (indentPlan R m dedent pos (touched R t pos mvt .start) lines .changes) t
   indent-suits true s = dedent-all t (touched R t pos mvt .start) (touched R t pos mvt .end) (text-valid R t v) (touched-in R t pos (text-valid R t v) k h mvt) R m (s refl)
   indent-suits false s = indent-all t (touched R t pos mvt .start) (touched R t pos mvt .end) (text-valid R t v) (touched-in R t pos (text-valid R t v) k h mvt) R m mem

@@ -17,7 +17,7 @@ use Rattle.unicode.specs.Repertoire.{Repertoire}
 use Rattle.motion_lines.specs.Lines.{endOfLine}
 use Rattle.motion_lines.proofs.Places.{newline-place}
 use Rattle.motion_lines.proofs.Lines.{end-le, end-newline}
-use Rattle.edit_indent_plans.specs.Touched.{split, deleting, splits}
+use Rattle.edit_indent_plans.specs.Touched.{splitLines, deleting, splits}
 use Rattle.edit_indent_plans.specs.Counts.{cutsIn, bytesIn}
 use Rattle.edit_indent_plans.proofs.Newlines.{line-last, line-more}
 
@@ -67,19 +67,19 @@ module _ (p : List ℕ) (i e : ℕ) (h : i ≤ length p) (q : e ≡ endOfLine p 
       unfolding splits
       first-test xs = ap (λ (c : Bool). not c || splits R m xs) (same-test ∙ sym g)
 
-      pub splits-here : b ≡ false → splits R m (split (drop i p)) ≡ true
+      pub splits-here : b ≡ false → splits R m (splitLines (drop i p)) ≡ true
       splits-here z =
           let w = line-in in
           by-less _ e (length p)
-          (λ l. ap (splits R m) (line-more p i e h q l) ∙ first-test (split (drop (e + 1) p)) ∙ rw z)
+          (λ l. ap (splits R m) (line-more p i e h q l) ∙ first-test (splitLines (drop (e + 1) p)) ∙ rw z)
           (λ l. ap (splits R m) (line-last p i e h q (omega arith)) ∙ first-test [] ∙ rw z)
 
-      pub splits-last : b ≡ true → e ≡ length p → splits R m (split (drop i p)) ≡ false
+      pub splits-last : b ≡ true → e ≡ length p → splits R m (splitLines (drop i p)) ≡ false
       unfolding splits
       splits-last z l = ap (splits R m) (line-last p i e h q l) ∙ first-test [] ∙ rw z
 
-      pub splits-more : b ≡ true → e < length p → splits R m (split (drop i p)) ≡ splits R m (split (drop (e + 1) p))
-      splits-more z l = ap (splits R m) (line-more p i e h q l) ∙ first-test (split (drop (e + 1) p)) ∙ rw z
+      pub splits-more : b ≡ true → e < length p → splits R m (splitLines (drop i p)) ≡ splits R m (splitLines (drop (e + 1) p))
+      splits-more z l = ap (splits R m) (line-more p i e h q l) ∙ first-test (splitLines (drop (e + 1) p)) ∙ rw z
 
     -- ---- what is recorded
     abbrev pub one : ℕ
@@ -91,19 +91,20 @@ module _ (p : List ℕ) (i e : ℕ) (h : i ≤ length p) (q : e ≡ endOfLine p 
     pub one-none : d ≤ 0 → one ≡ 0
     one-none l = rw (le-ltb 0 d l)
 
-    pub cuts-last : e ≡ length p → (cutsIn R m (split (drop i p)) ≡ one) × (bytesIn R m (split (drop i p)) ≡ d)
+    pub cuts-last : e ≡ length p → (cutsIn R m (splitLines (drop i p)) ≡ one) × (bytesIn R m (splitLines (drop i p)) ≡ d)
     unfolding cutsIn bytesIn
     cuts-last l =
         let s = line-last p i e h q l in
-        let a : cutsIn R m (split (drop i p)) ≡ one + 0 = ap (cutsIn R m) s ∙ ap (λ (k : ℕ). cond (ltb 0 k) 1 0 + 0) (sym f) in
-        let b : bytesIn R m (split (drop i p)) ≡ d + 0 = ap (bytesIn R m) s ∙ ap (λ (k : ℕ). k + 0) (sym f) in
+        let a : cutsIn R m (splitLines (drop i p)) ≡ one + 0 = ap (cutsIn R m) s ∙ ap (λ (k : ℕ). cond (ltb 0 k) 1 0 + 0) (sym f) in
+        let b : bytesIn R m (splitLines (drop i p)) ≡ d + 0 = ap (bytesIn R m) s ∙ ap (λ (k : ℕ). k + 0) (sym f) in
         (omega arith, omega arith)
 
     pub cuts-more : e < length p
-        → (cutsIn R m (split (drop i p)) ≡ one + cutsIn R m (split (drop (e + 1) p))) × (bytesIn R m (split (drop i p)) ≡ d + bytesIn R m (split (drop (e + 1) p)))
+        → (cutsIn R m (splitLines (drop i p)) ≡ one + cutsIn R m (splitLines (drop (e + 1) p)))
+        × (bytesIn R m (splitLines (drop i p)) ≡ d + bytesIn R m (splitLines (drop (e + 1) p)))
     unfolding cutsIn bytesIn
     cuts-more l =
         let s = line-more p i e h q l in (
-          ap (cutsIn R m) s ∙ ap (λ (k : ℕ). cond (ltb 0 k) 1 0 + cutsIn R m (split (drop (e + 1) p))) (sym f),
-          ap (bytesIn R m) s ∙ ap (λ (k : ℕ). k + bytesIn R m (split (drop (e + 1) p))) (sym f),
+          ap (cutsIn R m) s ∙ ap (λ (k : ℕ). cond (ltb 0 k) 1 0 + cutsIn R m (splitLines (drop (e + 1) p))) (sym f),
+          ap (bytesIn R m) s ∙ ap (λ (k : ℕ). k + bytesIn R m (splitLines (drop (e + 1) p))) (sym f),
         )

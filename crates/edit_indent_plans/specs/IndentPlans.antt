@@ -8,9 +8,9 @@ use Rattle.lists.specs.Lists.{part}
 use Rattle.unicode.specs.Repertoire.{Repertoire}
 use Rattle.formats.specs.declared.Format.{Format}
 use Rattle.formats.specs.Formats.{textMax}
-use Rattle.edit.specs.Plan.{Piece, pasted, cutting, Plan}
+use Rattle.edit.specs.Plan.{PlannedChange, pasted, cutting, Plan}
 use Rattle.motion_lines.specs.declared.Span.{Span}
-use Rattle.edit_indent_plans.specs.Touched.{split, deleting}
+use Rattle.edit_indent_plans.specs.Touched.{splitLines, deleting}
 
 -- ---- indenting by m: spaces in pieces of at most 32, all at the line's place
 abbrev pub spaces : ℕ → List ℕ
@@ -21,16 +21,16 @@ abbrev pub pieceOf : ℕ → ℕ
 pieceOf m = cond (ltb m 32) m 32
 
 -- at most k pieces
-unfoldable pub indentPieces : ℕ → ℕ → ℕ → List Piece
+unfoldable pub indentPieces : ℕ → ℕ → ℕ → List PlannedChange
 indentPieces zero at m = []
 indentPieces (suc k) at m = cond (eqb m 0) [] (pasted at (spaces (pieceOf m)) ∷ indentPieces k at (m - 32))
 
 -- m pieces are enough
-abbrev pub indentLine : ℕ → ℕ → List Piece
+abbrev pub indentLine : ℕ → ℕ → List PlannedChange
 indentLine at m = indentPieces m at m
 
 -- the lines, the first of them at a place; each stands m bytes and the \n further on once the one before it is indented
-unfoldable pub indentLines : ℕ → ℕ → List (List ℕ) → List Piece
+unfoldable pub indentLines : ℕ → ℕ → List (List ℕ) → List PlannedChange
 indentLines m at [] = []
 indentLines m at (x ∷ xs) = indentLine at m ++ indentLines m (at + m + length x + 1) xs
 
@@ -44,7 +44,7 @@ indentCursor m at [] pos = pos
 indentCursor m at (x ∷ xs) pos = indentCursor m (at + m + length x + 1) xs (indented at m pos)
 
 -- ---- dedenting by m: of each line what `deleting` says
-unfoldable pub dedentLines : Repertoire → ℕ → ℕ → List (List ℕ) → List Piece
+unfoldable pub dedentLines : Repertoire → ℕ → ℕ → List (List ℕ) → List PlannedChange
 dedentLines R m at [] = []
 dedentLines R m at (x ∷ xs) = cutting at (at + deleting R m x) ∷ dedentLines R m (at + (length x - deleting R m x) + 1) xs
 
@@ -58,12 +58,12 @@ dedentCursor R m at (x ∷ xs) pos = dedentCursor R m (at + (length x - deleting
 
 -- ---- the plan of a call
 abbrev pub indentPlan : Repertoire → ℕ → Bool → ℕ → ℕ → List (List ℕ) → Plan
-indentPlan R m true pos at xs = record { pieces = dedentLines R m at xs; cursor = dedentCursor R m at xs pos; number = 0; from = 0; to = 0 }
-indentPlan R m false pos at xs = record { pieces = indentLines m at xs; cursor = indentCursor m at xs pos; number = 0; from = 0; to = 0 }
+indentPlan R m true pos at xs = record { changes = dedentLines R m at xs; cursor = dedentCursor R m at xs pos; number = 0; from = 0; to = 0 }
+indentPlan R m false pos at xs = record { changes = indentLines m at xs; cursor = indentCursor m at xs pos; number = 0; from = 0; to = 0 }
 
 -- the lines of a text between two places, by what stands in them
 abbrev pub linesIn : List ℕ → Span → List (List ℕ)
-linesIn s r = split (part s (r .start) (r .end))
+linesIn s r = splitLines (part s (r .start) (r .end))
 
 -- ---- what the changes take in the log
 -- the record of an insertion or a cut: its kind, a place and a length

@@ -65,9 +65,9 @@ abbrev pub onFirst : ℕ → List (List ℕ) → List (List ℕ)
 onFirst b [] = (b ∷ []) ∷ []
 onFirst b (x ∷ xs) = (b ∷ x) ∷ xs
 
-unfoldable pub split : List ℕ → List (List ℕ)
-split [] = [] ∷ []
-split (b ∷ s) = cond (newline b) ([] ∷ split s) (onFirst b (split s))
+unfoldable pub splitLines : List ℕ → List (List ℕ)
+splitLines [] = [] ∷ []
+splitLines (b ∷ s) = cond (newline b) ([] ∷ splitLines s) (onFirst b (splitLines s))
 
 -- ---- what dedenting by m cuts: at most the white space that a line begins with
 -- the bytes of the white space at the front of some characters

@@ -9,7 +9,8 @@ ghost use Rattle.formats.specs.Formats.{Fit};
 ghost use Rattle.edit_indent_plans.specs.IndentPlans.{changeSize, changesMax};
 ghost use Rattle.utf8.specs.Chars.{valid, boundary};
 ghost use Rattle.unicode.specs.Repertoire.{catalogue};
-ghost use Rattle.edit_indent_plans.specs.Touched.{orCursor, spanOf, lastNewline, touched as Touched·touched, split, deleting as Touched·deleting, splits as Touched·splits};
+ghost use Rattle.edit_indent_plans.specs.Touched.{orCursor, spanOf, lastNewline, splitLines};
+ghost use Rattle.edit_indent_plans.specs.Touched.{touched as Touched·touched, deleting as Touched·deleting, splits as Touched·splits};
 ghost use Rattle.edit_indent_plans.specs.Counts.{cutsIn, bytesIn};
 use formats::Format;
 use keymap::Movement;
@@ -148,7 +149,7 @@ pub fn deleting(x: &[u8], m: usize) -> usize
 // Check 6: does a dedent's cut of one of a part's lines end inside a character?
 pub fn splits(p: &[u8], m: usize) -> bool
     requires { ⌜ valid (now p) ≡ true ⌝ }
-    ensures { λ r. ⌜ r ≡ Touched·splits catalogue m (split (now (p .entry))) ⌝ }
+    ensures { λ r. ⌜ r ≡ Touched·splits catalogue m (splitLines (now (p .entry))) ⌝ }
 {
     let mut i = 0;
     loop {
@@ -166,7 +167,7 @@ pub fn splits(p: &[u8], m: usize) -> bool
 
 // How many lines a part has.
 pub fn count_lines(p: &[u8]) -> usize
-    ensures { λ r. ⌜ r ≡ length (split (now (p .entry))) ⌝ }
+    ensures { λ r. ⌜ r ≡ length (splitLines (now (p .entry))) ⌝ }
 {
     let mut n = 1;
     let mut i = 0;
@@ -187,7 +188,7 @@ pub struct Counts {
 
 // What a dedent of a part's lines by m records.
 pub fn count_cuts(p: &[u8], m: usize) -> Counts
-    ensures { λ r. ⌜ (r .records ≡ cutsIn catalogue m (split (now (p .entry)))) × (r .bytes ≡ bytesIn catalogue m (split (now (p .entry)))) ⌝ }
+    ensures { λ r. ⌜ (r .records ≡ cutsIn catalogue m (splitLines (now (p .entry)))) × (r .bytes ≡ bytesIn catalogue m (splitLines (now (p .entry)))) ⌝ }
 {
     let mut records = 0;
     let mut bytes = 0;

@@ -32,7 +32,7 @@ use Rattle.edit.proofs.Answers.{cursor-in, length-kept, ten}
 use Rattle.edit.proofs.Parts.{an-insert, raw-part}
 use Rattle.edit.proofs.Made as made-laws
 use Rattle.edit.proofs.Once.{once-paste, noted-insert}
-use Rattle.edit.proofs.Pieces.{blank-insert}
+use Rattle.edit.proofs.PlannedChanges.{blank-insert}
 use Rattle.edit.proofs.Rooms.{Roomy, dry-now, dry-in-range, dry-put}
 use Rattle.edit.proofs.Splice.{splice-length}
 use Rattle.edit_insert.proofs.Copied.{copies-text}
@@ -71,7 +71,7 @@ module _ (F : Format) (l : Lent) (h : Ready F l) (s : List ℕ) (is : isText cat
 
     pub copies-in-range : r₀ .fits ≡ true → InRange (r₀ .tail) 0 (length s * n)
     copies-in-range = dry-in-range F l h u r₀ now-roomy 0 (length s * n) (top-max (F .width) (h .log .fit .width .most)) (omega arith)
-        (omega (arith, h .small, h .log .fit .text, h .used))
+        (omega (arith, h .limit, h .log .fit .text, h .used))
 
     module _ (r₁ : Room) (e₁ : r₁ ≡ roomPut F (sizesOf l) pos (length s * n) r₀) where
       room-is : r₁ .fits ≡ fits F (sizesOf l) (recorded catalogue (pasted pos x) t u)

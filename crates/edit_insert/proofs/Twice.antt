@@ -33,7 +33,7 @@ empty-zero (b ∷ s) h = refl
 
 -- a cut, then a text put in
 abbrev pub pair : ℕ → ℕ → List ℕ → ℕ → ℕ → Plan
-pair a b s c m = record { pieces = cutting a b ∷ pasted a s ∷ []; cursor = c; number = m; from = 0; to = 0 }
+pair a b s c m = record { changes = cutting a b ∷ pasted a s ∷ []; cursor = c; number = m; from = 0; to = 0 }
 
 -- ---- yank_pop
 module _ (F : Format) (l : Lent) (size : ℕ) (s : List ℕ) (at k : ℕ) (b x : Bool) (a : at ≡ l .line .cursor - size)

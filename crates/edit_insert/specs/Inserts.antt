@@ -32,11 +32,11 @@ emptyIs (b ∷ s) = 0
 -- yank_pop: the size bytes before the cursor are cut, and the text is put in where they stood; 1 where it is empty, and they are cut all the same
 abbrev pub yankPopPlan : ℕ → ℕ → List ℕ → Plan
 yankPopPlan pos size s =
-    record { pieces = cutting (pos - size) pos ∷ pasted (pos - size) s ∷ []; cursor = pos - size + length s; number = emptyIs s; from = 0; to = 0 }
+    record { changes = cutting (pos - size) pos ∷ pasted (pos - size) s ∷ []; cursor = pos - size + length s; number = emptyIs s; from = 0; to = 0 }
 
 -- update: all of the text t is cut, and the new one put in
 abbrev pub updatePlan : List ℕ → List ℕ → ℕ → Plan
-updatePlan t s pos = record { pieces = cutting 0 (length t) ∷ pasted 0 s ∷ []; cursor = pos; number = 0; from = 0; to = 0 }
+updatePlan t s pos = record { changes = cutting 0 (length t) ∷ pasted 0 s ∷ []; cursor = pos; number = 0; from = 0; to = 0 }
 
 module _ (R : Repertoire) (F : Format) (l : Lent) where
   -- 2 and 4 of a text to put in, and what 5 and 6 say of a place

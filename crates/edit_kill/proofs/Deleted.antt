@@ -88,7 +88,7 @@ module _ (F : Format) (l : Lent) (n : ℕ) where
       by-range : (r : Range) → killRange catalogue (textOf l) pos (m.ForwardChar n) ≡ r → Fit catalogue F (l .text) (l .line) → Way (cut r) (placed r)
       by-range (Places a b) e f =
           cut-ways a b (forward-start (textOf l) pos n a b e)
-          (kill-in catalogue (textOf l) (text-valid catalogue (textOf l) (f .text)) a b pos (f .edge)
+          (kill-in catalogue (textOf l) (text-valid catalogue (textOf l) (f .text)) a b pos (f .at-boundary)
           (let k = length-take-le (l .line .len) (l .text) (f .used) in let j = f .within in omega arith) (m.ForwardChar n) e)
           (f .used)
       by-range Nowhere e f = none-ways

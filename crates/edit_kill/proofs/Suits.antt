@@ -19,34 +19,34 @@ module _ (R : Repertoire) (t : List ℕ) (is : isText R t ≡ true) (pos : ℕ) 
   in-range : (a b : ℕ) → killRange R t pos mvt ≡ Places a b → In t a b
   in-range a b e = kill-in R t (text-valid R t is) a b pos (i .2) (i .1) mvt e
 
-  suits : (r : Range) → killRange R t pos mvt ≡ r → AllSuit R (cutPlan pos r .pieces) t
+  suits : (r : Range) → killRange R t pos mvt ≡ r → AllSuit R (cutPlan pos r .changes) t
   suits (Places a b) e = cutting-suits R t a b (in-range a b e)
   suits Nowhere e = nothing-suits R t pos
 
-  cursor : (r : Range) → killRange R t pos mvt ≡ r → In (textAfter (cutPlan pos r .pieces) t) (cutPlan pos r .cursor) (cutPlan pos r .cursor)
+  cursor : (r : Range) → killRange R t pos mvt ≡ r → In (textAfter (cutPlan pos r .changes) t) (cutPlan pos r .cursor) (cutPlan pos r .cursor)
   cursor (Places a b) e = cutting-cursor R t a b (in-range a b e)
   cursor Nowhere e = nothing-cursor R t pos i
 
   -- kill, and all calls that kill by a movement
-  pub kill-suits : AllSuit R (cutPlan pos (killRange R t pos mvt) .pieces) t
+  pub kill-suits : AllSuit R (cutPlan pos (killRange R t pos mvt) .changes) t
   kill-suits = suits (killRange R t pos mvt) refl
 
-  pub kill-cursor : In (textAfter (cutPlan pos (killRange R t pos mvt) .pieces) t) (cutPlan pos (killRange R t pos mvt) .cursor) (cutPlan pos (killRange R t pos mvt) .cursor)
+  pub kill-cursor : In (textAfter (cutPlan pos (killRange R t pos mvt) .changes) t) (cutPlan pos (killRange R t pos mvt) .cursor) (cutPlan pos (killRange R t pos mvt) .cursor)
   kill-cursor = cursor (killRange R t pos mvt) refl
 
   -- delete makes the same change and answers places too
-  same : (r : Range) → AllSuit R (cutPlan pos r .pieces) t → AllSuit R (placesPlan pos r .pieces) t
+  same : (r : Range) → AllSuit R (cutPlan pos r .changes) t → AllSuit R (placesPlan pos r .changes) t
   same (Places a b) h = h
   same Nowhere h = h
 
-  same-cursor : (r : Range) → In (textAfter (cutPlan pos r .pieces) t) (cutPlan pos r .cursor) (cutPlan pos r .cursor)
-      → In (textAfter (placesPlan pos r .pieces) t) (placesPlan pos r .cursor) (placesPlan pos r .cursor)
+  same-cursor : (r : Range) → In (textAfter (cutPlan pos r .changes) t) (cutPlan pos r .cursor) (cutPlan pos r .cursor)
+      → In (textAfter (placesPlan pos r .changes) t) (placesPlan pos r .cursor) (placesPlan pos r .cursor)
   same-cursor (Places a b) h = h
   same-cursor Nowhere h = h
 
-  pub delete-suits : AllSuit R (placesPlan pos (killRange R t pos mvt) .pieces) t
+  pub delete-suits : AllSuit R (placesPlan pos (killRange R t pos mvt) .changes) t
   delete-suits = same (killRange R t pos mvt) kill-suits
 
-  pub delete-cursor : In (textAfter (placesPlan pos (killRange R t pos mvt) .pieces) t) (placesPlan pos (killRange R t pos mvt) .cursor)
+  pub delete-cursor : In (textAfter (placesPlan pos (killRange R t pos mvt) .changes) t) (placesPlan pos (killRange R t pos mvt) .cursor)
       (placesPlan pos (killRange R t pos mvt) .cursor)
   delete-cursor = same-cursor (killRange R t pos mvt) kill-cursor

@@ -97,7 +97,7 @@ module _ (R : Repertoire) (F : Format) (l : Lent) where
 
 -- delete answers the two places between which it cut
 abbrev pub placesPlan : ℕ → Range → Plan
-placesPlan pos (Places a b) = record { pieces = cutting a b ∷ []; cursor = a; number = 0; from = a; to = b }
+placesPlan pos (Places a b) = record { changes = cutting a b ∷ []; cursor = a; number = 0; from = a; to = b }
 placesPlan pos Nowhere = nothing pos
 
 abbrev pub deleteCall : Repertoire → Format → Lent → ℕ → Outcome State

@@ -94,7 +94,7 @@ module _ (F : Format) (l : Lent) (a b : ℕ) (x y : Bool) (at-a : l .line .len �
 
       -- the cursor is a machine's number
       pub replace-cursor : a + length s ≤ textMax + textMax
-      replace-cursor = omega (arith, replace-places .0, replace-places .1, h .used, h .small, h .log .fit .text, ltb-false (length (l .text)) (length s) (passed .sizes))
+      replace-cursor = omega (arith, replace-places .0, replace-places .1, h .used, h .limit, h .log .fit .text, ltb-false (length (l .text)) (length s) (passed .sizes))
 
       -- both texts are of the repertoire
       pub replace-texts : okChange catalogue (edit (replace a (part (textOf l) a b) s)) ≡ true

@@ -106,7 +106,7 @@ module _ (R : Repertoire) (t : List ℕ) (is : isText R t ≡ true) (w : Words) 
   pub long4 : length m4 ≡ length t
   long4 = splice-length m3 a a w2 (omega arith) (in3 .1) ∙ omega (arith, long3, size2, cd, dt)
 
-  pub words-suit : AllSuit R (wordsPlan t w .pieces) t
+  pub words-suit : AllSuit R (wordsPlan t w .changes) t
   unfolding AllSuit
   words-suit = (p .second, ((in1, text1), (in2, ((in3, text2), tt))))
 
@@ -116,15 +116,15 @@ module _ (R : Repertoire) (t : List ℕ) (is : isText R t ≡ true) (w : Words) 
 
   -- ---- 9: the text after the second change is the longest
   module _ (C : ℕ) (h : length t ≤ C) where
-    long-is : (e : Bool) → ltb C (length m2) ≡ e → tooLong C (wordsPlan t w .pieces) t ≡ e
+    long-is : (e : Bool) → ltb C (length m2) ≡ e → tooLong C (wordsPlan t w .changes) t ≡ e
     unfolding tooLong
     long-is e f =
         rw (le-ltb C (length m1) (omega (arith, long1)), f, le-ltb C (length m3) (omega (arith, long3)), le-ltb C (length m4) (omega (arith, long4))) (or-false e)
 
-    pub words-long : C < length t - (d - c) + (b - a) → tooLong C (wordsPlan t w .pieces) t ≡ true
+    pub words-long : C < length t - (d - c) + (b - a) → tooLong C (wordsPlan t w .changes) t ≡ true
     words-long k = long-is true (lt-ltb C (length m2) (omega (arith, long2)))
 
-    pub words-short : length t - (d - c) + (b - a) ≤ C → tooLong C (wordsPlan t w .pieces) t ≡ false
+    pub words-short : length t - (d - c) + (b - a) ≤ C → tooLong C (wordsPlan t w .changes) t ≡ false
     words-short k = long-is false (le-ltb C (length m2) (omega (arith, long2)))
 
   -- ---- the cursor: behind all that was exchanged the text is as it was
@@ -151,7 +151,7 @@ module _ (R : Repertoire) (t : List ℕ) (is : isText R t ≡ true) (w : Words) 
       let e : d ≡ a + length w2 + (c - b + (b - a)) = omega (arith, size2, ab, cd, p .before) in
       ap (boundary m4) e ∙ splice-behind m3 a a w2 in3 (text-valid R w2 text2) (c - b + (b - a)) ∙ end3
 
-  pub words-cursor : In (textAfter (wordsPlan t w .pieces) t) d d
+  pub words-cursor : In (textAfter (wordsPlan t w .changes) t) d d
   unfolding textAfter
   words-cursor = (omega arith, omega (arith, long4, dt), end4 ∙ p .second .3, end4 ∙ p .second .3)
 

@@ -26,7 +26,7 @@ use Rattle.edit.specs.Calls.{Lent, lent, textOf, sizesOf, stateOf, Edited, Read
 use Rattle.edit.specs.Room.{roomCut, roomPut}
 use Rattle.edit.proofs.Answers.{length-kept}
 use Rattle.edit.proofs.Rooms.{Roomy, dry-now, dry-in-range, dry-cut, dry-put}
-use Rattle.edit.proofs.Left.{Left, begins, goes-on, ends, next-suits}
+use Rattle.edit.proofs.Underway.{Underway, begins, goes-on, ends, next-suits}
 use Rattle.edit_transpose.specs.declared.Words.{Words}
 use Rattle.edit_transpose.specs.WordPairs.{wordsPlan, Apart}
 use Rattle.edit_transpose.proofs.Four.{m1, m2, m3, text1, text2, size1, size2, long1, long2, long3, in1, in2, in3, is1, is2, is3, part2, words-suit, words-long}
@@ -56,16 +56,16 @@ module _ (F : Format) (l : Lent) (h : Ready F l) (w : Words) (p : Apart (textOf 
 
   -- the two words are short
   pub small1 : w .end1 - w .beg1 ≤ textMax
-  small1 = let k = p .first .1 in omega (arith, text-within, h .small, h .log .fit .text)
+  small1 = let k = p .first .1 in omega (arith, text-within, h .limit, h .log .fit .text)
 
   pub small2 : w .end2 - w .beg2 ≤ textMax
-  small2 = let k = p .second .1 in omega (arith, text-within, h .small, h .log .fit .text)
+  small2 = let k = p .second .1 in omega (arith, text-within, h .limit, h .log .fit .text)
 
-  module _ (short : tooLong C (wordsPlan t w .pieces) t ≡ false) where
+  module _ (short : tooLong C (wordsPlan t w .changes) t ≡ false) where
     within2 : length (m2 catalogue t (h .text) w p) ≤ C
     within2 =
         by-less (length (m2 catalogue t (h .text) w p) ≤ C) C (length (m2 catalogue t (h .text) w p))
-        (λ k. never _ (tooLong C (wordsPlan t w .pieces) t) (words-long catalogue t (h .text) w p C text-within (omega (arith, long2 catalogue t (h .text) w p))) short)
+        (λ k. never _ (tooLong C (wordsPlan t w .changes) t) (words-long catalogue t (h .text) w p C text-within (omega (arith, long2 catalogue t (h .text) w p))) short)
         (λ k. k)
 
     -- the lists after each change
@@ -113,7 +113,7 @@ module _ (F : Format) (l : Lent) (h : Ready F l) (w : Words) (p : Apart (textOf 
             in-range3 = dry-in-range F l h u3 r3 roomy3 0 (w .end2 - w .beg2) top-in (omega arith) small2
 
             pub four-room : (r4 : Room) → r4 ≡ roomPut F (sizesOf l) (w .beg1) (w .end2 - w .beg2) r3
-                → r4 .fits ≡ fits F (sizesOf l) (listAfter catalogue (wordsPlan t w .pieces) t u)
+                → r4 .fits ≡ fits F (sizesOf l) (listAfter catalogue (wordsPlan t w .changes) t u)
             unfolding listAfter
             four-room r4 e4 =
                 subst (λ (r : Room). r .fits ≡ fits F (sizesOf l) (recorded catalogue (pasted (w .beg1) w2) (m3 catalogue t (h .text) w p) u3))
@@ -122,11 +122,11 @@ module _ (F : Format) (l : Lent) (h : Ready F l) (w : Words) (p : Apart (textOf 
                 (omega (arith, long3 catalogue t (h .text) w p, text-within)) (w .beg1) w2 (in3 catalogue t (h .text) w p, text2 catalogue t (h .text) w p) .fit)
 
     -- ---- the changes one by one
-    module _ (room : fits F (sizesOf l) (listAfter catalogue (wordsPlan t w .pieces) t u) ≡ true) where
+    module _ (room : fits F (sizesOf l) (listAfter catalogue (wordsPlan t w .changes) t u) ≡ true) where
       abbrev plan : Plan
       plan = wordsPlan t w
 
-      left0 : Left F l plan (plan .pieces) l
+      left0 : Underway F l plan (plan .changes) l
       left0 = begins F l plan h (words-suit catalogue t (h .text) w p) short room
 
       module _ (r₁ : EditAnswer) (t₁ rb₁ tb₁ : List ℕ) (q₁ : Edited F l
@@ -135,7 +135,7 @@ module _ (F : Format) (l : Lent) (h : Ready F l) (w : Words) (p : Apart (textOf 
         abbrev l₁ : Lent
         l₁ = lent t₁ rb₁ tb₁ (r₁ .line) (r₁ .log)
 
-        pub left1 : Left F l plan (pasted (w .beg2) w1 ∷ cutting (w .beg1) (w .end1) ∷ pasted (w .beg1) w2 ∷ []) l₁
+        pub left1 : Underway F l plan (pasted (w .beg2) w1 ∷ cutting (w .beg1) (w .end1) ∷ pasted (w .beg1) w2 ∷ []) l₁
         left1 = goes-on F l plan (cutting (w .beg2) (w .end2)) _ l left0 r₁ t₁ rb₁ tb₁ q₁ a₁ b₁ c₁
 
         pub put1 : (In (textOf l₁) (w .beg2) (w .beg2)) × (isText catalogue w1 ≡ true)
@@ -147,7 +147,7 @@ module _ (F : Format) (l : Lent) (h : Ready F l) (w : Words) (p : Apart (textOf 
           abbrev l₂ : Lent
           l₂ = lent t₂ rb₂ tb₂ (r₂ .line) (r₂ .log)
 
-          pub left2 : Left F l plan (cutting (w .beg1) (w .end1) ∷ pasted (w .beg1) w2 ∷ []) l₂
+          pub left2 : Underway F l plan (cutting (w .beg1) (w .end1) ∷ pasted (w .beg1) w2 ∷ []) l₂
           left2 =
               goes-on F l plan (pasted (w .beg2) w1) _ l₁ left1 r₂ t₂ rb₂ tb₂
               (subst (λ (s : List ℕ). Edited F l₁ (edited catalogue F (sizesOf l₁) (length t₁) (once (pasted (w .beg2) s) (w .beg2))
@@ -162,7 +162,7 @@ module _ (F : Format) (l : Lent) (h : Ready F l) (w : Words) (p : Apart (textOf 
             abbrev l₃ : Lent
             l₃ = lent t₃ rb₃ tb₃ (r₃ .line) (r₃ .log)
 
-            pub left3 : Left F l plan (pasted (w .beg1) w2 ∷ []) l₃
+            pub left3 : Underway F l plan (pasted (w .beg1) w2 ∷ []) l₃
             left3 = goes-on F l plan (cutting (w .beg1) (w .end1)) _ l₂ left2 r₃ t₃ rb₃ tb₃ q₃ a₃ b₃ c₃
 
             pub put3 : (In (textOf l₃) (w .beg1) (w .beg1)) × (isText catalogue w2 ≡ true)

@@ -37,7 +37,7 @@ module _ (R : Repertoire) (t : List ℕ) (is : isText R t ≡ true) where
     put-at : In mid o o
     put-at = let b = back-place R t v p (i .2) (i .1) in splice-stays t p q [] cut-in o (b .0) (b .1)
 
-    pub exchange-suits : AllSuit R (exchange R t p .pieces) t
+    pub exchange-suits : AllSuit R (exchange R t p .changes) t
     unfolding AllSuit
     exchange-suits = (cut-in, ((put-at, part-text R t p q cut-in is), tt))
 
@@ -51,7 +51,7 @@ module _ (R : Repertoire) (t : List ℕ) (is : isText R t ≡ true) where
     behind : In (transposed R t p) (o + length (part t p q)) (o + length (part t p q))
     behind = splice-end mid o o (part t p q) put-at (text-valid R (part t p q) (part-text R t p q cut-in is))
 
-    pub exchange-cursor : In (textAfter (exchange R t p .pieces) t) (exchange R t p .cursor) (exchange R t p .cursor)
+    pub exchange-cursor : In (textAfter (exchange R t p .changes) t) (exchange R t p .cursor) (exchange R t p .cursor)
     unfolding textAfter
     exchange-cursor = let a = on-place R (transposed R t p) (text-valid R (transposed R t p) made-text) (o + length (part t p q)) (behind .2)
         (behind .1) in (omega arith, a .1, a .2, a .2)

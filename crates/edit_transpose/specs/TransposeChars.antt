@@ -23,7 +23,7 @@ transposed R t p = splice (splice t p (onFrom R t p) []) (backFrom R t p) (backF
 abbrev pub exchange : Repertoire → List ℕ → ℕ → Plan
 exchange R t p =
     record {
-      pieces = cutting p (onFrom R t p) ∷ pasted (backFrom R t p) (part t p (onFrom R t p)) ∷ [];
+      changes = cutting p (onFrom R t p) ∷ pasted (backFrom R t p) (part t p (onFrom R t p)) ∷ [];
       cursor = onFrom R (transposed R t p) (backFrom R t p + length (part t p (onFrom R t p)));
       number = 0;
       from = 0;

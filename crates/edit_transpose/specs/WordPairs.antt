@@ -21,7 +21,7 @@ wordsAround R t n pos =
 abbrev pub wordsPlan : List ℕ → Words → Plan
 wordsPlan t w =
     record {
-      pieces =
+      changes =
           cutting (w .beg2) (w .end2)
           ∷ pasted (w .beg2) (part t (w .beg1) (w .end1))
           ∷ cutting (w .beg1) (w .end1)

@@ -81,9 +81,9 @@ pub fn words_fit(
     requires { ⌜ Ready f (lent (now text) (now records) (now texts) line log) ⌝ }
     requires { ⌜ LastAt catalogue f (take (log .undo .records) (now records)) last ⌝ }
     requires { ⌜ Apart (take (line .len) (now text)) w ⌝ }
-    requires { ⌜ tooLong (length (now text)) (wordsPlan (take (line .len) (now text)) w .pieces) (take (line .len) (now text)) ≡ false ⌝ }
+    requires { ⌜ tooLong (length (now text)) (wordsPlan (take (line .len) (now text)) w .changes) (take (line .len) (now text)) ≡ false ⌝ }
     ensures { λ r. ⌜ r ≡ fits f (sizesOf (lent (now (text .entry)) (now (records .entry)) (now (texts .entry)) line log))
-        (listAfter catalogue (wordsPlan (take (line .len) (now (text .entry))) w .pieces) (take (line .len) (now (text .entry)))
+        (listAfter catalogue (wordsPlan (take (line .len) (now (text .entry))) w .changes) (take (line .len) (now (text .entry)))
         (stateOf catalogue f (lent (now (text .entry)) (now (records .entry)) (now (texts .entry)) line log) .log .undo)) ⌝ }
 {
     let a = w.beg1;
@@ -119,9 +119,9 @@ pub fn put_words(
     requires { ⌜ Apart (take (line .len) (now text)) w ⌝ }
     requires { ⌜ now first ≡ part (take (line .len) (now text)) (w .beg1) (w .end1) ⌝ }
     requires { ⌜ now second ≡ part (take (line .len) (now text)) (w .beg2) (w .end2) ⌝ }
-    requires { ⌜ tooLong (length (now text)) (wordsPlan (take (line .len) (now text)) w .pieces) (take (line .len) (now text)) ≡ false ⌝ }
+    requires { ⌜ tooLong (length (now text)) (wordsPlan (take (line .len) (now text)) w .changes) (take (line .len) (now text)) ≡ false ⌝ }
     requires { ⌜ fits f (sizesOf (lent (now text) (now records) (now texts) line log))
-        (listAfter catalogue (wordsPlan (take (line .len) (now text)) w .pieces) (take (line .len) (now text))
+        (listAfter catalogue (wordsPlan (take (line .len) (now text)) w .changes) (take (line .len) (now text))
         (stateOf catalogue f (lent (now text) (now records) (now texts) line log) .log .undo)) ≡ true ⌝ }
     ensures { λ r. ⌜ Makes f (lent (now (text .entry)) (now (records .entry)) (now (texts .entry)) line log)
         (wordsPlan (take (line .len) (now (text .entry))) w)

@@ -9,7 +9,7 @@ use Rattle.kill_ring.specs.declared.Action.{Action}
 use Rattle.kill_ring.specs.declared.Action.the-variants.{Kill, Yank}
 use Rattle.kill_ring.specs.declared.Mode.the-variants.{Append, Prepend}
 use Rattle.kill_ring.specs.Ring.{KillRing, empty, putAt, resetOut, killOut, yankOut, yankPopOut}
-use Rattle.kill_ring.specs.Calls.{newCall, leftOf, says}
+use Rattle.kill_ring.specs.Calls.{newCall, answerAndRing, says}
 
 abbrev a : List ℕ
 a = 0x61 ∷ []
@@ -25,11 +25,11 @@ two ss i x = record { size = 2; slots = ss; index = i; action = x }
 new-most : (newCall 17 ≡ refused 2) × (newCall 16 ≡ answered 0 0 0 (empty 16))
 new-most = (refl, refl)
 
-new-other : (g : Ring) → leftOf g (newCall 2) ≡ record { answer = says 0 0 0; ring = record { size = 2; count = 0; index = 0; action = 2; yanked = 0 } }
+new-other : (g : Ring) → answerAndRing g (newCall 2) ≡ record { answer = says 0 0 0; ring = record { size = 2; count = 0; index = 0; action = 2; yanked = 0 } }
 new-other g = refl
 
 -- reset: the slots and the index stay, and the yank's size goes
-reset-stays : (g : Ring) → leftOf g (resetOut (two (a ∷ bb ∷ []) 1 (Yank 2))) ≡ record
+reset-stays : (g : Ring) → answerAndRing g (resetOut (two (a ∷ bb ∷ []) 1 (Yank 2))) ≡ record
     { answer = says 0 0 0; ring = record { size = 2; count = 2; index = 1; action = 2; yanked = 0 } }
 reset-stays g = refl
 

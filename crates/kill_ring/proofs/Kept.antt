@@ -25,7 +25,7 @@ use Rattle.kill_ring.specs.Sound.{SoundIndex, SoundAction, SoundSlots, S
 use Rattle.kill_ring.proofs.Passed.{passed, own-passed}
 use Rattle.kill_ring.proofs.Value.{some-of, cond-ind}
 use Rattle.kill_ring.proofs.Rings.{put-over, put-behind}
-use Rattle.kill_ring.proofs.Found.{ready-sound}
+use Rattle.kill_ring.proofs.ReadBack.{ready-sound}
 
 -- ---- a ring of one size, sound
 pub record Kept (R : Repertoire) (v w : KillRing) : Type 0 where

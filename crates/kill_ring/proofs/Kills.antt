@@ -16,7 +16,7 @@ use Rattle.numbers.specs.Numbers.{le}
 use Rattle.buffer.specs.Edit.{inserted}
 use Rattle.buffer.proofs.Inserted.{inserted-end}
 use Rattle.kill_ring.specs.declared.Ring.{Ring}
-use Rattle.kill_ring.specs.declared.Left.{Left}
+use Rattle.kill_ring.specs.declared.AnswerAndRing.{AnswerAndRing}
 use Rattle.kill_ring.specs.declared.Action.{Action}
 use Rattle.kill_ring.specs.declared.Action.the-variants.{Kill, Yank, Other}
 use Rattle.kill_ring.specs.declared.Mode.{Mode}
@@ -24,21 +24,21 @@ use Rattle.kill_ring.specs.declared.Mode.the-variants.{Append, Prepend}
 use Rattle.kill_ring.specs.declared.ModeCode.{ModeCode}
 use Rattle.kill_ring.specs.declared.ModeCode.the-variants as code
 use Rattle.kill_ring.specs.Ring.{KillRing, slotAt, withAction, joined, nextIndex, killIndex, killText, stored, killOut, resetOut}
-use Rattle.kill_ring.specs.Calls.{Lent, lenAt, slotBytes, slotsFrom, valueOf, Held, Ringed, modeOf, killBy, killCall, checked}
+use Rattle.kill_ring.specs.Calls.{Lent, lenAt, slotBytes, slotsFrom, valueOf, SlotsIn, Ringed, modeOf, killBy, killCall, checked}
 use Rattle.kill_ring.specs.Killed.{placeOf, slotOf, usedOf, killedInto, Put}
 use Rattle.kill_ring.proofs.Slots.{slots-length}
 use Rattle.kill_ring.proofs.Passed.{Ready, code-refused}
 use Rattle.kill_ring.proofs.Value.{some-of, cond-ind, action-cases, acted, slots-empty, index-in, index-none, slot-is, slot-length, slot-short, bytes-length}
 use Rattle.kill_ring.proofs.Answers.{alone, numbers, kill-left}
-use Rattle.kill_ring.proofs.Puts.{Short, others, put-at, held-put}
+use Rattle.kill_ring.proofs.Puts.{Short, others, put-at, slots-put}
 use Rattle.kill_ring.proofs.Rings.{put-length}
 
 -- ---- the checks of a kill
-pub ringed-refused : (l : Lent) (k n : ℕ) (o : Outcome KillRing) (r : Left) → k ≡ n → (k ≡ 0 → ⊥) → r ≡ alone k (l .ring) → Ringed l (called n o) r (l .slots) (l .lens)
-ringed-refused l k n o r e h q = called-refused (λ (x : Outcome KillRing). Ringed l x r (l .slots) (l .lens)) o k n (sym e) h (record { left = q; bytes = (refl, refl) })
+pub ringed-refused : (l : Lent) (k n : ℕ) (o : Outcome KillRing) (r : AnswerAndRing) → k ≡ n → (k ≡ 0 → ⊥) → r ≡ alone k (l .ring) → Ringed l (called n o) r (l .slots) (l .lens)
+ringed-refused l k n o r e h q = called-refused (λ (x : Outcome KillRing). Ringed l x r (l .slots) (l .lens)) o k n (sym e) h (record { whole = q; bytes = (refl, refl) })
 
 -- where the checks pass, what the call does decides
-pub ringed-passed : (l : Lent) (k n : ℕ) (o : Outcome KillRing) (r : Left) (s t : List ℕ) → k ≡ n → k ≡ 0 → Ringed l o r s t → Ringed l (called n o) r s t
+pub ringed-passed : (l : Lent) (k n : ℕ) (o : Outcome KillRing) (r : AnswerAndRing) (s t : List ℕ) → k ≡ n → k ≡ 0 → Ringed l o r s t → Ringed l (called n o) r s t
 ringed-passed l k n o r s t e z q = called-passed (λ (x : Outcome KillRing). Ringed l x r s t) o k n (sym e) z q
 
 -- ---- what a kill joins
@@ -112,15 +112,15 @@ slot-of l =
     (λ k o. slot-other (l .ring) k ∙ next-is l)
 
 -- ---- the ring that the checks pass is held where it is
-held-from : (slots lens : List ℕ) (i n : ℕ) → ((k : ℕ) → k < n → length (slotBytes slots lens (i + k)) ≡ lenAt lens (i + k)) → Held slots lens i (slotsFrom slots lens i n)
-unfolding Held slotsFrom
-held-from slots lens i zero h = tt
-held-from slots lens i (suc n) h =
+slots-from : (slots lens : List ℕ) (i n : ℕ) → ((k : ℕ) → k < n → length (slotBytes slots lens (i + k)) ≡ lenAt lens (i + k)) → SlotsIn slots lens i (slotsFrom slots lens i n)
+unfolding SlotsIn slotsFrom
+slots-from slots lens i zero h = tt
+slots-from slots lens i (suc n) h =
     let z : i + 0 ≡ i = omega arith in
     let e : length (slotBytes slots lens i) ≡ lenAt lens i = subst (λ (j : ℕ). length (slotBytes slots lens j) ≡ lenAt lens j) z (h 0 (omega arith)) in (
       sym e,
       ap (λ (k : ℕ). take k (drop (4096 * i) slots)) e,
-      held-from slots lens (suc i) n
+      slots-from slots lens (suc i) n
           (λ k b. let s : i + suc k ≡ suc i + k = omega arith in subst (λ (j : ℕ). length (slotBytes slots lens j) ≡ lenAt lens j) s (h (suc k) (omega arith))),
     )
 
@@ -136,9 +136,9 @@ short-from slots lens i (suc n) h =
 
 module _ (R : Repertoire) (l : Lent) (p : Ready R l) where
   -- the buffers hold the ring's slots
-  pub ready-held : Held (l .slots) (l .lens) 0 (valueOf l .slots)
-  ready-held =
-      held-from (l .slots) (l .lens) 0 (l .ring .count)
+  pub ready-slots : SlotsIn (l .slots) (l .lens) 0 (valueOf l .slots)
+  ready-slots =
+      slots-from (l .slots) (l .lens) 0 (l .ring .count)
       (λ k h. let z : 0 + k ≡ k = omega arith in subst (λ (j : ℕ). length (slotBytes (l .slots) (l .lens) j) ≡ lenAt (l .lens) j) (sym z) (bytes-length R l p k h))
 
   -- and each has at most 4,096 bytes
@@ -214,12 +214,13 @@ module _ (R : Repertoire) (l : Lent) (p : Ready R l) where
     after = killText (valueOf l .action) m text (valueOf l)
 
     -- size 0: the last action alone
-    pub kill-disabled : (r : Left) → l .ring .size ≡ 0 → r ≡ alone 0 (numbers (l .ring) (l .ring .index) 0 0) → Ringed l (killOut m text (valueOf l)) r (l .slots) (l .lens)
+    pub kill-disabled : (r : AnswerAndRing) → l .ring .size ≡ 0 → r ≡ alone 0 (numbers (l .ring) (l .ring .index) 0 0)
+        → Ringed l (killOut m text (valueOf l)) r (l .slots) (l .lens)
     unfolding killOut
     kill-disabled r e q =
         subst (λ (b : Bool). Ringed l (cond b (answered 0 0 0 (withAction (valueOf l) Kill))
         (cond (ltb 4096 (length after)) (refused 11) (answered 0 0 0 (stored (killIndex (valueOf l .action) (valueOf l)) after (valueOf l))))) r (l .slots) (l .lens))
-        (sym (eq-eqb (l .ring .size) 0 e)) (record { left = q ∙ kill-left l; bytes = ready-held })
+        (sym (eq-eqb (l .ring .size) 0 e)) (record { whole = q ∙ kill-left l; bytes = ready-slots })
 
     module _ (h : 0 < l .ring .size) where
       -- its length
@@ -238,15 +239,15 @@ module _ (R : Repertoire) (l : Lent) (p : Ready R l) where
           ∙ ap₂ (λ (t : Bool) (i : ℕ). cond t (refused 11) (answered 0 0 0 (stored i after (valueOf l)))) e (sym (slot-of l))
 
       -- 11: the slot would pass 4,096 bytes
-      pub kill-full : (r : Left) (u : ℕ) → u ≡ usedOf (l .lens) (l .ring) → 4096 - u < length text → r ≡ alone 11 (l .ring)
+      pub kill-full : (r : AnswerAndRing) (u : ℕ) → u ≡ usedOf (l .lens) (l .ring) → 4096 - u < length text → r ≡ alone 11 (l .ring)
           → Ringed l (killOut m text (valueOf l)) r (l .slots) (l .lens)
       kill-full r u e k q =
           let z = used-most h in
           let f : ltb 4096 (length after) ≡ true = lt-ltb 4096 (length after) (omega (arith, after-length)) in
-          subst (λ (o : Outcome KillRing). Ringed l o r (l .slots) (l .lens)) (sym (out-with true f)) (record { left = q; bytes = (refl, refl) })
+          subst (λ (o : Outcome KillRing). Ringed l o r (l .slots) (l .lens)) (sym (out-with true f)) (record { whole = q; bytes = (refl, refl) })
 
       -- the text in its slot, and its length beside it
-      pub kill-done : (r : Left) (g : Ring) (u i at : ℕ) (s t : List ℕ) → u ≡ usedOf (l .lens) (l .ring) → length text ≤ 4096 - u → i ≡ slotOf (l .ring) → at ≡ placeOf m u
+      pub kill-done : (r : AnswerAndRing) (g : Ring) (u i at : ℕ) (s t : List ℕ) → u ≡ usedOf (l .lens) (l .ring) → length text ≤ 4096 - u → i ≡ slotOf (l .ring) → at ≡ placeOf m u
           → Put (l .slots) i (inserted (take u (drop (4096 * i) (l .slots))) at text) s → t ≡ sets (l .lens) (2 * i) (le 2 (u + length text))
           → g ≡ killedInto (l .ring) i → r ≡ alone 0 g
           → Ringed l (killOut m text (valueOf l)) r s t
@@ -269,23 +270,23 @@ module _ (R : Repertoire) (l : Lent) (p : Ready R l) where
           subst (λ (o : Outcome KillRing). Ringed l o r s t) (sym (out-with false f))
           (subst (λ (j : ℕ). Ringed l (answered 0 0 0 (stored j after (valueOf l))) r s t) ei
           (record {
-            left =
+            whole =
                 er ∙ ap (alone 0) eg
                 ∙ ap (λ (n : ℕ). alone 0 (record { size = l .ring .size; count = n; index = i; action = 0; yanked = 0 }))
                 (put-length (valueOf l .slots) i (l .ring .count) after count le-count);
             bytes =
-                held-put (l .slots) (l .lens) s t i (others (l .slots) (l .lens) s t i (u + length text) after room there et) 0 i (valueOf l .slots) after
-                (put-at (l .slots) (l .lens) s t i (u + length text) after room small size there et) (omega arith) (omega arith) ready-short ready-held;
+                slots-put (l .slots) (l .lens) s t i (others (l .slots) (l .lens) s t i (u + length text) after room there et) 0 i (valueOf l .slots) after
+                (put-at (l .slots) (l .lens) s t i (u + length text) after room small size there et) (omega arith) (omega arith) ready-short ready-slots;
           }))
 
 -- ---- the direction by its code
 module _ (R : Repertoire) (l : Lent) (text : List ℕ) (mode : ℕ) where
   -- a number that names a direction
-  pub named : (m : Mode) (r : Left) (s t : List ℕ) → modeOf mode ≡ code.Is m → Ringed l (killBy R l text (code.Is m)) r s t → Ringed l (killCall R l text mode) r s t
+  pub named : (m : Mode) (r : AnswerAndRing) (s t : List ℕ) → modeOf mode ≡ code.Is m → Ringed l (killBy R l text (code.Is m)) r s t → Ringed l (killCall R l text mode) r s t
   named m r s t e q = subst (λ (x : ModeCode). Ringed l (killBy R l text x) r s t) (sym e) q
 
   -- a number that names none is refused
-  pub unnamed : (k : ℕ) (r : Left) → modeOf mode ≡ code.Unknown → k ≡ checked R l true (not (isText R text)) → r ≡ alone k (l .ring)
+  pub unnamed : (k : ℕ) (r : AnswerAndRing) → modeOf mode ≡ code.Unknown → k ≡ checked R l true (not (isText R text)) → r ≡ alone k (l .ring)
       → Ringed l (killCall R l text mode) r (l .slots) (l .lens)
   unnamed k r e q f =
       subst (λ (x : ModeCode). Ringed l (killBy R l text x) r (l .slots) (l .lens)) (sym e)

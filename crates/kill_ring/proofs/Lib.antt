@@ -6,7 +6,7 @@ pub mod Answers
 pub mod Puts
 pub mod Rings
 pub mod Kills
-pub mod Found
+pub mod ReadBack
 pub mod Kept
 pub mod Next
 pub mod Rounds

@@ -14,7 +14,7 @@ use Rattle.buffer.specs.Edit.{inserted}
 use Rattle.lists.proofs.Parts.{take-drop}
 use Rattle.buffer.proofs.Inserted.{inserted-length}
 use Rattle.kill_ring.specs.Ring.{putAt}
-use Rattle.kill_ring.specs.Calls.{lenAt, Held}
+use Rattle.kill_ring.specs.Calls.{lenAt, SlotsIn}
 use Rattle.kill_ring.specs.Killed.{Put}
 
 -- ---- a part of a list that is as it was before a place and behind another
@@ -57,7 +57,7 @@ put-back slots y text i used at h k f same e =
     let size : length (inserted (take used part) at text) ≡ used + length text = inserted-length (take used part) at text (omega arith) ∙ ap (λ (n : ℕ). n + length text) whole in
     record {
       before = take-put a (a + 4096 - a) slots y (omega arith);
-      held =
+      stands =
           ap (λ (n : ℕ). take n (drop a (putMid a (a + 4096 - a) slots y))) size
           ∙ ap (take (used + length text)) (drop-at (take a slots) (y ++ postOf a (a + 4096 - a) slots) a (length-take-le a slots (omega arith)))
           ∙ take-append-le (used + length text) y (postOf a (a + 4096 - a) slots) (omega arith)
@@ -125,7 +125,7 @@ others slots lens slots′ lens′ i n text room put e j s apart short at =
 pub put-at : (slots lens slots′ lens′ : List ℕ) (i n : ℕ) (text : List ℕ) → 2 * i + 2 ≤ length lens → n < 65536 → n ≡ length text
     → Put slots i text slots′ → lens′ ≡ sets lens (2 * i) (le 2 n)
     → At slots′ lens′ i text
-put-at slots lens slots′ lens′ i n text room small size put e = (ap (λ (l : List ℕ). lenAt l i) e ∙ len-here lens i n room small ∙ size, put .held)
+put-at slots lens slots′ lens′ i n text room small size put e = (ap (λ (l : List ℕ). lenAt l i) e ∙ len-here lens i n room small ∙ size, put .stands)
 
 -- each slot has at most 4,096 bytes
 abbrev pub Short : List (List ℕ) → Type 0
@@ -134,23 +134,23 @@ Short (s ∷ ss) = (length s ≤ 4096) × Short ss
 
 module _ (slots lens slots′ lens′ : List ℕ) (i : ℕ) (other : Others slots lens slots′ lens′ i) where
   -- the slots behind the one written
-  held-behind : (j : ℕ) (ss : List (List ℕ)) → i < j → Short ss → Held slots lens j ss → Held slots′ lens′ j ss
-  unfolding Held
-  held-behind j [] h short held = tt
-  held-behind j (s ∷ ss) h short held =
-      let x = other j s (λ e. omega arith) (short .0) (held .0, held .1) in
-      (x .0, x .1, held-behind (suc j) ss (omega arith) (short .1) (held .2))
+  slots-behind : (j : ℕ) (ss : List (List ℕ)) → i < j → Short ss → SlotsIn slots lens j ss → SlotsIn slots′ lens′ j ss
+  unfolding SlotsIn
+  slots-behind j [] h short stands = tt
+  slots-behind j (s ∷ ss) h short stands =
+      let x = other j s (λ e. omega arith) (short .0) (stands .0, stands .1) in
+      (x .0, x .1, slots-behind (suc j) ss (omega arith) (short .1) (stands .2))
 
   -- all of them: a text in the place of one, or one more
-  pub held-put : (j k : ℕ) (ss : List (List ℕ)) (s : List ℕ) → At slots′ lens′ i s → j + k ≡ i → k ≤ length ss → Short ss → Held slots lens j ss
-      → Held slots′ lens′ j (putAt ss k s)
-  unfolding Held putAt
-  held-put j zero [] s here e h short held = let q : i ≡ j = omega arith in let x = subst (λ (m : ℕ). At slots′ lens′ m s) q here in (x .0, x .1, tt)
-  held-put j (suc k) [] s here e h short held = absurd (omega arith)
-  held-put j zero (t ∷ ss) s here e h short held =
+  pub slots-put : (j k : ℕ) (ss : List (List ℕ)) (s : List ℕ) → At slots′ lens′ i s → j + k ≡ i → k ≤ length ss → Short ss → SlotsIn slots lens j ss
+      → SlotsIn slots′ lens′ j (putAt ss k s)
+  unfolding SlotsIn putAt
+  slots-put j zero [] s here e h short stands = let q : i ≡ j = omega arith in let x = subst (λ (m : ℕ). At slots′ lens′ m s) q here in (x .0, x .1, tt)
+  slots-put j (suc k) [] s here e h short stands = absurd (omega arith)
+  slots-put j zero (t ∷ ss) s here e h short stands =
       let q : i ≡ j = omega arith in
       let x = subst (λ (m : ℕ). At slots′ lens′ m s) q here in
-      (x .0, x .1, held-behind (suc j) ss (omega arith) (short .1) (held .2))
-  held-put j (suc k) (t ∷ ss) s here e h short held =
-      let x = other j t (λ d. omega arith) (short .0) (held .0, held .1) in
-      (x .0, x .1, held-put (suc j) k ss s here (omega arith) (le-of-suc-le-suc h) (short .1) (held .2))
+      (x .0, x .1, slots-behind (suc j) ss (omega arith) (short .1) (stands .2))
+  slots-put j (suc k) (t ∷ ss) s here e h short stands =
+      let x = other j t (λ d. omega arith) (short .0) (stands .0, stands .1) in
+      (x .0, x .1, slots-put (suc j) k ss s here (omega arith) (le-of-suc-le-suc h) (short .1) (stands .2))

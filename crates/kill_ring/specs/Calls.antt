@@ -13,7 +13,7 @@ use Rattle.checks.specs.Outcome.{Outcome, refused, answered, called}
 use Rattle.numbers.specs.Numbers.{numAt}
 use Rattle.kill_ring.specs.declared.Ring.{Ring}
 use Rattle.kill_ring.specs.declared.RingAnswer.{RingAnswer}
-use Rattle.kill_ring.specs.declared.Left.{Left}
+use Rattle.kill_ring.specs.declared.AnswerAndRing.{AnswerAndRing}
 use Rattle.kill_ring.specs.declared.Action.{Action}
 use Rattle.kill_ring.specs.declared.Action.the-variants.{Kill, Yank, Other}
 use Rattle.kill_ring.specs.declared.Mode.the-variants.{Append, Prepend}
@@ -137,21 +137,21 @@ abbrev pub ringOf : KillRing → Ring
 ringOf r = record { size = r .size; count = length (r .slots); index = r .index; action = actionNumber (r .action); yanked = yankSize (r .action) }
 
 -- the answer, and the ring's record afterwards: a refusal leaves it as it was
-abbrev pub leftOf : Ring → Outcome KillRing → Left
-leftOf r (refused k) = record { answer = says k 0 0; ring = r }
-leftOf r (answered k slot size v) = record { answer = says k slot size; ring = ringOf v }
+abbrev pub answerAndRing : Ring → Outcome KillRing → AnswerAndRing
+answerAndRing r (refused k) = record { answer = says k 0 0; ring = r }
+answerAndRing r (answered k slot size v) = record { answer = says k slot size; ring = ringOf v }
 
 -- the slots from number i on stand in the buffers
-unfoldable pub Held : List ℕ → List ℕ → ℕ → List (List ℕ) → Type 0
-Held slots lens i [] = Unit {0}
-Held slots lens i (s ∷ ss) = (lenAt lens i ≡ length s) × (take (length s) (drop (4096 * i) slots) ≡ s) × Held slots lens (suc i) ss
+unfoldable pub SlotsIn : List ℕ → List ℕ → ℕ → List (List ℕ) → Type 0
+SlotsIn slots lens i [] = Unit {0}
+SlotsIn slots lens i (s ∷ ss) = (lenAt lens i ≡ length s) × (take (length s) (drop (4096 * i) slots) ≡ s) × SlotsIn slots lens (suc i) ss
 
 -- a refusal changes no byte. The bytes past the slots' used lengths after an answer are the program's own: that the buffers keep their lengths is all that is said of them
 abbrev pub Bytes : Lent → Outcome KillRing → List ℕ → List ℕ → Type 0
 Bytes l (refused k) slots lens = (slots ≡ l .slots) × (lens ≡ l .lens)
-Bytes l (answered k slot size v) slots lens = Held slots lens 0 (v .slots)
+Bytes l (answered k slot size v) slots lens = SlotsIn slots lens 0 (v .slots)
 
 -- the contract of a kill: the whole answer with the ring's record, and both buffers
-pub record Ringed (l : Lent) (o : Outcome KillRing) (r : Left) (slots lens : List ℕ) : Type 0 where
-  pub left : r ≡ leftOf (l .ring) o
+pub record Ringed (l : Lent) (o : Outcome KillRing) (r : AnswerAndRing) (slots lens : List ℕ) : Type 0 where
+  pub whole : r ≡ answerAndRing (l .ring) o
   pub bytes : Bytes l o slots lens

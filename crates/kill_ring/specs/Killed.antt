@@ -26,5 +26,5 @@ killedInto r i = record { size = r .size; count = cond (eqb i (r .count)) (r .co
 -- text stands in slot i, and the other slots' bytes are as they were
 pub record Put (slots : List ℕ) (i : ℕ) (text left : List ℕ) : Type 0 where
   pub before : take (4096 * i) left ≡ take (4096 * i) slots
-  pub held : take (length text) (drop (4096 * i) left) ≡ text
+  pub stands : take (length text) (drop (4096 * i) left) ≡ text
   pub behind : drop (4096 * i + 4096) left ≡ drop (4096 * i + 4096) slots

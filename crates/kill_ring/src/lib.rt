@@ -7,7 +7,7 @@ ghost use lib.ListN.{length, take, drop};
 ghost use Rattle.unicode.specs.Repertoire.{catalogue};
 ghost use Rattle.buffer.specs.Edit.{inserted};
 ghost use Rattle.kill_ring.specs.Calls.{lent, lenAt, slotsFrom, actionOf, anyOver, inUse, overSizes, indexBreaks, actionBreaks};
-ghost use Rattle.kill_ring.specs.Calls.{anyForeign, damaged, checked, modeOf, says as Calls·says, leftOf, newCall, resetCall};
+ghost use Rattle.kill_ring.specs.Calls.{anyForeign, damaged, checked, modeOf, says as Calls·says, answerAndRing, newCall, resetCall};
 ghost use Rattle.kill_ring.specs.Calls.{yankCall, yankPopCall, killBy, killCall, Ringed};
 ghost use Rattle.kill_ring.specs.Killed.{placeOf, slotOf, usedOf, killedInto, Put};
 use buffer::insert_bytes;
@@ -34,7 +34,7 @@ pub struct RingAnswer {
 }
 
 // A call's answer, and the ring's record afterwards.
-pub struct Left {
+pub struct AnswerAndRing {
     pub answer: RingAnswer,
     pub ring: Ring,
 }
@@ -226,7 +226,7 @@ fn refusal(slots: &[u8], lens: &[u8], ring: Ring, code: bool, foreign: bool) -> 
 }
 
 // A number alone.
-fn says(number: u32, ring: Ring) -> Left
+fn says(number: u32, ring: Ring) -> AnswerAndRing
     ensures { λ r. ⌜ r ≡ record { answer = Calls·says number 0 0; ring = ring } ⌝ }
 {
     let answer = RingAnswer {
@@ -234,7 +234,7 @@ fn says(number: u32, ring: Ring) -> Left
         slot: 0,
         size: 0,
     };
-    Left { answer, ring }
+    AnswerAndRing { answer, ring }
 }
 
 // The ring after an action that is no yank.
@@ -251,7 +251,7 @@ fn with_action(ring: Ring, action: usize) -> Ring
 }
 
 // The answer of a slot and a size, and the ring after that slot was yanked.
-fn yanked(lens: &[u8], ring: Ring, i: usize, size: usize) -> Left
+fn yanked(lens: &[u8], ring: Ring, i: usize, size: usize) -> AnswerAndRing
     requires { ⌜ 2 * i + 2 ≤ length (now lens) ⌝ }
     ensures { λ r. ⌜ r ≡ record {
       answer = Calls·says 0 i size;
@@ -271,12 +271,12 @@ fn yanked(lens: &[u8], ring: Ring, i: usize, size: usize) -> Left
         action: 1,
         yanked: slot_len(lens, i),
     };
-    Left { answer, ring: left }
+    AnswerAndRing { answer, ring: left }
 }
 
 // Wrong answers ruled out: a ring of 17 slots made; the last action kill, so that the first kill would join a slot that is not there.
-pub fn new(ring: Ring, size: usize) -> Left
-    ensures { λ r. ⌜ r ≡ leftOf ring (newCall size) ⌝ }
+pub fn new(ring: Ring, size: usize) -> AnswerAndRing
+    ensures { λ r. ⌜ r ≡ answerAndRing ring (newCall size) ⌝ }
 {
     if 16 < size {
         return says(2, ring);
@@ -292,8 +292,8 @@ pub fn new(ring: Ring, size: usize) -> Left
 }
 
 // Wrong answers ruled out: the slots dropped; the yank's size kept.
-pub fn reset(slots: &[u8], lens: &[u8], ring: Ring) -> Left
-    ensures { λ r. ⌜ r ≡ leftOf ring (resetCall catalogue (lent (now (slots .entry)) (now (lens .entry)) ring)) ⌝ }
+pub fn reset(slots: &[u8], lens: &[u8], ring: Ring) -> AnswerAndRing
+    ensures { λ r. ⌜ r ≡ answerAndRing ring (resetCall catalogue (lent (now (slots .entry)) (now (lens .entry)) ring)) ⌝ }
 {
     let k = refusal(slots, lens, ring, false, false);
     if k != 0 {
@@ -303,8 +303,8 @@ pub fn reset(slots: &[u8], lens: &[u8], ring: Ring) -> Left
 }
 
 // Wrong answers ruled out: 0 where there are no slots; the size of the yank before answered.
-pub fn yank(slots: &[u8], lens: &[u8], ring: Ring) -> Left
-    ensures { λ r. ⌜ r ≡ leftOf ring (yankCall catalogue (lent (now (slots .entry)) (now (lens .entry)) ring)) ⌝ }
+pub fn yank(slots: &[u8], lens: &[u8], ring: Ring) -> AnswerAndRing
+    ensures { λ r. ⌜ r ≡ answerAndRing ring (yankCall catalogue (lent (now (slots .entry)) (now (lens .entry)) ring)) ⌝ }
 {
     let k = refusal(slots, lens, ring, false, false);
     if k != 0 {
@@ -325,8 +325,8 @@ fn previous(index: usize, count: usize) -> usize
 }
 
 // Wrong answers ruled out: 0 where the last action is no yank; the size of the slot that it answers.
-pub fn yank_pop(slots: &[u8], lens: &[u8], ring: Ring) -> Left
-    ensures { λ r. ⌜ r ≡ leftOf ring (yankPopCall catalogue (lent (now (slots .entry)) (now (lens .entry)) ring)) ⌝ }
+pub fn yank_pop(slots: &[u8], lens: &[u8], ring: Ring) -> AnswerAndRing
+    ensures { λ r. ⌜ r ≡ answerAndRing ring (yankPopCall catalogue (lent (now (slots .entry)) (now (lens .entry)) ring)) ⌝ }
 {
     let k = refusal(slots, lens, ring, false, false);
     if k != 0 {
@@ -401,7 +401,7 @@ fn put_text(slots: &mut [u8], i: usize, used: usize, at: usize, text: &[u8])
 }
 
 // kill in a direction.
-fn kill_by(slots: &mut [u8], lens: &mut [u8], ring: Ring, text: &[u8], m: Mode) -> Left
+fn kill_by(slots: &mut [u8], lens: &mut [u8], ring: Ring, text: &[u8], m: Mode) -> AnswerAndRing
     ensures { λ r. ⌜ Ringed (lent (now (slots .entry)) (now (lens .entry)) ring)
         (killBy catalogue (lent (now (slots .entry)) (now (lens .entry)) ring) (now (text .entry)) (ModeCode.Is m))
         r (now (slots .exit)) (now (lens .exit)) ⌝ }
@@ -424,7 +424,7 @@ fn kill_by(slots: &mut [u8], lens: &mut [u8], ring: Ring, text: &[u8], m: Mode) 
 }
 
 // Wrong answers ruled out: a slot of its own for a kill after a kill; a text of 4,097 bytes cut off at 4,096.
-pub fn kill(slots: &mut [u8], lens: &mut [u8], ring: Ring, text: &[u8], mode: u32) -> Left
+pub fn kill(slots: &mut [u8], lens: &mut [u8], ring: Ring, text: &[u8], mode: u32) -> AnswerAndRing
     ensures { λ r. ⌜ Ringed (lent (now (slots .entry)) (now (lens .entry)) ring)
         (killCall catalogue (lent (now (slots .entry)) (now (lens .entry)) ring) (now (text .entry)) mode)
         r (now (slots .exit)) (now (lens .exit)) ⌝ }

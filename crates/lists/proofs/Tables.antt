@@ -11,12 +11,12 @@ abbrev pub allBelow : (ℕ → Bool) → ℕ → Bool
 allBelow f zero = true
 allBelow f (suc n) = f n && allBelow f n
 
-pub split : (a b : Bool) → T (a && b) → T a × T b
-split true b t = (tt, t)
-split false b t = absurd t
+pub and-parts : (a b : Bool) → T (a && b) → T a × T b
+and-parts true b t = (tt, t)
+and-parts false b t = absurd t
 
 pub at-each : (f : ℕ → Bool) (n : ℕ) → T (allBelow f n) → (k : ℕ) → k < n → T (f k)
 at-each f zero t k h = absurd (not-suc-le-zero h)
 at-each f (suc n) t k h =
-    ⊎-elim (λ e. subst (λ (m : ℕ). T (f m)) (sym e) (split (f n) (allBelow f n) t .0))
-    (λ l. at-each f n (split (f n) (allBelow f n) t .1) k l) (eq-or-lt-of-le (le-of-suc-le-suc h))
+    ⊎-elim (λ e. subst (λ (m : ℕ). T (f m)) (sym e) (and-parts (f n) (allBelow f n) t .0))
+    (λ l. at-each f n (and-parts (f n) (allBelow f n) t .1) k l) (eq-or-lt-of-le (le-of-suc-le-suc h))

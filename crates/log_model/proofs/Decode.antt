@@ -15,7 +15,7 @@ use Rattle.unicode.specs.Text.{isText}
 use Rattle.log_model.specs.Change.{Edit, Change, begin, end, edit, insert, delete, replace}
 use Rattle.numbers.specs.Numbers.{top, le, numAt}
 use Rattle.formats.specs.declared.Format.{Format}
-use Rattle.log_model.specs.Layout.{kindOf, recordOf, textsOf, encodeRecords, encodeTexts, Small, AllGood, okChange, sizeOf, firstLen}
+use Rattle.log_model.specs.Layout.{kindOf, recordOf, textsOf, encodeRecords, encodeTexts, Representable, AllGood, okChange, sizeOf, firstLen}
 use Rattle.log_model.specs.Layout.{secondLen, textsAt, changeAt, wholeAt, push, isSome, decodeFrom, decodeAt, decode}
 use Rattle.numbers.proofs.Numbers.{length-le, num-le}
 
@@ -318,7 +318,7 @@ pub record Reads (F : Format) (c : Change) (rs ts : List ℕ) (at t : ℕ) : Typ
   pub texts : textsAt F rs at (getD rs at 0) ≡ length (textsOf c)
   pub change : changeAt F rs ts at t (getD rs at 0) ≡ c
 
-pub reads : (F : Format) (c : Change) (p q rest trest : List ℕ) (at t : ℕ) → length p ≡ at → length q ≡ t → Small (F .width) c
+pub reads : (F : Format) (c : Change) (p q rest trest : List ℕ) (at t : ℕ) → length p ≡ at → length q ≡ t → Representable (F .width) c
     → Reads F c (p ++ (recordOf F c ++ rest)) (q ++ (textsOf c ++ trest)) at t
 reads F begin p q rest trest at t e f h =
     let k = getD-at p 1 rest 0 at e in
@@ -372,7 +372,7 @@ NumbersAt F (insert a s) rs at = (numAt (F .width) rs (at + 1) ≡ a) × (firstL
 NumbersAt F (delete a s) rs at = (numAt (F .width) rs (at + 1) ≡ a) × (firstLen F rs at ≡ length s)
 NumbersAt F (replace a s u) rs at = (numAt (F .width) rs (at + 1) ≡ a) × (firstLen F rs at ≡ length s) × (secondLen F rs at ≡ length u)
 
-pub numbers-at : (F : Format) (x : Edit) (p rest : List ℕ) (at : ℕ) → length p ≡ at → Small (F .width) (edit x) → NumbersAt F x (p ++ (recordOf F (edit x) ++ rest)) at
+pub numbers-at : (F : Format) (x : Edit) (p rest : List ℕ) (at : ℕ) → length p ≡ at → Representable (F .width) (edit x) → NumbersAt F x (p ++ (recordOf F (edit x) ++ rest)) at
 numbers-at F (insert a s) p rest at e h =
     let w = F .width in
     rw (append-assoc (le w a) (le w (length s)) rest) (nums2 w (3 + F .offset) a (length s) at p rest e (h .0) (h .1))

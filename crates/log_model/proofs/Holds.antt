@@ -11,7 +11,7 @@ use Rattle.unicode.specs.Repertoire.{Repertoire}
 use Rattle.log_model.specs.Change.{Change}
 use Rattle.formats.specs.declared.Format.{Format}
 use Rattle.log_model.specs.Layout.{recordOf, textsOf, encodeRecords, encodeTexts, Good, AllGood, Layout}
-use Rattle.log_model.specs.Hold.{Holds}
+use Rattle.log_model.specs.Holds.{Holds}
 
 -- ---- lists of changes one behind the other
 pub records-append : (F : Format) (xs ys : List Change) → encodeRecords F (xs ++ ys) ≡ encodeRecords F xs ++ encodeRecords F ys
@@ -206,23 +206,23 @@ module _ (R : Repertoire) (F : Format) where
       c′ : List ℕ
       c′ = encodeTexts rs
 
-      split : encodeRecords F us ≡ a ++ b
-      split = ap (encodeRecords F) parts ∙ records-append F (take n us) (drop n us)
+      records-parts : encodeRecords F us ≡ a ++ b
+      records-parts = ap (encodeRecords F) parts ∙ records-append F (take n us) (drop n us)
 
-      split′ : encodeTexts us ≡ a′ ++ b′
-      split′ = ap encodeTexts parts ∙ texts-append (take n us) (drop n us)
+      texts-parts : encodeTexts us ≡ a′ ++ b′
+      texts-parts = ap encodeTexts parts ∙ texts-append (take n us) (drop n us)
 
       whole : take (ur + rr) rb ≡ (a ++ b) ++ c
-      whole = h .both .records ∙ records-append F us rs ∙ ap (λ (l : List ℕ). l ++ c) split
+      whole = h .both .records ∙ records-append F us rs ∙ ap (λ (l : List ℕ). l ++ c) records-parts
 
       whole′ : take (ut + rt) tb ≡ (a′ ++ b′) ++ c′
-      whole′ = h .both .texts ∙ texts-append us rs ∙ ap (λ (l : List ℕ). l ++ c′) split′
+      whole′ = h .both .texts ∙ texts-append us rs ∙ ap (λ (l : List ℕ). l ++ c′) texts-parts
 
       front-end : ur ≡ length (a ++ b)
-      front-end = h .records ∙ ap length split
+      front-end = h .records ∙ ap length records-parts
 
       front-end′ : ut ≡ length (a′ ++ b′)
-      front-end′ = h .texts ∙ ap length split′
+      front-end′ = h .texts ∙ ap length texts-parts
 
       er : rr ≡ length c
       er = omega (arith, sym (length-take-le (ur + rr) rb (h .room)) ∙ ap length whole ∙ length-append (a ++ b) c, front-end)

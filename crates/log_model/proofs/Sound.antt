@@ -12,7 +12,7 @@ use borrow.Author.Tests.{eqb-true, eqb-false}
 use Rattle.unicode.specs.Repertoire.{Repertoire}
 use Rattle.log_model.specs.Change.{Change}
 use Rattle.formats.specs.declared.Format.{Format}
-use Rattle.log_model.specs.Layout.{recordOf, textsOf, Small, okChange, Layout, sizeOf, firstLen, secondLen, textsAt, changeAt, wholeAt, push, decodeAt, decode}
+use Rattle.log_model.specs.Layout.{recordOf, textsOf, Representable, okChange, Layout, sizeOf, firstLen, secondLen, textsAt, changeAt, wholeAt, push, decodeAt, decode}
 use Rattle.numbers.proofs.Numbers.{Bytes, num-small, le-num}
 use Rattle.log_model.proofs.Decode.{size-begin, size-end, size-insert, size-delete, size-replace, texts-begin, texts-end}
 use Rattle.log_model.proofs.Decode.{texts-insert, texts-delete, texts-replace, change-begin, change-end, change-insert}
@@ -104,16 +104,16 @@ module _ (F : Format) (rs ts : List ℕ) (at t k : ℕ) where
   written-texts (is-replace e) = rw (change-replace F rs ts at t k e, texts-replace F rs at k e) (sym (cut ts t (firstLen F rs at) (secondLen F rs at)))
 
   -- its numbers fit
-  pub written-small : KindIs F k → Bytes rs → t + textsAt F rs at k ≤ length ts → Small (F .width) (changeAt F rs ts at t k)
-  written-small (is-begin e) b i = rw (change-begin F rs ts at t k e) tt
-  written-small (is-end e) b i = rw (change-end F rs ts at t k e) tt
-  written-small (is-insert e) b i =
+  pub written-representable : KindIs F k → Bytes rs → t + textsAt F rs at k ≤ length ts → Representable (F .width) (changeAt F rs ts at t k)
+  written-representable (is-begin e) b i = rw (change-begin F rs ts at t k e) tt
+  written-representable (is-end e) b i = rw (change-end F rs ts at t k e) tt
+  written-representable (is-insert e) b i =
       let m = texts-insert F rs at k e in
       rw (change-insert F rs ts at t k e, text-length ts t (firstLen F rs at) (omega arith)) (num-small (F .width) rs (at + 1) b, num-small (F .width) rs (at + 1 + F .width) b)
-  written-small (is-delete e) b i =
+  written-representable (is-delete e) b i =
       let m = texts-delete F rs at k e in
       rw (change-delete F rs ts at t k e, text-length ts t (firstLen F rs at) (omega arith)) (num-small (F .width) rs (at + 1) b, num-small (F .width) rs (at + 1 + F .width) b)
-  written-small (is-replace e) b i =
+  written-representable (is-replace e) b i =
       let m = texts-replace F rs at k e in
       rw (change-replace F rs ts at t k e, text-length ts t (firstLen F rs at) (omega arith), text-length ts (t + firstLen F rs at) (secondLen F rs at) (omega arith))
       (num-small (F .width) rs (at + 1) b, num-small (F .width) rs (at + 1 + F .width) b, num-small (F .width) rs (at + 1 + F .width + F .width) b)
@@ -172,7 +172,7 @@ module _ (R : Repertoire) (F : Format) (rs ts : List ℕ) where
             records = sym (take-append-drop n (drop at rs)) ∙ ap₂ _++_
                 (sym (written F rs ts at t k is refl b (q .body) (q .room)) ∙ ap (recordOf F) (p .0)) (drop-drop n at rs ∙ r .records);
             texts = sym (take-append-drop m (drop t ts)) ∙ ap₂ _++_ (sym (written-texts F rs ts at t k is) ∙ ap textsOf (p .0)) (drop-drop m t ts ∙ r .texts);
-            good = ((subst (Small (F .width)) (p .0) (written-small F rs ts at t k is b (q .room)), ap (okChange R) (sym (p .0)) ∙ q .fine), r .good);
+            good = ((subst (Representable (F .width)) (p .0) (written-representable F rs ts at t k is b (q .room)), ap (okChange R) (sym (p .0)) ∙ q .fine), r .good);
           }
 
       go : IH → (x : Bool) → eqb at (length rs) ≡ x → (y : Bool) → wholeAt R F rs ts at t ≡ y → Layout R F (drop at rs) (drop t ts) (c ∷ cs)

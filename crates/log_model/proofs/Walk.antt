@@ -9,7 +9,7 @@ use lib.Seq.{split-at, take-suc, take-all}
 use Rattle.lists.proofs.Bools.{by-less}
 use Rattle.unicode.specs.Repertoire.{Repertoire}
 use Rattle.log_model.specs.Change.{Change, begin}
-use Rattle.log_model.specs.Hold.{Listed}
+use Rattle.log_model.specs.Holds.{Listed}
 use Rattle.formats.specs.declared.Format.{Format}
 use Rattle.log_model.specs.Layout.{kindOf, recordOf, textsOf, encodeRecords, encodeTexts, okChange, Layout, sizeOf, textsAt}
 use Rattle.log_model.proofs.Decode.{Whole, Reads, reads, record-pos}

@@ -46,12 +46,12 @@ encodeTexts [] = []
 encodeTexts (c ∷ cs) = textsOf c ++ encodeTexts cs
 
 -- the change's numbers fit w bytes
-abbrev pub Small : ℕ → Change → Type 0
-Small w begin = Unit {0}
-Small w end = Unit {0}
-Small w (edit (insert p s)) = (p < top w) × (length s < top w)
-Small w (edit (delete p s)) = (p < top w) × (length s < top w)
-Small w (edit (replace p o n)) = (p < top w) × (length o < top w) × (length n < top w)
+abbrev pub Representable : ℕ → Change → Type 0
+Representable w begin = Unit {0}
+Representable w end = Unit {0}
+Representable w (edit (insert p s)) = (p < top w) × (length s < top w)
+Representable w (edit (delete p s)) = (p < top w) × (length s < top w)
+Representable w (edit (replace p o n)) = (p < top w) × (length o < top w) × (length n < top w)
 
 module _ (R : Repertoire) where
   -- each text is in the repertoire
@@ -63,7 +63,7 @@ module _ (R : Repertoire) where
   okChange (edit (replace p o n)) = isText R o && isText R n
 
   abbrev pub Good : ℕ → Change → Type 0
-  Good w c = Small w c × (okChange c ≡ true)
+  Good w c = Representable w c × (okChange c ≡ true)
 
   abbrev pub AllGood : ℕ → List Change → Type 0
   AllGood w [] = Unit {0}

@@ -2,5 +2,5 @@ pub mod Change
 pub mod Recording
 pub mod Groups
 pub mod Layout
-pub mod Hold
+pub mod Holds
 pub mod UndoBytes

@@ -23,20 +23,20 @@ pub record Sizes : Type 0 where
   pub texts : ℕ
 
 -- the numbers of a record fit w bytes
-abbrev pub small : ℕ → Change → Bool
-small w begin = true
-small w end = true
-small w (edit (insert p s)) = ltb p (top w) && ltb (length s) (top w)
-small w (edit (delete p s)) = ltb p (top w) && ltb (length s) (top w)
-small w (edit (replace p o n)) = ltb p (top w) && (ltb (length o) (top w) && ltb (length n) (top w))
+abbrev pub numbersFit : ℕ → Change → Bool
+numbersFit w begin = true
+numbersFit w end = true
+numbersFit w (edit (insert p s)) = ltb p (top w) && ltb (length s) (top w)
+numbersFit w (edit (delete p s)) = ltb p (top w) && ltb (length s) (top w)
+numbersFit w (edit (replace p o n)) = ltb p (top w) && (ltb (length o) (top w) && ltb (length n) (top w))
 
-unfoldable pub allSmall : ℕ → List Change → Bool
-allSmall w [] = true
-allSmall w (c ∷ u) = small w c && allSmall w u
+unfoldable pub allNumbersFit : ℕ → List Change → Bool
+allNumbersFit w [] = true
+allNumbersFit w (c ∷ u) = numbersFit w c && allNumbersFit w u
 
 -- an undo list fits buffers of these lengths, the redo list dropped
 unfoldable pub fits : Format → Sizes → List Change → Bool
-fits F z u = allSmall (F .width) u && (leb (length (undoRecords F u)) (z .records) && leb (length (undoTexts u)) (z .texts))
+fits F z u = allNumbersFit (F .width) u && (leb (length (undoRecords F u)) (z .records) && leb (length (undoTexts u)) (z .texts))
 
 -- ---- last_insert: where the text that it finds stands in the undo list's texts
 abbrev pub Places : Type 0

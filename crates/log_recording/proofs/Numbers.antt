@@ -12,7 +12,7 @@ use Rattle.unicode.proofs.Text.{text-nil}
 use Rattle.log_model.specs.Change.{Edit, insert, delete, replace, Change, begin, end, edit, place, old, new}
 use Rattle.numbers.specs.Numbers.{top}
 use Rattle.formats.specs.declared.Format.{Format}
-use Rattle.log_model.specs.Layout.{recordOf, textsOf, Small, okChange, AllGood}
+use Rattle.log_model.specs.Layout.{recordOf, textsOf, Representable, okChange, AllGood}
 use Rattle.log_model.specs.UndoBytes.{undoRecords, undoTexts}
 use Rattle.numbers.proofs.Numbers.{length-le}
 use Rattle.log_model.proofs.UndoBytes.{texts-size}
@@ -56,15 +56,15 @@ module _ (R : Repertoire) where
   texts-ok (replace p o n) e f = rw (e, f)
 
 -- its numbers fit w bytes
-pub small-edit : (w : ℕ) (x : Edit) → place x < top w → length (old x) < top w → length (new x) < top w → Small w (edit x)
-small-edit w (insert p s) a b c = (a, c)
-small-edit w (delete p s) a b c = (a, b)
-small-edit w (replace p o n) a b c = (a, b, c)
+pub representable-edit : (w : ℕ) (x : Edit) → place x < top w → length (old x) < top w → length (new x) < top w → Representable w (edit x)
+representable-edit w (insert p s) a b c = (a, c)
+representable-edit w (delete p s) a b c = (a, b)
+representable-edit w (replace p o n) a b c = (a, b, c)
 
-pub small-place : (w : ℕ) (x : Edit) → Small w (edit x) → place x < top w
-small-place w (insert p s) h = h .0
-small-place w (delete p s) h = h .0
-small-place w (replace p o n) h = h .0
+pub representable-place : (w : ℕ) (x : Edit) → Representable w (edit x) → place x < top w
+representable-place w (insert p s) h = h .0
+representable-place w (delete p s) h = h .0
+representable-place w (replace p o n) h = h .0
 
 -- ---- the tail of a list
 module _ (F : Format) where
@@ -100,4 +100,4 @@ module _ (F : Format) where
   tail-place R [] h z = z
   tail-place R (begin ∷ u) h z = z
   tail-place R (end ∷ u) h z = z
-  tail-place R (edit x ∷ u) h z = small-place (F .width) x (h .0 .0)
+  tail-place R (edit x ∷ u) h z = representable-place (F .width) x (h .0 .0)

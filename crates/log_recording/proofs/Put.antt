@@ -18,7 +18,7 @@ use Rattle.numbers.specs.Numbers.{top}
 use Rattle.formats.specs.declared.Format.{Format}
 use Rattle.log_model.specs.Layout.{recordOf, encodeRecords, encodeTexts, okChange, AllGood, Layout}
 use Rattle.log_model.specs.Recording.{apart, joinIf, onJoined, note}
-use Rattle.log_model.specs.Hold.{Holds}
+use Rattle.log_model.specs.Holds.{Holds}
 use Rattle.log_model.specs.UndoBytes.{undoRecords, undoTexts, Sizes, fits}
 use Rattle.log_model.proofs.Holds.{front, holds-alone}
 use Rattle.log_model.proofs.UndoBytes.{records-cons, texts-cons, records-size, texts-size, good-newest, good-oldest, fits-yes, full-records, full-texts, full-place}
@@ -28,7 +28,7 @@ use Rattle.log_records.specs.Records.{kindNumber}
 use Rattle.log_recording.specs.Tails.{tailOf, noted, Wrote}
 use Rattle.log_recording.specs.declared.Tail.{Tail}
 use Rattle.log_recording.specs.declared.Noted.{Noted}
-use Rattle.log_recording.proofs.Numbers.{record-bytes, record-size, texts-are, ok-texts, texts-ok, small-edit, tail-edit, tail-records, tail-texts}
+use Rattle.log_recording.proofs.Numbers.{record-bytes, record-size, texts-are, ok-texts, texts-ok, representable-edit, tail-edit, tail-records, tail-texts}
 
 -- the change x makes u′ of u, and n are the numbers of it
 pub record Put (F : Format) (x : Edit) (u u′ : List Change) (n : Noted) : Type 0 where
@@ -235,7 +235,7 @@ module _ (F : Format) (x : Edit) (u u′ : List Change) (n : Noted) (q : Put F x
       → n .tail .texts < top (F .width) → AllGood R (F .width) u′
   put-good R a o p t = subst (AllGood R (F .width)) (sym (q .is)) (
     (
-      small-edit (F .width) (q .head) (omega (arith, put-place))
+      representable-edit (F .width) (q .head) (omega (arith, put-place))
           (omega (arith, inside)) (omega (arith, inside)),
       g .0,
     ),

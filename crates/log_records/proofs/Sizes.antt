@@ -1,4 +1,4 @@
--- The size of each record noted at the record's last byte, while a walk passes the records. Assumes nothing.
+-- The size of each record written at the record's last byte, while a walk passes the records. Assumes nothing.
 use Prim.Native.Nat.{ℕ, _+_, _-_, _≤_, _<_}
 use native.Mathlib.Omega.{arith}
 use mathlib.Core.Path.{_≡_, refl, sym, ap, subst, _∙_}
@@ -18,8 +18,8 @@ use Rattle.log_model.proofs.Walk.{Next, Come, come-start, come-next}
 use Rattle.log_records.specs.Walks.{SizesOf}
 
 -- what is kept of the changes us: their number, and their records' sizes
-abbrev pub NotedOf : Format → ℕ → List ℕ → List Change → Type 0
-NotedOf F i sizes us = (i ≡ length us) × SizesOf F sizes (reverse us)
+abbrev pub WrittenOf : Format → ℕ → List ℕ → List Change → Type 0
+WrittenOf F i sizes us = (i ≡ length us) × SizesOf F sizes (reverse us)
 
 -- a byte stored behind the records of u
 pub sizes-kept : (F : Format) (sizes : List ℕ) (p v : ℕ) (u : List Change) → length (undoRecords F u) ≤ p → SizesOf F sizes u → SizesOf F (set sizes p v) u
@@ -39,8 +39,8 @@ module _ (F : Format) (rs sizes : List ℕ) (at n : ℕ) (us : List Change) (c :
   newest = omega (arith, records-size F c (reverse us), ap length (undo-reverse F us), x .place, bytes-are)
 
   -- the record's size is stored at its last byte
-  noted-more : (i : ℕ) → NotedOf F i sizes us → NotedOf F (i + 1) (set sizes (at + n - 1) n) (us ++ (c ∷ []))
-  noted-more i h =
+  written-more : (i : ℕ) → WrittenOf F i sizes us → WrittenOf F (i + 1) (set sizes (at + n - 1) n) (us ++ (c ∷ []))
+  written-more i h =
       let k = record-pos F c in
       let z = bytes-are in (
         simp length-append (omega (arith, h .0)),
@@ -51,11 +51,11 @@ module _ (F : Format) (rs sizes : List ℕ) (at n : ℕ) (us : List Change) (c :
       )
 
 module _ (R : Repertoire) (F : Format) (rs : List ℕ) where
-  pub noted-none : (sizes : List ℕ) → Come R F rs 0 (NotedOf F 0 sizes)
-  noted-none sizes = come-start R F rs (NotedOf F 0 sizes) (refl, tt)
+  pub written-none : (sizes : List ℕ) → Come R F rs 0 (WrittenOf F 0 sizes)
+  written-none sizes = come-start R F rs (WrittenOf F 0 sizes) (refl, tt)
 
   -- a record of n bytes is passed
-  pub noted-on : (at i n : ℕ) (sizes : List ℕ) → at < length rs → n ≡ sizeOf F (getD rs at 0) → at + n ≤ length sizes → Come R F rs at (NotedOf F i sizes)
-      → Come R F rs (at + n) (NotedOf F (i + 1) (set sizes (at + n - 1) n))
-  noted-on at i n sizes h e l =
-      come-next R F rs at n (NotedOf F i sizes) (NotedOf F (i + 1) (set sizes (at + n - 1) n)) h e (λ us c x. noted-more F rs sizes at n us c x e l i)
+  pub written-on : (at i n : ℕ) (sizes : List ℕ) → at < length rs → n ≡ sizeOf F (getD rs at 0) → at + n ≤ length sizes → Come R F rs at (WrittenOf F i sizes)
+      → Come R F rs (at + n) (WrittenOf F (i + 1) (set sizes (at + n - 1) n))
+  written-on at i n sizes h e l =
+      come-next R F rs at n (WrittenOf F i sizes) (WrittenOf F (i + 1) (set sizes (at + n - 1) n)) h e (λ us c x. written-more F rs sizes at n us c x e l i)

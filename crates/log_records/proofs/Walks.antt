@@ -13,7 +13,7 @@ use Rattle.unicode.specs.Repertoire.{Repertoire}
 use Rattle.log_model.specs.Change.{Change, begin, end, edit, insert, delete, replace}
 use Rattle.formats.specs.declared.Format.{Format}
 use Rattle.log_model.specs.Layout.{encodeTexts, textsOf, sizeOf, textsAt}
-use Rattle.log_model.specs.Hold.{Listed}
+use Rattle.log_model.specs.Holds.{Listed}
 use Rattle.log_model.specs.Groups.{isBegin, isEnd}
 use Rattle.log_model.specs.UndoBytes.{undoRecords}
 use Rattle.log_model.proofs.Holds.{texts-snoc}
@@ -43,7 +43,7 @@ module _ (F : Format) where
 
 -- ---- no change
 abbrev pub newest : ℕ → ℕ → ℕ → ℕ → ℕ → Newest
-newest c l b o s = record { count = c; last = l; begins = b; opened = o; shown = s }
+newest c l b o s = record { count = c; last = l; begins = b; begun = o; inside = s }
 
 newest-nil : (F : Format) → newest 0 0 0 0 0 ≡ newestOf F []
 newest-nil F = sym (rw (passed-nil isBegin, passed-nil isEnd, undo-nil F))
@@ -64,11 +64,11 @@ module _ (R : Repertoire) (F : Format) (rs : List ℕ) where
 
 -- ---- a record more, by its kind k
 module _ (k at next : ℕ) (n : Newest) where
-  pub pass-begin : k ≡ 1 → newest (n .count + 1) at (n .begins + 1) (n .opened) at ≡ passing k at next n
+  pub pass-begin : k ≡ 1 → newest (n .count + 1) at (n .begins + 1) (n .begun) at ≡ passing k at next n
   unfolding passing
   pass-begin e = simp (eq-eqb k 1 e, ne-eqb k 2 (λ x. omega arith))
 
-  pub pass-end : (k ≡ 1 → ⊥) → k ≡ 2 → newest (n .count + 1) at 0 next (n .shown) ≡ passing k at next n
+  pub pass-end : (k ≡ 1 → ⊥) → k ≡ 2 → newest (n .count + 1) at 0 next (n .inside) ≡ passing k at next n
   unfolding passing
   pass-end f e = simp (ne-eqb k 1 f, eq-eqb k 2 e)
 

@@ -25,8 +25,8 @@ newestOf F u =
       count = length u;
       last = length (undoRecords F (drop 1 u));
       begins = length u - length (passed isBegin u);
-      opened = length (undoRecords F (passed isBegin u));
-      shown = length (undoRecords F (drop 1 (passed isEnd u)));
+      begun = length (undoRecords F (passed isBegin u));
+      inside = length (undoRecords F (drop 1 (passed isEnd u)));
     }
 
 -- a record more, of the kind k, from at up to next
@@ -36,8 +36,8 @@ passing k at next n =
       count = n .count + 1;
       last = at;
       begins = cond (eqb k 1) (n .begins + 1) 0;
-      opened = cond (eqb k 1) (n .opened) next;
-      shown = cond (eqb k 2) (n .shown) at;
+      begun = cond (eqb k 1) (n .begun) next;
+      inside = cond (eqb k 2) (n .inside) at;
     }
 
 -- at the last byte of each record of a list, newest first, stands the record's size
@@ -59,5 +59,5 @@ module _ (R : Repertoire) (F : Format) (rs : List ℕ) where
   NewestAt r = (ts : List ℕ) (us : List Change) → Layout R F rs ts us → r ≡ newestOf F (reverse us)
 
   -- how many records they are, and their sizes
-  abbrev pub SizesNoted : ℕ → List ℕ → Type 0
-  SizesNoted count sizes = (ts : List ℕ) (us : List Change) → Layout R F rs ts us → (count ≡ length us) × SizesOf F sizes (reverse us)
+  abbrev pub SizesWritten : ℕ → List ℕ → Type 0
+  SizesWritten count sizes = (ts : List ℕ) (us : List Change) → Layout R F rs ts us → (count ≡ length us) × SizesOf F sizes (reverse us)

@@ -8,11 +8,11 @@ ghost use lib.Seq.{sets};
 ghost use Rattle.unicode.specs.Repertoire.{catalogue};
 ghost use Rattle.unicode.specs.Text.{isText};
 ghost use Rattle.log_model.specs.Layout.{sizeOf, decode, isSome};
-ghost use Rattle.log_model.specs.Hold.{Listed};
+ghost use Rattle.log_model.specs.Holds.{Listed};
 ghost use Rattle.formats.specs.Formats.{Fit, recordsMax};
 ghost use Rattle.log_records.specs.Records.{noRecord, Read};
 ghost use Rattle.log_records.specs.Check.{areTextsAt};
-ghost use Rattle.log_records.specs.Walks.{Walks, LastAt, NewestAt, passing, SizesNoted};
+ghost use Rattle.log_records.specs.Walks.{Walks, LastAt, NewestAt, passing, SizesWritten};
 ghost use Rattle.log_records.specs.Written.{recordBytes, editSize};
 use formats::Format;
 use numbers::read_num;
@@ -144,14 +144,14 @@ fn are_texts_at(texts: &[u8], t: usize, old: usize, new: usize) -> bool
     is_boundary(texts, t + old)
 }
 
-// A list by its records: how many they are, where the newest begins, how many Begins stand last and where the first of those
-// begins, where the newest that is no End begins.
+// A list by its records: how many they are and where the newest begins; how many Begins stand last and where the first of them
+// begins (begun); where the newest that is no End begins (inside).
 pub struct Newest {
     pub count: usize,
     pub last: usize,
     pub begins: usize,
-    pub opened: usize,
-    pub shown: usize,
+    pub begun: usize,
+    pub inside: usize,
 }
 
 impl Newest {
@@ -166,8 +166,8 @@ impl Newest {
                 count,
                 last: at,
                 begins: self.begins + 1,
-                opened: self.opened,
-                shown: at,
+                begun: self.begun,
+                inside: at,
             };
         }
         if kind == 2 {
@@ -175,16 +175,16 @@ impl Newest {
                 count,
                 last: at,
                 begins: 0,
-                opened: next,
-                shown: self.shown,
+                begun: next,
+                inside: self.inside,
             };
         }
         Newest {
             count,
             last: at,
             begins: 0,
-            opened: next,
-            shown: at,
+            begun: next,
+            inside: at,
         }
     }
 }
@@ -206,8 +206,8 @@ pub fn check_list(f: Format, records: &[u8], texts: &[u8]) -> Looked
         count: 0,
         last: 0,
         begins: 0,
-        opened: 0,
-        shown: 0,
+        begun: 0,
+        inside: 0,
     };
     if !check_text(texts) {
         return Looked {
@@ -300,13 +300,13 @@ pub fn last_start(f: Format, records: &[u8]) -> usize
     last
 }
 
-// The size of each record of a list, noted at the record's last byte, so that the list can be walked from its newest record:
+// The size of each record of a list, written down at the record's last byte, so that the list can be walked from its newest record:
 // one pass. Answers the number of records.
-pub fn note_sizes(f: Format, records: &[u8], sizes: &mut [u8]) -> usize
+pub fn write_sizes(f: Format, records: &[u8], sizes: &mut [u8]) -> usize
     requires { ⌜ Fit f ⌝ }
     requires { ⌜ Listed catalogue f (now records) ⌝ }
     requires { ⌜ length (now records) ≤ length (now sizes) ⌝ }
-    ensures { λ r. ⌜ SizesNoted catalogue f (now (records .entry)) r (now (sizes .exit)) ⌝ }
+    ensures { λ r. ⌜ SizesWritten catalogue f (now (records .entry)) r (now (sizes .exit)) ⌝ }
 {
     let mut count: usize = 0;
     let mut at: usize = 0;

@@ -12,7 +12,7 @@ use Rattle.checks.proofs.Outcomes.{called-refused, called-passed}
 use Rattle.log_model.specs.Change.{Change, turn}
 use Rattle.formats.specs.declared.Format.{Format}
 use Rattle.log_model.specs.Layout.{encodeRecords, encodeTexts}
-use Rattle.log_model.specs.Hold.{Holds}
+use Rattle.log_model.specs.Holds.{Holds}
 use Rattle.log_model.specs.Groups as groups
 use Rattle.log_model.specs.UndoBytes.{fits}
 use Rattle.log_model.proofs.Holds.{records-append, texts-append}
@@ -67,17 +67,17 @@ module _ (R : Repertoire) (F : Format) (rb tb : List ℕ) (a b c d v : ℕ) (u r
   redo-texts = omega (arith, long-texts, h .texts, ap length (texts-append (reverse u) (map turn r)), length-append (encodeTexts (reverse u)) (encodeTexts (map turn r)))
 
   -- its state is its used lengths, and its bytes are in the used parts
-  pub held-state : state a b c d v ≡ logOf F (record { undo = u; redo = r; level = v })
-  held-state =
+  pub holds-state : state a b c d v ≡ logOf F (record { undo = u; redo = r; level = v })
+  holds-state =
       ap₂ (λ (x y : ℕ). state x y c d v) (h .records) (h .texts)
       ∙ ap₂ (λ (x y : ℕ). state (length (encodeRecords F (reverse u))) (length (encodeTexts (reverse u))) x y v) redo-records redo-texts
 
-  pub held-bytes : Stored F (record { undo = u; redo = r; level = v }) rb tb
-  held-bytes = record { records = ap (λ (n : ℕ). take n rb) (sym long) ∙ h .both .records; texts = ap (λ (n : ℕ). take n tb) (sym long-texts) ∙ h .both .texts }
+  pub holds-bytes : Stored F (record { undo = u; redo = r; level = v }) rb tb
+  holds-bytes = record { records = ap (λ (n : ℕ). take n rb) (sym long) ∙ h .both .records; texts = ap (λ (n : ℕ). take n tb) (sym long-texts) ∙ h .both .texts }
 
   pub answers : (l : Lent) (k i j : ℕ) → Logged F l (answered k i j (record { undo = u; redo = r; level = v }))
       (record { number = k; from = i; to = j; log = state a b c d v }) rb tb
-  answers l k i j = record { answer = ap (λ (g : Log). record { number = k; from = i; to = j; log = g }) held-state; bytes = held-bytes }
+  answers l k i j = record { answer = ap (λ (g : Log). record { number = k; from = i; to = j; log = g }) holds-state; bytes = holds-bytes }
 
 -- ---- a list that is recorded, or does not fit
 module _ (R : Repertoire) (F : Format) (l : Lent) (u : List Change) (g : groups.Log) where

@@ -12,7 +12,7 @@ use Rattle.log_model.specs.Change.{Change, begin, end, edit, insert, delete, re
 use Rattle.formats.specs.Formats.{formatFor, logFormat}
 use Rattle.log_model.specs.Recording.{note, recordInsert, recordInsertStr, recordDelete, recordReplace}
 use Rattle.log_model.specs.Groups.{Log, empty, endAll, endsAny}
-use Rattle.log_model.specs.UndoBytes.{Sizes, undoRecords, undoTexts, allSmall, fits, lastInsertAt}
+use Rattle.log_model.specs.UndoBytes.{Sizes, undoRecords, undoTexts, allNumbersFit, fits, lastInsertAt}
 use Rattle.log_state.specs.Outcomes.{beginOut, endOut, recordOut, truncateOut, lastInsertOut}
 use Rattle.log_state.specs.Calls.{logOf}
 
@@ -39,16 +39,16 @@ new-empty = refl
 
 -- begin: not 10 while there is space, and its mark is the number of records before it
 begin-fits : (beginOut logFormat (room 1 0) empty ≡ answered 0 0 0 (record { undo = begin ∷ []; redo = []; level = 1 })) × (beginOut logFormat (room 0 0) empty ≡ refused 10)
-unfolding formatFor beginOut fits allSmall undoRecords undoTexts
+unfolding formatFor beginOut fits allNumbersFit undoRecords undoTexts
 begin-fits = (refl, refl)
 
 -- end: the level is reset, and an empty group is not closed by an End
 end-closes : endOut logFormat (room 6 1) (redoable (edit (insert 0 a) ∷ [])) ≡ answered 0 0 0 (record { undo = end ∷ edit (insert 0 a) ∷ []; redo = []; level = 0 })
-unfolding formatFor endOut endAll endsAny fits allSmall undoRecords undoTexts
+unfolding formatFor endOut endAll endsAny fits allNumbersFit undoRecords undoTexts
 end-closes = refl
 
 end-empty : endOut logFormat (room 2 0) (redoable (begin ∷ [])) ≡ answered 1 0 0 empty
-unfolding formatFor endOut endAll endsAny fits allSmall undoRecords undoTexts
+unfolding formatFor endOut endAll endsAny fits allNumbersFit undoRecords undoTexts
 end-empty = refl
 
 -- insert: a letter is merged with the letter before it, a space is not, and not across a Begin
@@ -66,7 +66,7 @@ insert-begin = refl
 
 -- insert_str: of an empty text nothing but the redo list dropped, and no merging
 str-empty : recordOut logFormat (room 1 0) (recordInsertStr 0 [] []) (redoable []) ≡ answered 0 0 0 (record { undo = []; redo = []; level = 1 })
-unfolding formatFor recordOut recordInsertStr fits allSmall undoRecords undoTexts
+unfolding formatFor recordOut recordInsertStr fits allNumbersFit undoRecords undoTexts
 str-empty = refl
 
 str-apart : recordInsertStr 1 b (edit (insert 0 a) ∷ []) ≡ edit (insert 1 b) ∷ edit (insert 0 a) ∷ []

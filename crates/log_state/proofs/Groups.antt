@@ -6,8 +6,8 @@ use mathlib.Core.Bool.{true, false, cond, _||_}
 use mathlib.Core.List.{List, [], _∷_, _++_, map, reverse, reverse-cons, reverse-reverse, reverse-append}
 use mathlib.Core.Option.{Option}
 use lib.Dec.{ltb, eqb}
-use lib.ListN.{length, take, drop, set, replicate, length-append, length-reverse, length-replicate, take-append-drop}
-use lib.Seq.{sets, length-sets, length-take-le, take-take, take-at, take-all}
+use lib.ListN.{length, take, drop, set, replicate, length-append, length-replicate, take-append-drop}
+use lib.Seq.{sets, length-sets, length-take-le, take-take, take-at}
 use borrow.Author.Tests.{lt-ltb, le-ltb, ne-eqb}
 use Rattle.lists.proofs.Stores.{take-sets}
 use Rattle.unicode.specs.Repertoire.{catalogue}
@@ -15,11 +15,10 @@ use Rattle.checks.specs.Outcome.{Outcome, answered}
 use Rattle.log_model.specs.Change.{insert, delete, replace, Change, begin, end, edit, turn}
 use Rattle.formats.specs.declared.Format.{Format}
 use Rattle.log_model.specs.Layout.{encodeRecords, encodeTexts, AllGood, Layout}
-use Rattle.log_model.specs.Hold.{Holds}
+use Rattle.log_model.specs.Holds.{Holds}
 use Rattle.log_model.specs.Groups as groups
 use Rattle.log_model.specs.Groups.{isBegin, isEnd, passed}
 use Rattle.log_model.specs.UndoBytes.{undoRecords, undoTexts, fits, Places, lastInsertAt}
-use Rattle.log_model.proofs.Decode.{records-many}
 use Rattle.log_model.proofs.Holds.{records-append, texts-append, holds-alone, pushed, closed}
 use Rattle.log_model.proofs.UndoBytes.{records-size, texts-size, good-oldest, fits-yes, full-records}
 use Rattle.log_model.proofs.Groups.{run, passed-short, passed-twice, begins-texts, ends-records, ends-texts, good-ends, good-drop, Ended, ended-least, truncated-is, ends-passed}
@@ -33,9 +32,9 @@ use Rattle.buffer.specs.Edit.{cut}
 use Rattle.log_state.specs.declared.Log.{Log}
 use Rattle.log_state.specs.Outcomes.{placesOut, beginOut, endOut, truncateOut, lastInsertOut}
 use Rattle.log_state.specs.Calls.{Lent, sizesOf, says, logOf, answerOf, undos, redos, valueOf, Logged, Ready}
-use Rattle.log_state.proofs.Answers.{state, refuses, answers, held-state}
+use Rattle.log_state.proofs.Answers.{state, refuses, answers, holds-state}
 use Rattle.log_state.proofs.Recorded.{lays, good, holding, records-used, texts-used}
-use Rattle.log_state.proofs.Newest.{EndsAt, begins-are, ShownBy, shown}
+use Rattle.log_state.proofs.Newest.{EndsAt, begins-are, InsideBy, inside}
 
 -- m Begins that stand last are dropped, and k Ends put
 pub record Dropped (F : Format) (l : Lent) (m k : ℕ) : Type 0 where
@@ -215,24 +214,24 @@ module _ (F : Format) (l : Lent) (h : Ready F l) where
         (ap (λ (x : Span). x .records) is-first) (ap (λ (x : Span). x .texts) is-first) c d)) l 0 0 0
 
   -- ---- last_insert
-  now-held : state ur ut (l .log .redo .records) (l .log .redo .texts) (l .log .level) ≡ logOf F (valueOf catalogue F l)
-  now-held =
-      held-state catalogue F (l .records) (l .texts) ur ut (l .log .redo .records) (l .log .redo .texts) (l .log .level) u
+  state-now : state ur ut (l .log .redo .records) (l .log .redo .texts) (l .log .level) ≡ logOf F (valueOf catalogue F l)
+  state-now =
+      holds-state catalogue F (l .records) (l .texts) ur ut (l .log .redo .records) (l .log .redo .texts) (l .log .level) u
       (map turn (redos catalogue F l)) (rw (turned-back (redos catalogue F l)) (holding F l h))
 
   -- the newest record that is no End is r
   module _ (n : Newest) (q : NewestAt catalogue F (take ur (l .records)) n) (r : Record)
-      (x : r ≡ recordAt F (take ur (l .records)) (n .shown)) where
+      (x : r ≡ recordAt F (take ur (l .records)) (n .inside)) where
     abbrev rest : List Change
     rest = passed isEnd u
 
     texts-rest : ut ≡ length (undoTexts rest)
     texts-rest = texts-used F l h ∙ ap length (ends-passed u .1)
 
-    is-shown : ShownBy F r rest
-    is-shown = shown F (take ur (l .records)) n q r x (take ut (l .texts)) us (lays F l h)
+    is-inside : InsideBy F r rest
+    is-inside = inside F (take ur (l .records)) n q r x (take ut (l .texts)) us (lays F l h)
 
-    new-in : (w : List Change) → ShownBy F r w → r .new ≤ length (undoTexts w)
+    new-in : (w : List Change) → InsideBy F r w → r .new ≤ length (undoTexts w)
     new-in [] g = omega (arith, g .1)
     new-in (begin ∷ w) g = omega (arith, ap (λ (z : Record). z .new) g)
     new-in (end ∷ w) g = omega (arith, ap (λ (z : Record). z .new) g)
@@ -242,14 +241,14 @@ module _ (F : Format) (l : Lent) (h : Ready F l) where
         omega (arith, ap (λ (z : Record). z .new) g, texts-size (edit (replace p o s)) w, length-append o s)
 
     pub new-within : r .new ≤ ut
-    new-within = omega (arith, new-in rest is-shown, texts-rest)
+    new-within = omega (arith, new-in rest is-inside, texts-rest)
 
     abbrev told : Outcome groups.Log
     told =
         cond (eqb (r .kind) 3 || eqb (r .kind) 5) (answered 0 (ut - r .new) ut (valueOf catalogue F l))
         (answered 1 0 0 (valueOf catalogue F l))
 
-    answer-is : (w : List Change) → passed isEnd w ≡ w → ut ≡ length (undoTexts w) → ShownBy F r w
+    answer-is : (w : List Change) → passed isEnd w ≡ w → ut ≡ length (undoTexts w) → InsideBy F r w
         → placesOut (lastInsertAt w) (valueOf catalogue F l) ≡ told
     unfolding lastInsertAt passed
     answer-is [] f e g = rw (ne-eqb (r .kind) 3 (λ z. omega (arith, g .0)), ne-eqb (r .kind) 5 (λ z. omega (arith, g .0)))
@@ -270,12 +269,12 @@ module _ (F : Format) (l : Lent) (h : Ready F l) where
     outcome : lastInsertOut (valueOf catalogue F l) ≡ told
     outcome =
         ap (λ (z : Option Places). placesOut z (valueOf catalogue F l)) (ends-passed u .0)
-        ∙ answer-is rest (passed-twice isEnd u) texts-rest is-shown
+        ∙ answer-is rest (passed-twice isEnd u) texts-rest is-inside
 
     pub finds : (eqb (r .kind) 3 || eqb (r .kind) 5) ≡ true
         → record { number = 0; from = ut - r .new; to = ut; log = l .log } ≡ answerOf F l (lastInsertOut (valueOf catalogue F l))
-    finds e = rw (outcome, e) (ap (λ (g : Log). record { number = 0; from = ut - r .new; to = ut; log = g }) now-held)
+    finds e = rw (outcome, e) (ap (λ (g : Log). record { number = 0; from = ut - r .new; to = ut; log = g }) state-now)
 
     pub finds-none : (eqb (r .kind) 3 || eqb (r .kind) 5) ≡ false
         → says 1 (l .log) ≡ answerOf F l (lastInsertOut (valueOf catalogue F l))
-    finds-none e = rw (outcome, e) (ap (says 1) now-held)
+    finds-none e = rw (outcome, e) (ap (says 1) state-now)

@@ -12,7 +12,7 @@ use Rattle.numbers.specs.Numbers.{top}
 use Rattle.formats.specs.declared.Format.{Format}
 use Rattle.log_model.specs.Layout.{okChange, AllGood, Layout}
 use Rattle.log_model.specs.Recording.{note}
-use Rattle.log_model.specs.Hold.{Holds, Listed}
+use Rattle.log_model.specs.Holds.{Holds, Listed}
 use Rattle.log_model.specs.UndoBytes.{undoRecords, undoTexts, fits}
 use Rattle.log_model.proofs.Holds.{front, cleared}
 use Rattle.log_model.proofs.UndoBytes.{good-newest, fits-yes}

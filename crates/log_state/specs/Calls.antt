@@ -16,7 +16,7 @@ use Rattle.formats.specs.declared.Format.{Format}
 use Rattle.formats.specs.Formats.{Fit}
 use Rattle.log_model.specs.Layout.{encodeRecords, encodeTexts, decode}
 use Rattle.log_model.specs.Recording.{recordInsert, recordInsertStr, recordDelete, recordReplace}
-use Rattle.log_model.specs.Hold.{Holds}
+use Rattle.log_model.specs.Holds.{Holds}
 use Rattle.log_model.specs.Groups as groups
 use Rattle.log_model.specs.UndoBytes.{Sizes}
 use Rattle.log_records.specs.Records.{kindNumber}

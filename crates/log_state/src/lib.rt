@@ -12,7 +12,7 @@ ghost use Rattle.cluster.specs.Clusters.{clustersOf};
 ghost use Rattle.checks.specs.Checks.{refusal as Checks·refusal, both, ownTests};
 ghost use Rattle.log_model.specs.Change.{Change, edit};
 ghost use Rattle.log_model.specs.UndoBytes.{undoRecords};
-ghost use Rattle.log_model.specs.Hold.{Listed};
+ghost use Rattle.log_model.specs.Holds.{Listed};
 ghost use Rattle.log_records.specs.Walks.{LastAt, NewestAt};
 ghost use Rattle.numbers.specs.Numbers.{top};
 ghost use Rattle.log_model.specs.Layout.{Layout, okChange};
@@ -135,8 +135,8 @@ pub fn refused(number: u32) -> Checked
             count: 0,
             last: 0,
             begins: 0,
-            opened: 0,
-            shown: 0,
+            begun: 0,
+            inside: 0,
         },
     }
 }
@@ -191,7 +191,7 @@ fn end_of(f: Format, records: &[u8], newest: Newest, dropped: usize) -> usize
         return records.len();
     }
     if dropped == newest.begins {
-        return newest.opened;
+        return newest.begun;
     }
     let kept = walk(f, records, newest.count - dropped);
     kept.records
@@ -412,7 +412,7 @@ impl Log {
         let u = self.undo;
         let ur = u.records;
         let ut = u.texts;
-        let r = read_record(f, &records[..ur], newest.shown);
+        let r = read_record(f, &records[..ur], newest.inside);
         if (r.kind == 3) | (r.kind == 5) {
             return LogAnswer {
                 number: 0,

@@ -58,7 +58,7 @@ nth-found P n ps p h e =
 -- as many bytes as the character c has fit at p of s, and both their ends are boundaries
 pub record Stands (s : List ℕ) (c p : ℕ) : Type 0 where
   pub fits : p + size c ≤ length s
-  pub edge : boundary s p ≡ true
+  pub at-boundary : boundary s p ≡ true
   pub behind : boundary s (p + size c) ≡ true
 
 -- a match in a text
@@ -70,7 +70,7 @@ stands t c p v m =
     let y = z .whole in
     let x = cut-chars t (m .front ++ (c ∷ [])) (m .back) v (m .parts ∙ sym (append-assoc (m .front) (c ∷ []) (m .back))) in
     let b : bytes (m .front ++ (c ∷ [])) ≡ p + size c = (let h = bytes-append (m .front) (c ∷ []) in omega arith) in
-    record { fits = omega arith; edge = ap (boundary t) w ∙ z .edge; behind = ap (boundary t) (sym b) ∙ x .edge }
+    record { fits = omega arith; at-boundary = ap (boundary t) w ∙ z .at-boundary; behind = ap (boundary t) (sym b) ∙ x .at-boundary }
 
 -- ---- backward: among the characters before pos
 pub backward-stands : (s : List ℕ) (pos c n p : ℕ) → boundary s pos ≡ true → pos ≤ length s → matchBackward s pos c n ≡ At p →
@@ -86,7 +86,7 @@ backward-stands s pos c n p b h e =
       g,
       record {
         fits = omega arith;
-        edge = boundary-take s pos p (omega arith) ∙ z .edge;
+        at-boundary = boundary-take s pos p (omega arith) ∙ z .at-boundary;
         behind = boundary-take s pos (p + size c) g ∙ z .behind;
       },
     )
@@ -107,7 +107,7 @@ after-place R s pos v b h =
     (λ g.
     let z = first-cut R (drop pos s) w g .cut in
     let f = z .fits in
-    (omega arith, omega arith, boundary-drop s pos (firstSize R (drop pos s)) b ∙ z .edge))
+    (omega arith, omega arith, boundary-drop s pos (firstSize R (drop pos s)) b ∙ z .at-boundary))
     (λ g.
     let m : length s ≤ pos = omega arith in
     let n : drop pos s ≡ [] = drop-of-length-le s m in
@@ -137,7 +137,7 @@ forward-stands R s pos c n p v b h e =
       omega arith,
       record {
         fits = omega arith;
-        edge = ap (boundary s) (sym w) ∙ boundary-drop s at (p - at) (a .2) ∙ z .edge;
+        at-boundary = ap (boundary s) (sym w) ∙ boundary-drop s at (p - at) (a .2) ∙ z .at-boundary;
         behind = ap (boundary s) (sym y) ∙ boundary-drop s at (p - at + size c) (a .2) ∙ z .behind;
       },
     )

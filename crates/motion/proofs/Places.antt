@@ -44,7 +44,7 @@ unfolding sizes
 sizes-place R t n v =
     let ks = clustersOf R t in
     let c = cut-chars t (concat (take n ks)) (concat (drop n ks)) v (sym (clusters-concat R (chars t)) ∙ concat-cut n ks) in
-    rw (sum-first n ks) (c .fits, c .edge)
+    rw (sum-first n ks) (c .fits, c .at-boundary)
 
 -- ---- steps
 pub second-at : (t : Bool) (x p : ℕ) → cond t Nothing (At x) ≡ At p → (t ≡ false) × (x ≡ p)
@@ -87,7 +87,7 @@ start-place s i v b h =
 
 forward-place : (R : Repertoire) (s : List ℕ) (pos c n p : ℕ) → valid s ≡ true → boundary s pos ≡ true → pos ≤ length s → matchForward R s pos c n ≡ At p →
     (p ≤ length s) × (boundary s p ≡ true)
-forward-place R s pos c n p v b h e = let z = forward-stands R s pos c n p v b h e .1 in let f = z .fits in (omega arith, z .edge)
+forward-place R s pos c n p v b h e = let z = forward-stands R s pos c n p v b h e .1 in let f = z .fits in (omega arith, z .at-boundary)
 
 pub search-place : (R : Repertoire) (s : List ℕ) (pos : ℕ) (cs : CharSearch) (n p : ℕ) → valid s ≡ true → boundary s pos ≡ true → pos ≤ length s →
     searchCharPos R s pos cs n ≡ At p → (p ≤ length s) × (boundary s p ≡ true)
@@ -98,7 +98,7 @@ search-place R s pos (ForwardBefore c) n p v b h e =
 search-place R s pos (Backward c) n p v b h e =
     let z = backward-stands s pos c n p b h e .1 in
     let f = z .fits in
-    (omega arith, z .edge)
+    (omega arith, z .at-boundary)
 search-place R s pos (BackwardAfter c) n p v b h e =
     at-moved (λ i. (i ≤ length s) × (boundary s i ≡ true)) (λ q. q + size c) (matchBackward s pos c n) p e
     (λ q f. let z = backward-stands s pos c n q b h f .1 in (z .fits, z .behind))

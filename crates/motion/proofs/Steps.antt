@@ -59,14 +59,14 @@ module _ (R : Repertoire) (s : List ℕ) where
   abbrev back : ℕ → List ℕ
   back at = sizes R (take at s)
 
-  back-split : (at n : ℕ) (k : List ℕ) → Before R s at n k → back at ≡ back (at - n) ++ (bytes k ∷ [])
+  back-last : (at n : ℕ) (k : List ℕ) → Before R s at n k → back at ≡ back (at - n) ++ (bytes k ∷ [])
   unfolding sizes
-  back-split at n k z = ap (map bytes) (z .split) ∙ map-append bytes (clustersOf R (take (at - n) s)) (k ∷ [])
+  back-last at n k z = ap (map bytes) (z .last-cluster) ∙ map-append bytes (clustersOf R (take (at - n) s)) (k ∷ [])
 
   pub backward-more : (at n left : ℕ) (k : List ℕ) → Before R s at n k → 0 < left →
       sum (take (length (back at) - left) (back at)) ≡ sum (take (length (back (at - n)) - (left - 1)) (back (at - n)))
   backward-more at n left k z h =
-      let e = back-split at n k z in
+      let e = back-last at n k z in
       let l : length (back at) ≡ length (back (at - n)) + 1 = ap length e ∙ length-append (back (at - n)) (bytes k ∷ []) in
       let m : length (back at) - left ≡ length (back (at - n)) - (left - 1) = omega arith in
       ap (λ (x : ℕ). sum (take x (back at))) m ∙ ap (λ (x : List ℕ). sum (take (length (back (at - n)) - (left - 1)) x)) e ∙

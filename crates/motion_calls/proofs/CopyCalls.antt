@@ -74,7 +74,7 @@ module _ (R : Repertoire) (buffer : List ℕ) (line : Line) (mvt : Movement) (f 
       (line .cursor ≤ length (lentText buffer line))
   lent-fit z =
       let g = fit-of R buffer line (ownTests false f false) r e z in
-      (fit-valid R _ buffer line g, g .edge, fit-within R _ buffer line g)
+      (fit-valid R _ buffer line g, g .at-boundary, fit-within R _ buffer line g)
 
   abbrev own : Tests
   own = copyTests R buffer line mvt

@@ -74,10 +74,10 @@ module _ (R : Repertoire) (s : List ℕ) (pos a b : ℕ) (v : valid s ≡ true) 
       (λ p q. let z = forward-stands R s pos c n p v k h q in let o = z .0 in (omega arith, z .1 .fits, k, z .1 .behind))
   search-in n (ForwardBefore c) e =
       up-in s pos a b k h (matchForward R s pos c n) e
-      (λ p q. let z = forward-stands R s pos c n p v k h q in let f = z .1 .fits in (z .0, omega arith, z .1 .edge))
+      (λ p q. let z = forward-stands R s pos c n p v k h q in let f = z .1 .fits in (z .0, omega arith, z .1 .at-boundary))
   search-in n (Backward c) e =
       back-in s pos a b k h (matchBackward s pos c n) e
-      (λ p q. let z = backward-stands s pos c n p k h q in let o = z .0 in (omega arith, z .1 .edge))
+      (λ p q. let z = backward-stands s pos c n p k h q in let o = z .0 in (omega arith, z .1 .at-boundary))
   search-in n (BackwardAfter c) e =
       of-back (In s) a b pos (size c) (matchBackward s pos c n) e
       (λ p q. let z = backward-stands s pos c n p k h q in (z .0, h, z .1 .behind, k))

@@ -95,7 +95,7 @@ module _ (R : Repertoire) where
   module _ (t : List ℕ) (rest : ℕ) (r : Cluster) (l : rest ≤ length t) (b : boundary t rest ≡ true) (e : r ≡ lastOf (take rest t)) where
     pub record Behind : Type 0 where
       pub fits : r .len ≤ rest
-      pub edge : boundary t (rest - r .len) ≡ true
+      pub at-boundary : boundary t (rest - r .len) ≡ true
       pub step : indicesBack t rest ≡ index (rest - r .len) r ∷ indicesBack t (rest - r .len)
 
     pub back-none : r .len ≡ 0 → indicesBack t rest ≡ []
@@ -119,16 +119,16 @@ module _ (R : Repertoire) where
         let f = z .fits in
         let u = take (rest - r .len) t in
         let w : sum (map bytes (clustersOf R u)) ≡ rest - r .len =
-        sum-bytes (clustersOf R u) ∙ ap bytes (clusters-concat R (chars u)) ∙ bytes-all u (z .edge) ∙
+        sum-bytes (clustersOf R u) ∙ ap bytes (clusters-concat R (chars u)) ∙ bytes-all u (z .at-boundary) ∙
         length-take-le (rest - r .len) t (omega arith)
         in
         let s : indicesFrom R 0 (clustersOf R (take rest t)) ≡ indicesFrom R 0 (clustersOf R u) ++ (index (rest - r .len) (facts R k) ∷ []) =
-        ap (indicesFrom R 0) (z .split) ∙ indices-snoc 0 (clustersOf R u) k ∙
+        ap (indicesFrom R 0) (z .last-cluster) ∙ indices-snoc 0 (clustersOf R u) k ∙
         ap (λ (x : ℕ). indicesFrom R 0 (clustersOf R u) ++ (index x (facts R k) ∷ [])) (let q : 0 + sum (map bytes (clustersOf R u)) ≡ rest - r .len = omega arith in q)
         in
         record {
           fits = f;
-          edge = z .edge;
+          at-boundary = z .at-boundary;
           step =
               ap reverse s ∙ reverse-append (indicesFrom R 0 (clustersOf R u)) (index (rest - r .len) (facts R k) ∷ []) ∙
               ap (λ (x : Cluster). index (rest - r .len) x ∷ indicesBack t (rest - r .len)) (sym e);

@@ -116,11 +116,11 @@ landing-fits R s pos at w n r h e =
     (omega (arith, length-drop pos s), omega (arith, length-drop pos s))
 
 -- ---- of a text, it is a boundary
-abbrev Edge : List ℕ → ℕ → Type 0
-Edge t i = (i ≤ length t) × (boundary t i ≡ true)
+abbrev AtBoundary : List ℕ → ℕ → Type 0
+AtBoundary t i = (i ≤ length t) × (boundary t i ≡ true)
 
-edge-chars : (t : List ℕ) → valid t ≡ true → (us vs : List ℕ) → chars t ≡ us ++ vs → Edge t (bytes us)
-edge-chars t v us vs e = let c = cut-chars t us vs v e in (c .fits, c .edge)
+boundary-chars : (t : List ℕ) → valid t ≡ true → (us vs : List ℕ) → chars t ≡ us ++ vs → AtBoundary t (bytes us)
+boundary-chars t v us vs e = let c = cut-chars t us vs v e in (c .fits, c .at-boundary)
 
 by-cond : (P : Type 0) (b : Bool) (x y z : Found) → cond b x y ≡ z → (x ≡ z → P) → (y ≡ z → P) → P
 by-cond P true x y z e f g = f e
@@ -136,7 +136,7 @@ at-never P p e = let z : _≡_ {A = ℕ} 0 1 = cc in absurd (omega arith)
 abbrev Ahead : List ℕ → ℕ → ℕ → Type 0
 Ahead s pos p = (pos ≤ p) × (p ≤ length s) × (boundary s p ≡ true)
 
-ahead : (s : List ℕ) (pos i p : ℕ) → boundary s pos ≡ true → pos ≤ length s → Edge (drop pos s) i → found.At (i + pos) ≡ found.At p → Ahead s pos p
+ahead : (s : List ℕ) (pos i p : ℕ) → boundary s pos ≡ true → pos ≤ length s → AtBoundary (drop pos s) i → found.At (i + pos) ≡ found.At p → Ahead s pos p
 ahead s pos i p b h e q =
     let l : i ≤ length s - pos = rw length-drop at (e .0) in
     let z : i + pos ≡ p = at-same (i + pos) p q in
@@ -154,7 +154,7 @@ unfolding nextWordPos landed noWord
 next-word-place R s pos at w n p v b h e =
     let t = drop pos s in
     let l = nextWord R t at w n in
-    let k = next-each (Edge t) R t (edge-chars t (sym (valid-cut s pos b) ∙ v)) at w n in
+    let k = next-each (AtBoundary t) R t (boundary-chars t (sym (valid-cut s pos b) ∙ v)) at w n in
     by-cond _ (eqb pos (length s)) _ _ _ e (at-never _ p)
     (λ f.
     by-cond _ (eqb (l .found) 0) _ _ _ f
@@ -168,9 +168,9 @@ pub prev-word-place : (R : Repertoire) (s : List ℕ) (pos : ℕ) (w : Word) (n 
 unfolding prevWordPos
 prev-word-place R s pos w n p v b h e =
     let t = take pos s in
-    let k = prev-each (Edge t) R t (edge-chars t b) w n in
+    let k = prev-each (AtBoundary t) R t (boundary-chars t b) w n in
     by-cond _ (eqb pos 0) _ _ _ e (at-never _ p)
     (λ f.
-    let j : Edge t p = subst (Edge t) (at-same (prevWord R t w n) p f) k in
+    let j : AtBoundary t p = subst (AtBoundary t) (at-same (prevWord R t w n) p f) k in
     let l : p ≤ pos = rw (length-take-le pos s h) at (j .0) in
     (l, boundary-take s pos p l ∙ j .1))

@@ -14,10 +14,10 @@ use Rattle.unicode.specs.Text.{isText}
 use Rattle.checks.specs.Outcome.{leaves}
 use Rattle.log_model.specs.Change.{Change, begin, end, edit, place, old, turn}
 use Rattle.formats.specs.declared.Format.{Format}
-use Rattle.log_model.specs.UndoBytes.{allSmall}
+use Rattle.log_model.specs.UndoBytes.{allNumbersFit}
 use Rattle.edit.specs.Plan.{State}
-use Rattle.undo_step.specs.Retrace.{Trail, undoing}
-use Rattle.undo.specs.Undo.{Walked, trailOf}
+use Rattle.undo_step.specs.UndoStep.{StepState, undoing}
+use Rattle.undo.specs.Undo.{Walked, stepStateOf}
 use Rattle.undo_cancel.specs.Cancel.{opens, walkTo, beginsDown, cancelOut}
 use Rattle.undo_cancel.proofs.Cancels.{opens-within}
 use Rattle.calls.specs.Calls.{cancel}
@@ -25,7 +25,7 @@ use Rattle.session.specs.Runs.{below}
 use Rattle.session.proofs.Values.{openAfter}
 use Rattle.session.proofs.Invariant.{openMarks, Groups, Bound, Chain, Inv, no-redo}
 use Rattle.session.proofs.Links.{undo-link, cursor-link, text-link}
-use Rattle.session.proofs.Walks.{small-tail}
+use Rattle.session.proofs.Walks.{numbers-tail}
 use Rattle.session.proofs.Recorded.{groups-drop}
 
 -- a mark that is no lower goes
@@ -44,10 +44,10 @@ below-all m (suc k) (edit x ∷ u) h = below-all m (suc k) u (omega arith)
 
 module _ (R : Repertoire) (F : Format) (Q : List ℕ → Type 0) (t₀ : List ℕ) where
   -- an undo list u that leads from the text to the first one, at level k with the groups g open
-  record From (k : ℕ) (g : List ℕ) (u : List Change) (s : Trail) : Type 0 where
+  record From (k : ℕ) (g : List ℕ) (u : List Change) (s : StepState) : Type 0 where
     chain : Chain R Q t₀ u (s .text)
     groups : Groups k g u
-    small : allSmall (F .width) u ≡ true
+    numbers : allNumbersFit (F .width) u ≡ true
     text : isText R (s .text) ≡ true
     allowed : Q (s .text)
     cursor : In (s .text) (s .cursor) (s .cursor)
@@ -55,10 +55,10 @@ module _ (R : Repertoire) (F : Format) (Q : List ℕ → Type 0) (t₀ : List �
   -- a walk that was not stopped, and the list that it leaves
   record Down (k : ℕ) (g : List ℕ) (w : Walked) : Type 0 where
     runs : w .stopped ≡ 0
-    left : From k g (w .from) (w .trail)
+    left : From k g (w .from) (w .reached)
 
   -- down to the mark, the level is lowered by the Begins, and the groups below the mark stay open
-  down : (C : ℕ) → Bound Q C → (m : ℕ) (u r : List Change) (k : ℕ) (g : List ℕ) (s : Trail) → opens m u ≡ true → From k g u s
+  down : (C : ℕ) → Bound Q C → (m : ℕ) (u r : List Change) (k : ℕ) (g : List ℕ) (s : StepState) → opens m u ≡ true → From k g u s
       → Down (k - beginsDown m u) (below m g) (walkTo C m u r s)
   unfolding walkTo opens undoing beginsDown
   down C h m [] r k g s o z = absurd (false≢true o)
@@ -68,7 +68,7 @@ module _ (R : Repertoire) (F : Format) (Q : List ℕ → Type 0) (t₀ : List �
       record {
         chain = z .chain;
         groups = record { opened = z .groups .opened; marks = refl };
-        small = small-tail (F .width) begin u (z .small);
+        numbers = numbers-tail (F .width) begin u (z .numbers);
         text = z .text;
         allowed = z .allowed;
         cursor = z .cursor;
@@ -100,7 +100,7 @@ module _ (R : Repertoire) (F : Format) (Q : List ℕ → Type 0) (t₀ : List �
       (record {
         chain = z .chain .2;
         groups = groups-drop k g x u (z .groups);
-        small = small-tail (F .width) (edit x) u (z .small);
+        numbers = numbers-tail (F .width) (edit x) u (z .numbers);
         text = text-link R l;
         allowed = l .first;
         cursor = cursor-link R l;
@@ -113,10 +113,10 @@ module _ (R : Repertoire) (F : Format) (Q : List ℕ → Type 0) (t₀ : List �
       by-test _ (opens m (s .log .undo))
       (λ o.
       let d =
-      down C h m (s .log .undo) (s .log .redo) (s .log .level) g (trailOf s) o
-      (record { chain = v .here .chain; groups = v .here .groups; small = v .undo-small; text = v .here .text; allowed = v .here .allowed; cursor = v .cursor })
+      down C h m (s .log .undo) (s .log .redo) (s .log .level) g (stepStateOf s) o
+      (record { chain = v .here .chain; groups = v .here .groups; numbers = v .undo-numbers; text = v .here .text; allowed = v .here .allowed; cursor = v .cursor })
       in
       let z = d .left in
       rw (o, d .runs)
-      (no-redo R F Q t₀ _ _ _ _ _ (record { chain = z .chain; text = z .text; allowed = z .allowed; groups = z .groups }) (z .cursor) (z .small)))
+      (no-redo R F Q t₀ _ _ _ _ _ (record { chain = z .chain; text = z .text; allowed = z .allowed; groups = z .groups }) (z .cursor) (z .numbers)))
       (λ o. rw o v)

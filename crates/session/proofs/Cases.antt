@@ -28,7 +28,7 @@ use Rattle.log_model.specs.Change.{edit, insert, delete}
 use Rattle.formats.specs.Formats.{formatFor, logFormat}
 use Rattle.log_model.specs.Layout.{sizeOf, textsAt, changeAt, wholeAt, decodeAt}
 use Rattle.log_model.specs.Recording.{note, recordInsert, recordInsertStr, recordDelete}
-use Rattle.log_model.specs.UndoBytes.{undoRecords, undoTexts, allSmall, fits}
+use Rattle.log_model.specs.UndoBytes.{undoRecords, undoTexts, allNumbersFit, fits}
 use Rattle.log_model.specs.Groups.{endAll, endsAny}
 use Rattle.log_state.specs.Logs.{overSizes, damaged}
 use Rattle.log_state.specs.Calls.{undos, redos}
@@ -37,7 +37,7 @@ use Rattle.edit.specs.Plan.{splice, textAfter, listAfter, tooLong, edited}
 use Rattle.buffer.specs.Edit.{copies}
 use Rattle.edit_case.specs.EditWord.{actionList, editWordCall}
 use Rattle.edit_transpose.specs.TransposeWords.{transposeWordsCall}
-use Rattle.undo_step.specs.Retrace.{misfit, exchanging, undoing as Retrace·undoing}
+use Rattle.undo_step.specs.UndoStep.{misfit, exchanging, undoing as UndoStep·undoing}
 use Rattle.undo.specs.Undo as undos
 use Rattle.undo_cancel.specs.Cancel as cancels
 use Rattle.kill_ring.specs.declared.Action.the-variants.{Yank}
@@ -147,8 +147,8 @@ unfolding within one two lead3 three lead4 four firstOf first charsFrom validFro
     afterCluster matchForward matchBackward isStartOfWord landsBehind indicesFrom graphemeIndices scan walk landsOn nextWord noWord landed nextWordPos
     prevWord prevWordPos startOfLine beforeNewline endOfLine nthCluster lineAbove lineBelow lineUp lineDown linesDown nLinesDown movements copied
     startsAfter refusal moveCall isLowercase isUppercase upperOf lowerOf encode encodeAll caseAll cased firstAlnum skipWhitespace sizeOf textsAt changeAt
-    wholeAt decodeAt note recordInsert recordInsertStr recordDelete undoRecords undoTexts allSmall fits overSizes damaged undos redos splice
-    textAfter listAfter tooLong edited copies actionList beginOut endOut endAll endsAny misfit exchanging Retrace·undoing undos.walk undos.undoOut
+    wholeAt decodeAt note recordInsert recordInsertStr recordDelete undoRecords undoTexts allNumbersFit fits overSizes damaged undos redos splice
+    textAfter listAfter tooLong edited copies actionList beginOut endOut endAll endsAny misfit exchanging UndoStep·undoing undos.walk undos.undoOut
     cancels.opens cancels.walkTo cancels.beginsDown cancels.cancelOut ring.putAt ring.killOut ring.yankOut ring.yankPopOut ringCalls.slotsFrom
     ringCalls.anyOver ringCalls.overSizes ringCalls.actionBreaks ringCalls.anyForeign ringCalls.damaged ringCalls.modeList formatFor advance
 cases =

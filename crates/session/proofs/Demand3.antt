@@ -30,7 +30,7 @@ use Rattle.session.proofs.Formats.{one-format, passes-in, RunIn, run-in
 use Rattle.session.proofs.Values as values
 use Rattle.session.proofs.Values.{Handed, lentFor, Units}
 use Rattle.session.proofs.Invariant.{Bound, Inv}
-use Rattle.session.proofs.Handed.{found, passes, few}
+use Rattle.session.proofs.Handed.{read-back, passes, few}
 use Rattle.session.proofs.Units.{no-marks, undo-keeps, redo-keeps, undo-cap, redo-cap, units-are, in-one, nothing-left, undo-sum, undo-redo, first-text}
 use Rattle.session.proofs.Moves.{move-keeps}
 use Rattle.session.proofs.Steps.{Short, inv-more, short-keeps}
@@ -51,7 +51,7 @@ module _ (R : Repertoire) (law : Lawful R) (F : Format) (one : (l : Lent) → fo
       let e = handed-is F one s l b h k in
       let on = handed-on F one s l b h k in
       let w = inv-more R (Short (length (l .text))) (Short C) (λ t j. omega (arith, k .noSmaller .text)) F t₀ s g v in
-      let is : stateOf R F b ≡ s = ap (stateOf R F) e ∙ found R F (Short C) t₀ (buffersOf l) s g w (buffersOf b) on in
+      let is : stateOf R F b ≡ s = ap (stateOf R F) e ∙ read-back R F (Short C) t₀ (buffersOf l) s g w (buffersOf b) on in
       let text : isText R (textOf b) ≡ true = subst (λ (y : State). isText R (y .text) ≡ true) (sym is) (w .here .text) in
       let cursor : In (textOf b) (b .line .cursor) (b .line .cursor) = subst (λ (y : State). In (y .text) (y .cursor) (y .cursor)) (sym is) (w .cursor) in
       let len : b .line .len ≡ length (textOf b) = ap (λ (y : Line). y .len) (hb .line) ∙ ap length (sym (text-is F s b hb)) in
@@ -81,7 +81,7 @@ module _ (R : Repertoire) (F : Format) (Q : List ℕ → Type 0) (t₀ : List �
   called-on : (before : Buffers) (s : State) (b : Buffers) → Handed F before s b → Inv R F Q t₀ s [] → (f : State → Outcome State)
       → called (checked R F (lentFor F s b) (ownTests false false false)) (f (stateOf R F (lentFor F s b))) ≡ f s
   called-on before s b h v f =
-      rw (passes R F Q t₀ before s [] v b h (omega (arith, no-marks (s .log .level) (s .log .undo) (v .here .groups)))) (ap f (found R F Q t₀ before s [] v b h))
+      rw (passes R F Q t₀ before s [] v b h (omega (arith, no-marks (s .log .level) (s .log .undo) (v .here .groups)))) (ap f (read-back R F Q t₀ before s [] v b h))
 
   -- undo
   undid-is : (before : Buffers) (s : State) (b : Buffers) (n : ℕ) → Handed F before s b → Inv R F Q t₀ s [] → undoCall R F (lentFor F s b) n ≡ undoOut (length (b .text)) n s

@@ -15,7 +15,7 @@ use Rattle.log_model.specs.Change.{Change, begin, end, edit, insert, delete}
 use Rattle.formats.specs.Formats.{formatFor, logFormat}
 use Rattle.log_model.specs.Layout.{sizeOf, textsAt, changeAt, wholeAt, decodeAt}
 use Rattle.log_model.specs.Recording.{note, recordInsert}
-use Rattle.log_model.specs.UndoBytes.{undoRecords, undoTexts, allSmall, fits}
+use Rattle.log_model.specs.UndoBytes.{undoRecords, undoTexts, allNumbersFit, fits}
 use Rattle.log_model.specs.Groups.{endAll, endsAny}
 use Rattle.log_state.specs.Logs.{overSizes, damaged}
 use Rattle.log_state.specs.Calls as logs
@@ -24,7 +24,7 @@ use Rattle.log_state.specs.Outcomes.{beginOut, endOut}
 use Rattle.log_state.specs.declared.Used.{Used}
 use Rattle.edit.specs.Plan.{State, splice, textAfter, listAfter, tooLong, edited}
 use Rattle.edit.specs.Calls.{Lent, logLent, answerOf}
-use Rattle.undo_step.specs.Retrace.{misfit, exchanging, undoing}
+use Rattle.undo_step.specs.UndoStep.{misfit, exchanging, undoing}
 use Rattle.undo.specs.Undo.{walk, undoOut}
 use Rattle.undo_cancel.specs.Cancel.{opens, walkTo, beginsDown, cancelOut}
 use Rattle.calls.specs.Calls as calls
@@ -148,7 +148,7 @@ handed a b x y z i j k l m n =
 ran : Run catalogue (lending s0) story
 unfolding typeQ begins cancels typeR ends undoes formatFor Run within one two lead3 three lead4 four firstOf first charsFrom validFrom startBefore
     scalar size encode isMember isControl isMark isAlnum isText isChar refusal sizeOf textsAt changeAt wholeAt decodeAt note recordInsert undoRecords
-    undoTexts allSmall fits endAll endsAny overSizes damaged undos redos beginOut endOut splice textAfter listAfter tooLong edited misfit exchanging
+    undoTexts allNumbersFit fits endAll endsAny overSizes damaged undos redos beginOut endOut splice textAfter listAfter tooLong edited misfit exchanging
     undoing walk undoOut opens walkTo beginsDown cancelOut below
 ran = (
   handed (lending s0) (typeQ .lent) refl (record { len = refl; bytes = refl }) (record { state = refl; records = refl; texts = refl }) refl refl refl refl refl refl,
@@ -216,7 +216,7 @@ last =
 last-ran : Run catalogue (leftBy (lending s0) story) (ones (last ∷ []))
 unfolding typeQ begins cancels typeR ends undoes last formatFor Run leftBy within one two lead3 three lead4 four firstOf first charsFrom validFrom
     startBefore scalar size encode isMember isControl isMark isAlnum isText isChar refusal sizeOf textsAt changeAt wholeAt decodeAt note recordInsert
-    undoRecords undoTexts allSmall fits endAll endsAny overSizes damaged undos redos beginOut endOut splice textAfter listAfter tooLong edited misfit
+    undoRecords undoTexts allNumbersFit fits endAll endsAny overSizes damaged undos redos beginOut endOut splice textAfter listAfter tooLong edited misfit
     exchanging undoing walk undoOut opens walkTo beginsDown cancelOut below
 last-ran = (
   handed (left (calls.undo 1) undoes) (last .lent) refl (record { len = refl; bytes = refl })

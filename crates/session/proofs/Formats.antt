@@ -1,6 +1,5 @@
 -- Today one format goes with every text buffer, so that a run has one: what its calls meet, each in the format of its buffers, they meet in that one.
 -- Assumes nothing.
-use Prim.Native.Nat.{ℕ}
 use mathlib.Core.Path.{_≡_, refl, subst}
 use mathlib.Core.Bool.{false}
 use mathlib.Core.List.{List, [], _∷_}

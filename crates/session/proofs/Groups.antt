@@ -15,7 +15,7 @@ use Rattle.checks.specs.Outcome.{Outcome, refused, called, leaves}
 use Rattle.log_model.specs.Change.{Change, begin, end, edit}
 use Rattle.formats.specs.declared.Format.{Format}
 use Rattle.log_model.specs.Groups.{Log, endAll, endsAny, ended}
-use Rattle.log_model.specs.UndoBytes.{Places, allSmall, fits, lastInsertAt}
+use Rattle.log_model.specs.UndoBytes.{Places, allNumbersFit, fits, lastInsertAt}
 use Rattle.log_state.specs.Logs.{logTests}
 use Rattle.log_state.specs.Outcomes.{beginOut, endOut, placesOut, lastInsertOut}
 use Rattle.log_state.specs.Calls as logs
@@ -126,7 +126,7 @@ module _ (R : Repertoire) (F : Format) (Q : List ℕ → Type 0) (t₀ : List �
 
     -- a Begin: check 10, then a group open with its mark
     begin-made : Keeps (asked.log asked.begin) (loggedBy R F l (beginOut F (sizesOf l) (s .log))) s g
-    unfolding beginOut fits allSmall
+    unfolding beginOut fits allNumbersFit
     begin-made =
         by-test (Keeps (asked.log asked.begin) (loggedBy R F l (beginOut F (sizesOf l) (s .log))) s g) (ltb level 255 && fits F (sizesOf l) (begin ∷ u))
         (λ e. rw e
@@ -136,7 +136,7 @@ module _ (R : Repertoire) (F : Format) (Q : List ℕ → Type 0) (t₀ : List �
           allowed = v .here .allowed;
           groups = opened
               (v .here .groups);
-        }) (v .cursor) (v .undo-small)))
+        }) (v .cursor) (v .undo-numbers)))
         (λ e. rw e v)
 
     -- the Ends: check 10, then no group open, whether one was put or not
@@ -156,7 +156,7 @@ module _ (R : Repertoire) (F : Format) (Q : List ℕ → Type 0) (t₀ : List �
               allowed = v .here .allowed;
               groups = record { opened = end-closes level u (v .here .groups .opened); marks = refl };
             })
-            (v .cursor) (and-both (allSmall (F .width) (endAll level u)) _ e .0)
+            (v .cursor) (and-both (allNumbersFit (F .width) (endAll level u)) _ e .0)
 
     -- places found or none: all is as it was
     last-insert-made : (p : Option Places) → Keeps (asked.log asked.lastInsert) (loggedBy R F l (placesOut p (s .log))) s g
@@ -166,8 +166,8 @@ module _ (R : Repertoire) (F : Format) (Q : List ℕ → Type 0) (t₀ : List �
   -- ---- the calls
   module _ (l : Lent) (s : State) (g : List ℕ) (is : stateOf R F l ≡ s) (v : Inv R F Q t₀ s g) where
     -- the invariant of what the lent bytes hold
-    abbrev held : Inv R F Q t₀ (stateOf R F l) g
-    held = subst (λ (x : State). Inv R F Q t₀ x g) (sym is) v
+    abbrev invariant : Inv R F Q t₀ (stateOf R F l) g
+    invariant = subst (λ (x : State). Inv R F Q t₀ x g) (sym is) v
 
     -- refused by 2 or more, or what the call does
     pub by-checks : (a : Asked) (n : ℕ) (o : Outcome State) → (n ≡ 1 → ⊥) → (n ≡ 0 → Keeps a o (stateOf R F l) g) → Keeps a (called n o) s g
@@ -189,12 +189,12 @@ module _ (R : Repertoire) (F : Format) (Q : List ℕ → Type 0) (t₀ : List �
 
     -- begin opens a group with the mark that it answers
     pub begin-keeps : Keeps (asked.log asked.begin) (outcomeOf R F l (asked.log asked.begin)) s g
-    begin-keeps = checked-keeps (asked.log asked.begin) (beginOut F (sizesOf l) (stateOf R F l .log)) (begin-made l g held)
+    begin-keeps = checked-keeps (asked.log asked.begin) (beginOut F (sizesOf l) (stateOf R F l .log)) (begin-made l g invariant)
 
     -- end closes all groups
     pub end-keeps : Keeps (asked.log asked.end) (outcomeOf R F l (asked.log asked.end)) s g
-    end-keeps = checked-keeps (asked.log asked.end) (endOut F (sizesOf l) (stateOf R F l .log)) (end-made l g held)
+    end-keeps = checked-keeps (asked.log asked.end) (endOut F (sizesOf l) (stateOf R F l .log)) (end-made l g invariant)
 
     -- last_insert changes nothing
     pub last-insert-keeps : Keeps (asked.log asked.lastInsert) (outcomeOf R F l (asked.log asked.lastInsert)) s g
-    last-insert-keeps = checked-keeps (asked.log asked.lastInsert) (lastInsertOut (stateOf R F l .log)) (last-insert-made l g held (lastInsertAt (stateOf R F l .log .undo)))
+    last-insert-keeps = checked-keeps (asked.log asked.lastInsert) (lastInsertOut (stateOf R F l .log)) (last-insert-made l g invariant (lastInsertAt (stateOf R F l .log .undo)))

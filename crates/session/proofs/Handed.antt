@@ -16,18 +16,18 @@ use Rattle.numbers.specs.Numbers.{top}
 use Rattle.formats.specs.declared.Format.{Format}
 use Rattle.formats.specs.Formats.{recordsMax}
 use Rattle.log_model.specs.Layout.{Good, AllGood, encodeRecords}
-use Rattle.log_model.specs.UndoBytes.{small, allSmall}
+use Rattle.log_model.specs.UndoBytes.{numbersFit, allNumbersFit}
 use Rattle.log_model.proofs.Decode.{records-many}
 use Rattle.edit.specs.Plan.{State}
 use Rattle.edit.specs.Calls.{checked, stateOf}
-use Rattle.edit.proofs.Held.{take-within, state-held, state-passes}
+use Rattle.edit.proofs.Stored.{take-within, state-stored, state-passes}
 use Rattle.calls.specs.Contracts.{Buffers}
 use Rattle.session.proofs.Values.{Handed, lentFor}
 use Rattle.session.proofs.Invariant.{Chain, Inv}
 
 module _ (R : Repertoire) where
   -- a record whose numbers fit their bytes and whose texts are of the repertoire
-  good-edit : (w : ℕ) (x : Edit) → small w (edit x) ≡ true → isText R (old x) ≡ true → isText R (new x) ≡ true → Good R w (edit x)
+  good-edit : (w : ℕ) (x : Edit) → numbersFit w (edit x) ≡ true → isText R (old x) ≡ true → isText R (new x) ≡ true → Good R w (edit x)
   good-edit w (insert p s) h o n = let b = and-both (ltb p (top w)) (ltb (length s) (top w)) h in ((ltb-true _ _ (b .0), ltb-true _ _ (b .1)), n)
   good-edit w (delete p s) h o n = let b = and-both (ltb p (top w)) (ltb (length s) (top w)) h in ((ltb-true _ _ (b .0), ltb-true _ _ (b .1)), o)
   good-edit w (replace p s t) h o n =
@@ -36,13 +36,13 @@ module _ (R : Repertoire) where
       ((ltb-true _ _ (b .0), ltb-true _ _ (d .0), ltb-true _ _ (d .1)), rw (o, n))
 
   -- a list that leads from text to text
-  good-chain : (w : ℕ) (Q : List ℕ → Type 0) (e : List ℕ) (u : List Change) (t : List ℕ) → Chain R Q e u t → allSmall w u ≡ true → AllGood R w u
-  unfolding allSmall
+  good-chain : (w : ℕ) (Q : List ℕ → Type 0) (e : List ℕ) (u : List Change) (t : List ℕ) → Chain R Q e u t → allNumbersFit w u ≡ true → AllGood R w u
+  unfolding allNumbersFit
   good-chain w Q e [] t c h = tt
   good-chain w Q e (begin ∷ u) t c h = ((tt, refl), good-chain w Q e u t c h)
   good-chain w Q e (end ∷ u) t c h = ((tt, refl), good-chain w Q e u t c h)
   good-chain w Q e (edit x ∷ u) t c h =
-      let b = and-both (small w (edit x)) (allSmall w u) h in
+      let b = and-both (numbersFit w (edit x)) (allNumbersFit w u) h in
       (good-edit w x (b .0) (c .1 .old-text) (c .1 .new-text), good-chain w Q e u (c .0) (c .2) (b .1))
 
   -- turned round it is as good
@@ -61,14 +61,14 @@ module _ (R : Repertoire) where
 
   module _ (F : Format) (Q : List ℕ → Type 0) (t₀ : List ℕ) (before : Buffers) (s : State) (g : List ℕ) (v : Inv R F Q t₀ s g) (b : Buffers) (h : Handed F before s b) where
     undo-good : AllGood R (F .width) (s .log .undo)
-    undo-good = good-chain (F .width) Q t₀ (s .log .undo) (s .text) (v .here .chain) (v .undo-small)
+    undo-good = good-chain (F .width) Q t₀ (s .log .undo) (s .text) (v .here .chain) (v .undo-numbers)
 
     redo-good : AllGood R (F .width) (map turn (s .log .redo))
-    redo-good = good-turned (F .width) (s .log .redo) (good-chain (F .width) Q (v .goal) (s .log .redo) (s .text) (v .forth) (v .redo-small))
+    redo-good = good-turned (F .width) (s .log .redo) (good-chain (F .width) Q (v .goal) (s .log .redo) (s .text) (v .forth) (v .redo-numbers))
 
     -- the state is found
-    pub found : stateOf R F (lentFor F s b) ≡ s
-    found = state-held R F s (b .text) (b .records) (b .texts) (h .stored) undo-good redo-good
+    pub read-back : stateOf R F (lentFor F s b) ≡ s
+    read-back = state-stored R F s (b .text) (b .records) (b .texts) (h .stored) undo-good redo-good
 
     -- the checks pass it
     pub passes : s .log .level ≤ 255 → checked R F (lentFor F s b) (ownTests false false false) ≡ 0

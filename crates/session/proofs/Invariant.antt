@@ -10,7 +10,7 @@ use Rattle.unicode.specs.Repertoire.{Repertoire}
 use Rattle.unicode.specs.Text.{isText}
 use Rattle.log_model.specs.Change.{Change, begin, end, edit, place, old, new}
 use Rattle.formats.specs.declared.Format.{Format}
-use Rattle.log_model.specs.UndoBytes.{allSmall}
+use Rattle.log_model.specs.UndoBytes.{allNumbersFit}
 use Rattle.edit.specs.Plan.{State}
 
 -- d Ends wait for their Begin, and each Begin down the list has its End
@@ -82,11 +82,11 @@ module _ (R : Repertoire) where
     pub forth : Chain Q goal (s .log .redo) (s .text)
     pub nested : Nest 0 (s .log .redo)
     pub cursor : In (s .text) (s .cursor) (s .cursor)
-    pub undo-small : allSmall (F .width) (s .log .undo) ≡ true
-    pub redo-small : allSmall (F .width) (s .log .redo) ≡ true
+    pub undo-numbers : allNumbersFit (F .width) (s .log .undo) ≡ true
+    pub redo-numbers : allNumbersFit (F .width) (s .log .redo) ≡ true
 
   -- with nothing to redo
-  pub no-redo : (F : Format) (Q : List ℕ → Type 0) (t₀ t : List ℕ) (c k : ℕ) (u : List Change) (g : List ℕ) → Here Q t₀ k g t u → In t c c → allSmall (F .width) u ≡ true
+  pub no-redo : (F : Format) (Q : List ℕ → Type 0) (t₀ t : List ℕ) (c k : ℕ) (u : List Change) (g : List ℕ) → Here Q t₀ k g t u → In t c c → allNumbersFit (F .width) u ≡ true
       → Inv F Q t₀ (record { text = t; cursor = c; log = record { undo = u; redo = []; level = k } }) g
-  unfolding allSmall
-  no-redo F Q t₀ t c k u g h i e = record { here = h; goal = t; forth = refl; nested = refl; cursor = i; undo-small = e; redo-small = refl }
+  unfolding allNumbersFit
+  no-redo F Q t₀ t c k u g h i e = record { here = h; goal = t; forth = refl; nested = refl; cursor = i; undo-numbers = e; redo-numbers = refl }

@@ -6,7 +6,7 @@ pub mod Links
 pub mod Walks
 pub mod Units
 pub mod Cancel
-pub mod Passed
+pub mod Between
 pub mod Recorded
 pub mod Plans
 pub mod Moves

@@ -13,7 +13,7 @@ use Rattle.unicode.specs.Text.{isText}
 use Rattle.unicode.proofs.Text.{text-append, text-valid}
 use Rattle.log_model.specs.Change.{Edit, insert, delete, replace, edit, place, old, new, flipped}
 use Rattle.edit.specs.Plan.{splice}
-use Rattle.undo_step.specs.Retrace.{Trail, done, exchanging, undoing}
+use Rattle.undo_step.specs.UndoStep.{StepState, done, exchanging, undoing}
 use Rattle.undo_step.proofs.Exchanges.{swaps}
 use Rattle.session.proofs.Invariant.{Bound, Link}
 
@@ -49,7 +49,7 @@ exchanged C a n b o v w h =
 
 module _ (R : Repertoire) {Q : List ℕ → Type 0} where
   -- the record of a link undone: its first text, with the cursor behind what was put back
-  pub undo-link : (C : ℕ) (x : Edit) (t : List ℕ) (s : Trail) → Bound Q C → Link R Q (place x) (old x) (new x) t (s .text)
+  pub undo-link : (C : ℕ) (x : Edit) (t : List ℕ) (s : StepState) → Bound Q C → Link R Q (place x) (old x) (new x) t (s .text)
       → undoing C (edit x) s ≡ done (record { text = t; cursor = place x + length (old x); undone = true })
   unfolding undoing
   undo-link C x t s h l =

@@ -4,7 +4,7 @@ use native.Mathlib.Omega.{arith}
 use mathlib.Core.Path.{_≡_, refl, sym, ap, subst}
 use mathlib.Core.Bool.{Bool, true, false, cond, not}
 use mathlib.Core.List.{List}
-use lib.Dec.{eqb, leb}
+use lib.Dec.{eqb}
 use lib.ListN.{length}
 use borrow.Author.Tests.{ltb-false, not-false}
 use Rattle.utf8.specs.Chars.{valid, boundary, In}
@@ -23,7 +23,6 @@ use Rattle.keymap.specs.declared.MovementCode.{MovementCode}
 use Rattle.keymap.specs.declared.MovementCode.the-variants as code
 use Rattle.motion.specs.Steps.{nextPos, prevPos}
 use Rattle.motion.specs.Search.{searchCharPos}
-use Rattle.motion.specs.Trim.{trimEnd}
 use Rattle.motion.specs.declared.Found.{Found}
 use Rattle.motion.specs.declared.Found.the-variants.{At, Nothing}
 use Rattle.motion.proofs.Places.{next-pos-place, prev-pos-place, search-place}
@@ -192,7 +191,7 @@ module _ (R : Repertoire) (F : Format) (l : Lent) (is : isText R (textOf l) ≡ 
     cursor-keeps : (p : ℕ) → In t p p → Inv R F Q t₀ (record { text = t; cursor = p; log = stateOf R F l .log }) g
     cursor-keeps p h =
         let w = subst (λ (x : State). Inv R F Q t₀ x g) (sym e) q in
-        record { here = w .here; goal = w .goal; forth = w .forth; nested = w .nested; cursor = h; undo-small = w .undo-small; redo-small = w .redo-small }
+        record { here = w .here; goal = w .goal; forth = w .forth; nested = w .nested; cursor = h; undo-numbers = w .undo-numbers; redo-numbers = w .redo-numbers }
 
     -- a movement that is refused changes nothing
     outcome-keeps : (o : Outcome Line) → Stands o → Inv R F Q t₀ (leaves (movedBy R F l o) s) g

@@ -16,13 +16,13 @@ use Rattle.formats.specs.Formats.{formatFor}
 use Rattle.log_model.specs.Change.{begin, end, edit, insert, delete}
 use Rattle.log_model.specs.Layout.{sizeOf, textsAt, changeAt, wholeAt, decodeAt}
 use Rattle.log_model.specs.Recording.{note, recordInsert, recordDelete}
-use Rattle.log_model.specs.UndoBytes.{undoRecords, undoTexts, allSmall, fits}
+use Rattle.log_model.specs.UndoBytes.{undoRecords, undoTexts, allNumbersFit, fits}
 use Rattle.log_model.specs.Groups.{endAll, endsAny}
 use Rattle.log_state.specs.Logs.{overSizes, damaged}
 use Rattle.log_state.specs.Calls.{undos, redos}
 use Rattle.log_state.specs.Outcomes.{beginOut, endOut}
 use Rattle.edit.specs.Plan.{splice, textAfter, listAfter, tooLong, edited}
-use Rattle.undo_step.specs.Retrace.{misfit, exchanging, undoing as Retrace·undoing}
+use Rattle.undo_step.specs.UndoStep.{misfit, exchanging, undoing as UndoStep·undoing}
 use Rattle.undo.specs.Undo.{walk, undoOut}
 use Rattle.undo_redo.specs.Redo.{redoOut}
 use Rattle.calls.specs.Calls as calls
@@ -58,6 +58,6 @@ pub record Needed : Type 0 where
 pub needed : Needed
 unfolding formatFor within one two lead3 three lead4 four firstOf first charsFrom validFrom startBefore scalar size encode isMember isControl isMark
     isAlnum isText isChar joined clusters sizes prevPos copied refusal sizeOf textsAt changeAt wholeAt decodeAt note recordInsert recordDelete
-    undoRecords undoTexts allSmall fits endAll endsAny overSizes damaged undos redos beginOut endOut splice textAfter listAfter tooLong edited misfit
-    exchanging Retrace·undoing walk undoOut redoOut
+    undoRecords undoTexts allNumbersFit fits endAll endsAny overSizes damaged undos redos beginOut endOut splice textAfter listAfter tooLong edited misfit
+    exchanging UndoStep·undoing walk undoOut redoOut
 needed = record { in-group = (refl, refl); group-open = (refl, refl); smaller = refl; above-units = (refl, refl); zero = refl }

@@ -6,7 +6,7 @@ use Rattle.unicode.specs.Repertoire.{catalogue}
 use Rattle.checks.specs.declared.Line.{Line}
 use Rattle.checks.specs.Outcome.{Outcome, refused, answered}
 use Rattle.log_model.specs.Change.{Change}
-use Rattle.formats.specs.Formats.{formatFor, logFormat}
+use Rattle.formats.specs.Formats.{logFormat}
 use Rattle.log_model.specs.Layout.{encodeRecords, encodeTexts}
 use Rattle.log_state.specs.Calls.{row, logOf, truncateCall}
 use Rattle.edit.specs.Plan.{State}

@@ -19,11 +19,11 @@ use Rattle.checks.specs.Outcome.{Outcome, refused, answered, leaves}
 use Rattle.log_model.specs.Change.{Edit, insert, delete, replace, Change, begin, end, edit, place, old, new}
 use Rattle.formats.specs.declared.Format.{Format}
 use Rattle.log_model.specs.Recording.{Joined, apart, joined, joinIf, join, onJoined, note}
-use Rattle.log_model.specs.UndoBytes.{Sizes, allSmall, fits}
-use Rattle.edit.specs.Plan.{Piece, typed, pasted, cutting, swapping, Plan, State, Suits, AllSuit, splice, made, recorded, blank, notedOr}
+use Rattle.log_model.specs.UndoBytes.{Sizes, allNumbersFit, fits}
+use Rattle.edit.specs.Plan.{PlannedChange, typed, pasted, cutting, swapping, Plan, State, Suits, AllSuit, splice, made, recorded, blank, notedOr}
 use Rattle.edit.specs.Plan.{textAfter, listAfter, redoAfter, tooLong, planned, edited}
 use Rattle.edit.proofs.Parts.{part-none, part-between, part-text}
-use Rattle.edit.proofs.Pieces.{editAt, joinsAt, recorded-as, suits-text, made-text, blank-texts}
+use Rattle.edit.proofs.PlannedChanges.{editAt, joinsAt, recorded-as, suits-text, made-text, blank-texts}
 use Rattle.session.proofs.Invariant.{Nest, Groups, Link, Chain, Here, Inv}
 use Rattle.session.proofs.Links.{turned}
 
@@ -133,7 +133,7 @@ module _ (R : Repertoire) where
   note-chain true Q e t t′ x (end ∷ u) m c = (t, m, c)
   note-chain true Q e t t′ x (edit y ∷ u) m c = joined-chain Q e (c .0) t t′ (join y x) y x u (join-leads Q (c .0) t t′ y x (c .1) m) (c .1) m (c .2)
 
-  -- ---- a piece that suits the text
+  -- ---- a change that suits the text
   -- a part replaced is a link
   splice-link : (Q : List ℕ → Type 0) (t : List ℕ) (a b : ℕ) (s : List ℕ) → isText R t ≡ true → isText R s ≡ true → In t a b → Q t
       → Q (splice t a b s) → Link R Q a (part t a b) s t (splice t a b s)
@@ -160,12 +160,12 @@ module _ (R : Repertoire) where
       → Link R Q p [] s t (splice t p p s)
   put-link Q t p s v w i q q′ = subst (λ (o : List ℕ). Link R Q p o s t (splice t p p s)) (part-none t p) (splice-link Q t p p s v w i q q′)
 
-  -- the change that the log notes of a piece leads to the text that the piece makes
-  piece-leads : (Q : List ℕ → Type 0) (x : Piece) (t : List ℕ) → isText R t ≡ true → Suits R x t → Q t → Q (made x t) → Leads Q (editAt x t) t (made x t)
-  piece-leads Q (typed p c) t v h q q′ = put-link Q t p _ v (suits-text R (typed p c) t h) (h .0) q q′
-  piece-leads Q (pasted p s) t v h q q′ = put-link Q t p s v (h .1) (h .0) q q′
-  piece-leads Q (cutting a b) t v h q q′ = splice-link Q t a b [] v (text-nil R) h q q′
-  piece-leads Q (swapping a b s) t v h q q′ = splice-link Q t a b s v (h .1) (h .0) q q′
+  -- the change that the log notes of a planned change leads to the text that this makes
+  change-leads : (Q : List ℕ → Type 0) (x : PlannedChange) (t : List ℕ) → isText R t ≡ true → Suits R x t → Q t → Q (made x t) → Leads Q (editAt x t) t (made x t)
+  change-leads Q (typed p c) t v h q q′ = put-link Q t p _ v (suits-text R (typed p c) t h) (h .0) q q′
+  change-leads Q (pasted p s) t v h q q′ = put-link Q t p s v (h .1) (h .0) q q′
+  change-leads Q (cutting a b) t v h q q′ = splice-link Q t a b [] v (text-nil R) h q q′
+  change-leads Q (swapping a b s) t v h q q′ = splice-link Q t a b s v (h .1) (h .0) q q′
 
   -- the change recorded, or nothing where it changes nothing
   noted-here : (Q : List ℕ → Type 0) (t₀ : List ℕ) (k : ℕ) (g : List ℕ) (j : Bool) (x : Edit) (t t′ : List ℕ) (u : List Change) → Leads Q x t t′
@@ -176,12 +176,12 @@ module _ (R : Repertoire) where
       rw e (record { chain = subst (Chain R Q t₀ u) (sym (blank-link l (b .0) (b .1))) (h .chain); text = v; allowed = l .second; groups = h .groups }))
       (λ e. rw e (record { chain = note-chain j Q t₀ t t′ x u l (h .chain); text = v; allowed = l .second; groups = groups-note j k g x u (h .groups) }))
 
-  -- a piece made and recorded
-  pub piece-here : (Q : List ℕ → Type 0) (t₀ : List ℕ) (k : ℕ) (g : List ℕ) (x : Piece) (t : List ℕ) (u : List Change) → Suits R x t → Q (made x t)
+  -- a change made and recorded
+  pub change-here : (Q : List ℕ → Type 0) (t₀ : List ℕ) (k : ℕ) (g : List ℕ) (x : PlannedChange) (t : List ℕ) (u : List Change) → Suits R x t → Q (made x t)
       → Here R Q t₀ k g t u → Here R Q t₀ k g (made x t) (recorded R x t u)
-  piece-here Q t₀ k g x t u s q h =
+  change-here Q t₀ k g x t u s q h =
       subst (Here R Q t₀ k g (made x t)) (sym (recorded-as R x t u))
-      (noted-here Q t₀ k g (joinsAt R x t) (editAt x t) t (made x t) u (piece-leads Q x t (h .text) s (h .allowed) q) (made-text R x t s (h .text)) h)
+      (noted-here Q t₀ k g (joinsAt R x t) (editAt x t) t (made x t) u (change-leads Q x t (h .text) s (h .allowed) q) (made-text R x t s (h .text)) h)
 
 -- ---- a plan
 -- not refused
@@ -189,52 +189,52 @@ abbrev pub Answered : Outcome State → Type 0
 Answered (refused k) = ⊥
 Answered (answered k a b s) = Unit {0}
 
--- each text that the pieces lead to is of Q where it is not longer than C
-abbrev pub New : (List ℕ → Type 0) → ℕ → List Piece → List ℕ → Type 0
+-- each text that the changes lead to is of Q where it is not longer than C
+abbrev pub New : (List ℕ → Type 0) → ℕ → List PlannedChange → List ℕ → Type 0
 New Q C [] t = Unit {0}
 New Q C (x ∷ xs) t = (length (made x t) ≤ C → Q (made x t)) × New Q C xs (made x t)
 
 module _ (R : Repertoire) where
-  -- pieces that suit, none too long, made and recorded one after the other
-  pub plan-here : (Q : List ℕ → Type 0) (C : ℕ) (t₀ : List ℕ) (k : ℕ) (g : List ℕ) (xs : List Piece) (t : List ℕ) (u : List Change)
+  -- changes that suit, none too long, made and recorded one after the other
+  pub plan-here : (Q : List ℕ → Type 0) (C : ℕ) (t₀ : List ℕ) (k : ℕ) (g : List ℕ) (xs : List PlannedChange) (t : List ℕ) (u : List Change)
       → New Q C xs t → AllSuit R xs t → tooLong C xs t ≡ false → Here R Q t₀ k g t u → Here R Q t₀ k g (textAfter xs t) (listAfter R xs t u)
   unfolding textAfter listAfter AllSuit tooLong
   plan-here Q C t₀ k g [] t u n s e h = h
   plan-here Q C t₀ k g (x ∷ xs) t u n s e h =
       let m = or-none (ltb C (length (made x t))) (tooLong C xs (made x t)) e in
-      plan-here Q C t₀ k g xs (made x t) (recorded R x t u) (n .1) (s .1) (m .1) (piece-here R Q t₀ k g x t u (s .0) (n .0 (ltb-false _ _ (m .0))) h)
+      plan-here Q C t₀ k g xs (made x t) (recorded R x t u) (n .1) (s .1) (m .1) (change-here R Q t₀ k g x t u (s .0) (n .0 (ltb-false _ _ (m .0))) h)
 
   module _ (F : Format) (Q : List ℕ → Type 0) (t₀ : List ℕ) where
-    -- the redo list is dropped, or leads on as it did where there is no piece
-    redo-after : (xs : List Piece) (t : List ℕ) (r : List Change) (goal : List ℕ) → Chain R Q goal r t → Nest 0 r → allSmall (F .width) r ≡ true
-        → (goal′ : List ℕ) × Chain R Q goal′ (redoAfter xs r) (textAfter xs t) × Nest 0 (redoAfter xs r) × (allSmall (F .width) (redoAfter xs r) ≡ true)
-    unfolding textAfter allSmall
+    -- the redo list is dropped, or leads on as it did where there is no change
+    redo-after : (xs : List PlannedChange) (t : List ℕ) (r : List Change) (goal : List ℕ) → Chain R Q goal r t → Nest 0 r → allNumbersFit (F .width) r ≡ true
+        → (goal′ : List ℕ) × Chain R Q goal′ (redoAfter xs r) (textAfter xs t) × Nest 0 (redoAfter xs r) × (allNumbersFit (F .width) (redoAfter xs r) ≡ true)
+    unfolding textAfter allNumbersFit
     redo-after [] t r goal c n e = (goal, c, n, e)
     redo-after (x ∷ xs) t r goal c n e = (textAfter xs (made x t), refl, refl, refl)
 
     -- refused by none
-    planned-keeps : (z : Sizes) (C : ℕ) (p : Plan) (s : State) (g : List ℕ) → New Q C (p .pieces) (s .text) → AllSuit R (p .pieces) (s .text)
-        → In (textAfter (p .pieces) (s .text)) (p .cursor) (p .cursor)
-        → Inv R F Q t₀ s g → tooLong C (p .pieces) (s .text) ≡ false → fits F z (listAfter R (p .pieces) (s .text) (s .log .undo)) ≡ true → Inv R F Q t₀ (planned R p s) g
+    planned-keeps : (z : Sizes) (C : ℕ) (p : Plan) (s : State) (g : List ℕ) → New Q C (p .changes) (s .text) → AllSuit R (p .changes) (s .text)
+        → In (textAfter (p .changes) (s .text)) (p .cursor) (p .cursor)
+        → Inv R F Q t₀ s g → tooLong C (p .changes) (s .text) ≡ false → fits F z (listAfter R (p .changes) (s .text) (s .log .undo)) ≡ true → Inv R F Q t₀ (planned R p s) g
     unfolding fits
     planned-keeps z C p s g n a i v e f =
-        let r = redo-after (p .pieces) (s .text) (s .log .redo) (v .goal) (v .forth) (v .nested) (v .redo-small) in
+        let r = redo-after (p .changes) (s .text) (s .log .redo) (v .goal) (v .forth) (v .nested) (v .redo-numbers) in
         record {
-          here = plan-here Q C t₀ (s .log .level) g (p .pieces) (s .text) (s .log .undo) n a e (v .here);
+          here = plan-here Q C t₀ (s .log .level) g (p .changes) (s .text) (s .log .undo) n a e (v .here);
           goal = r .0;
           forth = r .1;
           nested = r .2;
           cursor = i;
-          undo-small = and-both (allSmall (F .width) (listAfter R (p .pieces) (s .text) (s .log .undo))) _ f .0;
-          redo-small = r .3;
+          undo-numbers = and-both (allNumbersFit (F .width) (listAfter R (p .changes) (s .text) (s .log .undo))) _ f .0;
+          redo-numbers = r .3;
         }
 
     -- a plan that suits the text, refused by 9, by 10 or by none; where it is refused, nothing is asked of its texts
-    pub plan-keeps : (z : Sizes) (C : ℕ) (p : Plan) (s : State) (g : List ℕ) → (Answered (edited R F z C p s) → New Q C (p .pieces) (s .text))
-        → AllSuit R (p .pieces) (s .text) → In (textAfter (p .pieces) (s .text)) (p .cursor) (p .cursor)
+    pub plan-keeps : (z : Sizes) (C : ℕ) (p : Plan) (s : State) (g : List ℕ) → (Answered (edited R F z C p s) → New Q C (p .changes) (s .text))
+        → AllSuit R (p .changes) (s .text) → In (textAfter (p .changes) (s .text)) (p .cursor) (p .cursor)
         → Inv R F Q t₀ s g → Inv R F Q t₀ (leaves (edited R F z C p s) s) g
     unfolding edited
     plan-keeps z C p s g n a i v =
-        by-test (Inv R F Q t₀ (leaves (edited R F z C p s) s) g) (tooLong C (p .pieces) (s .text)) (λ e. rw e v)
-        (λ e. by-test (Inv R F Q t₀ (leaves (edited R F z C p s) s) g) (fits F z (listAfter R (p .pieces) (s .text) (s .log .undo)))
+        by-test (Inv R F Q t₀ (leaves (edited R F z C p s) s) g) (tooLong C (p .changes) (s .text)) (λ e. rw e v)
+        (λ e. by-test (Inv R F Q t₀ (leaves (edited R F z C p s) s) g) (fits F z (listAfter R (p .changes) (s .text) (s .log .undo)))
         (λ f. rw (e, f) (planned-keeps z C p s g (n (rw (e, f) tt)) a i v e f)) (λ f. rw (e, f) v))

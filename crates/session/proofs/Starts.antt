@@ -13,7 +13,7 @@ use Rattle.checks.proofs.Fit.{Fit, Passed, fit}
 use Rattle.log_model.specs.Change.{Change, turn}
 use Rattle.log_model.specs.Groups as groups
 use Rattle.formats.specs.declared.Format.{Format}
-use Rattle.log_model.specs.UndoBytes.{allSmall}
+use Rattle.log_model.specs.UndoBytes.{allNumbersFit}
 use Rattle.log_model.proofs.Decode.{decode-encode}
 use Rattle.log_state.specs.Logs.{overSizes, logTests}
 use Rattle.log_state.specs.Calls as logs
@@ -44,7 +44,7 @@ module _ (R : Repertoire) (F : Format) where
 
   -- the first state
   pub start-keeps : (l : Lent) → Starts R l → checked R F l (ownTests false false false) ≡ 0 → Inv R F (Short (length (l .text))) (textOf l) (stateOf R F l) []
-  unfolding allSmall
+  unfolding allNumbersFit
   start-keeps l z passes =
       let f = fit R F (l .text) (l .line) (both (logTests R F (l .log) (l .records) (l .texts)) (ownTests false false false)) passes .0 in
       let e : logs.valueOf R F (logLent l) ≡ groups.empty = ap (λ (g : Log). logs.valueOf R F (logs.lent (l .records) (l .texts) g)) (z .log) ∙ log-none (l .records) (l .texts) in
@@ -53,7 +53,7 @@ module _ (R : Repertoire) (F : Format) where
       subst (λ (g : groups.Log). Inv R F (Short (length (l .text))) (textOf l) (record { text = textOf l; cursor = l .line .cursor; log = g }) []) (sym e)
       (no-redo R F (Short (length (l .text))) (textOf l) (textOf l) (l .line .cursor) 0 [] []
       (record { chain = refl; text = f .text; allowed = omega (arith, n, f .used); groups = record { opened = refl; marks = refl } })
-      (omega arith, omega arith, f .edge, f .edge) refl)
+      (omega arith, omega arith, f .at-boundary, f .at-boundary) refl)
 
 module _ (R : Repertoire) (F : Format) (l : Lent) (z : Starts R l) (passes : checked R F l (ownTests false false false) ≡ 0) where
   abbrev passed : Fit R F (l .text) (l .line) × Passed (both (logTests R F (l .log) (l .records) (l .texts)) (ownTests false false false))
@@ -63,7 +63,7 @@ module _ (R : Repertoire) (F : Format) (l : Lent) (z : Starts R l) (passes : che
   pub start-sized : Sized F (buffersOf l)
   start-sized =
       let d = sized F (logLent l) (or-none (overSizes F (l .log) (l .records) (l .texts)) false (passed .1 .sizes) .0) in
-      record { text = passed .0 .small; records = d .records; texts = d .texts }
+      record { text = passed .0 .limit; records = d .records; texts = d .texts }
 
   -- the first state stands in what is lent first
   pub start-stands : Stands F (stateOf R F l) l

@@ -13,7 +13,7 @@ use Rattle.checks.specs.Outcome.{Outcome, called, leaves}
 use Rattle.log_model.specs.Change.{Change, begin as Change·begin, end as Change·end, edit as Change·edit}
 use Rattle.formats.specs.declared.Format.{Format}
 use Rattle.log_state.specs.Logs.{logTests}
-use Rattle.edit.specs.Plan.{Piece, made, State}
+use Rattle.edit.specs.Plan.{PlannedChange, made, State}
 use Rattle.edit.specs.Calls.{Lent, textOf, sizesOf, checked, stateOf}
 use Rattle.undo.specs.Undo.{undoOut}
 use Rattle.undo_redo.specs.Redo.{redoOut}
@@ -23,7 +23,7 @@ use Rattle.calls.specs.Contracts.{Buffers}
 use Rattle.session.specs.Runs.{Allowed}
 use Rattle.session.proofs.Values.{Handed, lentFor, openAfter}
 use Rattle.session.proofs.Invariant.{Bound, Chain, Inv}
-use Rattle.session.proofs.Handed.{found}
+use Rattle.session.proofs.Handed.{read-back}
 use Rattle.session.proofs.Recorded.{Answered, New, plan-keeps}
 use Rattle.session.proofs.Plans.{planned}
 use Rattle.session.proofs.Moves.{moved-keeps}
@@ -70,16 +70,16 @@ module _ (R : Repertoire) (Q Q′ : List ℕ → Type 0) (more : (t : List ℕ) 
         forth = chain-more (v .goal) (s .log .redo) (s .text) (v .forth);
         nested = v .nested;
         cursor = v .cursor;
-        undo-small = v .undo-small;
-        redo-small = v .redo-small;
+        undo-numbers = v .undo-numbers;
+        redo-numbers = v .redo-numbers;
       }
 
 -- ---- a call
--- the texts that a call leads to are of Q: those of an edit that is not refused, piece by piece; no other call makes a text
+-- the texts that a call leads to are of Q: those of an edit that is not refused, change by change; no other call makes a text
 abbrev pub NewBy : (R : Repertoire) → Lawful R → Format → (List ℕ → Type 0) → Lent → Asked → Type 0
 NewBy R law F Q l (edit x) =
     (v : isText R (textOf l) ≡ true) (i : In (textOf l) (l .line .cursor) (l .line .cursor)) (len : l .line .len ≡ length (textOf l)) → Answered (editOutcome R F l x)
-    → New Q (length (l .text)) (planned R law F l v i len x .plan .pieces) (textOf l)
+    → New Q (length (l .text)) (planned R law F l v i len x .plan .changes) (textOf l)
 NewBy R law F Q l (move x) = Unit {0}
 NewBy R law F Q l (log x) = Unit {0}
 NewBy R law F Q l (undo n) = Unit {0}
@@ -88,19 +88,19 @@ NewBy R law F Q l (cancel m) = Unit {0}
 
 module _ (R : Repertoire) (law : Lawful R) (F : Format) (Q : List ℕ → Type 0) (t₀ : List ℕ) where
   module _ (l : Lent) (s : State) (g : List ℕ) (is : stateOf R F l ≡ s) (len : l .line .len ≡ length (textOf l)) (v : Inv R F Q t₀ s g) where
-    held : Inv R F Q t₀ (stateOf R F l) g
-    held = subst (λ (x : State). Inv R F Q t₀ x g) (sym is) v
+    invariant : Inv R F Q t₀ (stateOf R F l) g
+    invariant = subst (λ (x : State). Inv R F Q t₀ x g) (sym is) v
 
     -- an edit, where the texts that it leads to are of Q
     edit-keeps : (x : EditCall) → NewBy R law F Q l (edit x) → Keeps R F Q t₀ (edit x) (outcomeOf R F l (edit x)) s g
     edit-keeps x n =
-        let p = planned R law F l (held .here .text) (held .cursor) len x in
+        let p = planned R law F l (invariant .here .text) (invariant .cursor) len x in
         subst (λ (o : Outcome State). Keeps R F Q t₀ (edit x) o s g) (sym (p .is))
         (by-checks R F Q t₀ l s g is v (edit x) (checked R F l (p .own)) _
         (not-one (both (lineTests R F (l .text) (l .line)) (both (logTests R F (l .log) (l .records) (l .texts)) (p .own))))
         (λ e.
         plan-keeps R F Q t₀ (sizesOf l) (length (l .text)) (p .plan) (stateOf R F l) g
-        (λ q. n (held .here .text) (held .cursor) len (subst Answered (sym (p .is)) (rw e q))) (p .suits e .0) (p .suits e .1) held))
+        (λ q. n (invariant .here .text) (invariant .cursor) len (subst Answered (sym (p .is)) (rw e q))) (p .suits e .0) (p .suits e .1) invariant))
 
     -- a call of the log that is lent the text too
     log-keeps : (a : Asked) (f : State → Outcome State) → Keeps R F Q t₀ a (f (stateOf R F l)) (stateOf R F l) g
@@ -111,17 +111,17 @@ module _ (R : Repertoire) (law : Lawful R) (F : Format) (Q : List ℕ → Type 0
     -- each call, where the texts that it leads to are of Q
     pub keeps : Bound Q (length (l .text)) → (a : Asked) → NewBy R law F Q l a → Allowed a g → Keeps R F Q t₀ a (outcomeOf R F l a) s g
     keeps b (edit x) n q = edit-keeps x n
-    keeps b (move x) n q = moved-keeps R F l (held .here .text) (held .cursor) len Q t₀ s g v is x
+    keeps b (move x) n q = moved-keeps R F l (invariant .here .text) (invariant .cursor) len Q t₀ s g v is x
     keeps b (log begin) n q = begin-keeps R F Q t₀ l s g is v
     keeps b (log end) n q = end-keeps R F Q t₀ l s g is v
     keeps b (log lastInsert) n q = last-insert-keeps R F Q t₀ l s g is v
     keeps b (undo i) n q =
         log-keeps (undo i) (undoOut (length (l .text)) i) (subst (Inv R F Q t₀ (leaves (undoOut (length (l .text)) i (stateOf R F l)) (stateOf R F l))) (sym q)
-        (undo-keeps R F Q t₀ (length (l .text)) i (stateOf R F l) b (subst (Inv R F Q t₀ (stateOf R F l)) q held) .1))
+        (undo-keeps R F Q t₀ (length (l .text)) i (stateOf R F l) b (subst (Inv R F Q t₀ (stateOf R F l)) q invariant) .1))
     keeps b (redo i) n q =
         log-keeps (redo i) (redoOut (length (l .text)) i) (subst (Inv R F Q t₀ (leaves (redoOut (length (l .text)) i (stateOf R F l)) (stateOf R F l))) (sym q)
-        (redo-keeps R F Q t₀ (length (l .text)) i (stateOf R F l) b (subst (Inv R F Q t₀ (stateOf R F l)) q held) .1))
-    keeps b (cancel m) n q = log-keeps (cancel m) (cancelOut (length (l .text)) m) (cancel-keeps R F Q t₀ (length (l .text)) m (stateOf R F l) g b held)
+        (redo-keeps R F Q t₀ (length (l .text)) i (stateOf R F l) b (subst (Inv R F Q t₀ (stateOf R F l)) q invariant) .1))
+    keeps b (cancel m) n q = log-keeps (cancel m) (cancelOut (length (l .text)) m) (cancel-keeps R F Q t₀ (length (l .text)) m (stateOf R F l) g b invariant)
 
 -- ---- a call of a run
 -- Q is what holds of the texts before it, Q′ of those and of the texts that it leads to
@@ -131,18 +131,18 @@ pub step-keeps : (R : Repertoire) (law : Lawful R) (F : Format) (Q Q′ : List �
     → Inv R F Q′ t₀ (leaves (outcomeOf R F (lentFor F s b′) a) s) (openAfter a (outcomeOf R F (lentFor F s b′) a) g)
 step-keeps R law F Q Q′ t₀ b b′ a s g h q more top n v =
     let w = inv-more R Q Q′ more F t₀ s g v in
-    keeps R law F Q′ t₀ (lentFor F s b′) s g (found R F Q′ t₀ b s g w b′ h) (ap length (sym (h .stored .text))) w top a n q
+    keeps R law F Q′ t₀ (lentFor F s b′) s g (read-back R F Q′ t₀ b s g w b′ h) (ap length (sym (h .stored .text))) w top a n q
 
 -- no longer than a buffer of so many bytes
 abbrev pub Short : ℕ → List ℕ → Type 0
 Short C t = length t ≤ C
 
-new-short : (C : ℕ) (xs : List Piece) (t : List ℕ) → New (Short C) C xs t
+new-short : (C : ℕ) (xs : List PlannedChange) (t : List ℕ) → New (Short C) C xs t
 new-short C [] t = tt
 new-short C (x ∷ xs) t = ((λ h. h), new-short C xs (made x t))
 
 all-short : (R : Repertoire) (law : Lawful R) (F : Format) (l : Lent) (a : Asked) → NewBy R law F (Short (length (l .text))) l a
-all-short R law F l (edit x) = λ v i len q. new-short (length (l .text)) (planned R law F l v i len x .plan .pieces) (textOf l)
+all-short R law F l (edit x) = λ v i len q. new-short (length (l .text)) (planned R law F l v i len x .plan .changes) (textOf l)
 all-short R law F l (move x) = tt
 all-short R law F l (log x) = tt
 all-short R law F l (undo n) = tt

@@ -13,7 +13,7 @@ use Rattle.checks.specs.Outcome.{Outcome, refused, answered, numberIn, leaves}
 use Rattle.log_model.specs.Change.{Change, begin, end, edit}
 use Rattle.formats.specs.declared.Format.{Format}
 use Rattle.edit.specs.Plan.{State}
-use Rattle.undo.specs.Undo.{owed, Walked, walk, numberOf, trailOf, undoneState, undoWalk, undoOut}
+use Rattle.undo.specs.Undo.{owed, Walked, walk, numberOf, stepStateOf, undoneState, undoWalk, undoOut}
 use Rattle.undo_redo.specs.Redo.{redoWalk, redoneState, behindNumber, redoOut}
 use Rattle.session.proofs.Values.{Units, SameTextAndLog}
 use Rattle.session.proofs.Invariant.{Nest, Open, Groups, Bound, Chain, Inv}
@@ -72,7 +72,7 @@ unfolding redoOut
 redo-leaves C zero s a b = refl
 redo-leaves C (suc n) s a b =
     let o = redoOut C n (afterOne C s) in
-    let k = numberOf 0 (redoWalk C s .trail .undone) in
+    let k = numberOf 0 (redoWalk C s .reached .undone) in
     by-test _ (eqb (redoWalk C s .stopped) 0)
     (λ e. rw e (behind-leaves k o a ∙ redo-leaves C n (afterOne C s) a b ∙ sym (behind-leaves k o b)))
     (λ e. rw e)
@@ -86,8 +86,8 @@ module _ (R : Repertoire) (F : Format) (Q : List ℕ → Type 0) (t₀ : List �
         nested′ = v .nested;
         chain = v .here .chain;
         chain′ = v .forth;
-        small = v .undo-small;
-        small′ = v .redo-small;
+        numbers = v .undo-numbers;
+        numbers′ = v .redo-numbers;
         text = v .here .text;
         allowed = v .here .allowed;
       }
@@ -101,8 +101,8 @@ module _ (R : Repertoire) (F : Format) (Q : List ℕ → Type 0) (t₀ : List �
         forth = z .chain′;
         nested = z .nested′;
         cursor = c;
-        undo-small = z .small;
-        redo-small = z .small′;
+        undo-numbers = z .numbers;
+        redo-numbers = z .numbers′;
       }
 
   -- its level is 0
@@ -114,13 +114,13 @@ module _ (R : Repertoire) (F : Format) (Q : List ℕ → Type 0) (t₀ : List �
   unfolding undoOut
   undo-keeps C n s h v =
       let w = undoWalk C n s in
-      let q = good R F Q C t₀ (v .goal) h (s .log .undo) (s .log .redo) (n - 1) 0 (trailOf s) (at s v) (v .cursor) in
-      (number-le (w .stopped) (w .trail .undone) (q .runs), inv (undoneState w (s .log .level)) (v .goal) (level-none s v) (q .at) (q .cursor))
+      let q = good R F Q C t₀ (v .goal) h (s .log .undo) (s .log .redo) (n - 1) 0 (stepStateOf s) (at s v) (v .cursor) in
+      (number-le (w .stopped) (w .reached .undone) (q .runs), inv (undoneState w (s .log .level)) (v .goal) (level-none s v) (q .at) (q .cursor))
 
   -- ---- and so does redo
   -- one unit redone never stops
   one-good : (C : ℕ) (s : State) → Bound Q C → (v : Inv R F Q t₀ s []) → Good R F Q (v .goal) t₀ (redoWalk C s)
-  one-good C s h v = good R F Q C (v .goal) t₀ h (s .log .redo) (s .log .undo) 0 0 (trailOf s) (at-turned R F Q (at s v)) (v .cursor)
+  one-good C s h v = good R F Q C (v .goal) t₀ h (s .log .redo) (s .log .undo) 0 0 (stepStateOf s) (at-turned R F Q (at s v)) (v .cursor)
 
   -- it keeps the invariant
   pub one-keeps : (C : ℕ) (s : State) → Bound Q C → Inv R F Q t₀ s [] → Inv R F Q t₀ (afterOne C s) []
@@ -129,7 +129,7 @@ module _ (R : Repertoire) (F : Format) (Q : List ℕ → Type 0) (t₀ : List �
       inv (afterOne C s) (v .goal) (level-none s v) (at-turned R F Q (q .at)) (q .cursor)
 
   -- one unit, and then n
-  redo-step : (C n : ℕ) (s : State) → Bound Q C → Inv R F Q t₀ s [] → redoOut C (suc n) s ≡ behindNumber (numberOf 0 (redoWalk C s .trail .undone)) (redoOut C n (afterOne C s))
+  redo-step : (C n : ℕ) (s : State) → Bound Q C → Inv R F Q t₀ s [] → redoOut C (suc n) s ≡ behindNumber (numberOf 0 (redoWalk C s .reached .undone)) (redoOut C n (afterOne C s))
   unfolding redoOut
   redo-step C n s h v = rw (one-good C s h v .runs)
 
@@ -137,7 +137,7 @@ module _ (R : Repertoire) (F : Format) (Q : List ℕ → Type 0) (t₀ : List �
   redo-more : (C n : ℕ) (s : State) → Bound Q C → Inv R F Q t₀ s [] → afterRedo C (suc n) s ≡ afterRedo C n (afterOne C s)
   redo-more C n s h v =
       ap (λ (o : Outcome State). leaves o s) (redo-step C n s h v)
-      ∙ behind-leaves (numberOf 0 (redoWalk C s .trail .undone)) (redoOut C n (afterOne C s)) s
+      ∙ behind-leaves (numberOf 0 (redoWalk C s .reached .undone)) (redoOut C n (afterOne C s)) s
       ∙ redo-leaves C n (afterOne C s) s (afterOne C s)
 
   -- n units
@@ -146,7 +146,7 @@ module _ (R : Repertoire) (F : Format) (Q : List ℕ → Type 0) (t₀ : List �
   redo-keeps C zero s h v = (omega arith, v)
   redo-keeps C (suc n) s h v =
       let i = redo-keeps C n (afterOne C s) h (one-keeps C s h v) in (
-        subst (λ (o : Outcome State). numberIn o ≤ 1) (sym (redo-step C n s h v)) (behind-le (numberOf 0 (redoWalk C s .trail .undone)) (redoOut C n (afterOne C s)) (i .0)),
+        subst (λ (o : Outcome State). numberIn o ≤ 1) (sym (redo-step C n s h v)) (behind-le (numberOf 0 (redoWalk C s .reached .undone)) (redoOut C n (afterOne C s)) (i .0)),
         subst (λ (x : State). Inv R F Q t₀ x []) (sym (redo-more C n s h v)) (i .1),
       )
 
@@ -154,11 +154,11 @@ module _ (R : Repertoire) (F : Format) (Q : List ℕ → Type 0) (t₀ : List �
   -- in undo
   pub undo-cap : (C C′ n : ℕ) (s : State) → Bound Q C → Bound Q C′ → Inv R F Q t₀ s [] → undoOut C n s ≡ undoOut C′ n s
   unfolding undoOut
-  undo-cap C C′ n s h h′ v = rw (walk-cap R F Q C C′ t₀ (v .goal) h h′ (s .log .undo) (s .log .redo) (n - 1) 0 (trailOf s) (at s v))
+  undo-cap C C′ n s h h′ v = rw (walk-cap R F Q C C′ t₀ (v .goal) h h′ (s .log .undo) (s .log .redo) (n - 1) 0 (stepStateOf s) (at s v))
 
   -- in one unit redone
   one-cap : (C C′ : ℕ) (s : State) → Bound Q C → Bound Q C′ → Inv R F Q t₀ s [] → afterOne C s ≡ afterOne C′ s
-  one-cap C C′ s h h′ v = rw (walk-cap R F Q C C′ (v .goal) t₀ h h′ (s .log .redo) (s .log .undo) 0 0 (trailOf s) (at-turned R F Q (at s v)))
+  one-cap C C′ s h h′ v = rw (walk-cap R F Q C C′ (v .goal) t₀ h h′ (s .log .redo) (s .log .undo) 0 0 (stepStateOf s) (at-turned R F Q (at s v)))
 
   -- in n units redone
   pub redo-cap : (C C′ n : ℕ) (s : State) → Bound Q C → Bound Q C′ → Inv R F Q t₀ s [] → leaves (redoOut C n s) s ≡ leaves (redoOut C′ n s) s
@@ -174,8 +174,8 @@ module _ (R : Repertoire) (F : Format) (Q : List ℕ → Type 0) (t₀ : List �
   sum C n m s h v i j =
       let w = undoWalk C n s in
       let e : n + m - 1 ≡ (n - 1) + suc (m - 1) = omega arith in
-      rw (e, further R F Q C t₀ (v .goal) h (m - 1) (s .log .undo) (s .log .redo) (n - 1) 0 (trailOf s) (at s v))
-      (ap (λ (x : Walked). undoneState x (s .log .level)) (walk-undone C (w .from) (w .to) (m - 1) (owed 0) (w .trail .text) (w .trail .cursor) false (w .trail .undone)))
+      rw (e, further R F Q C t₀ (v .goal) h (m - 1) (s .log .undo) (s .log .redo) (n - 1) 0 (stepStateOf s) (at s v))
+      (ap (λ (x : Walked). undoneState x (s .log .level)) (walk-undone C (w .from) (w .to) (m - 1) (owed 0) (w .reached .text) (w .reached .cursor) false (w .reached .undone)))
 
   -- in any
   pub undo-sum : (C C′ C″ n m : ℕ) (s : State) → Bound Q C → Bound Q C′ → Bound Q C″ → Inv R F Q t₀ s [] → 1 ≤ n → 1 ≤ m
@@ -192,7 +192,7 @@ module _ (R : Repertoire) (F : Format) (Q : List ℕ → Type 0) (t₀ : List �
   unfolding undoOut
   one-less C s x u h v q =
       rw q
-      (walk-lt R F Q C t₀ (v .goal) h x u (s .log .redo) (1 - 1) 0 (trailOf s) (subst (λ (l : List Change). At R F Q t₀ (v .goal) 0 l (s .log .redo) (s .text)) q (at s v)))
+      (walk-lt R F Q C t₀ (v .goal) h x u (s .log .redo) (1 - 1) 0 (stepStateOf s) (subst (λ (l : List Change). At R F Q t₀ (v .goal) 0 l (s .log .redo) (s .text)) q (at s v)))
 
   -- N records or fewer have N units or fewer
   units-to : (C : ℕ) → Bound Q C → (N : ℕ) (u : List Change) (s : State) → s .log .undo ≡ u → length u ≤ N → Inv R F Q t₀ s [] → (k : ℕ) × (k ≤ N) × Units C k s
@@ -240,7 +240,7 @@ module _ (R : Repertoire) (F : Format) (Q : List ℕ → Type 0) (t₀ : List �
   back-forth C s (x ∷ u) q h v ne c =
       let z = subst (λ (l : List Change). At R F Q t₀ (v .goal) 0 l (s .log .redo) (s .text)) q (at s v) in
       let e : 1 - 1 ≡ 0 = omega arith in
-      let b : WalkedBack C 0 (s .log .undo) (s .log .redo) (s .text) (undoWalk C 1 s) = rw (e, q) (walk-back R F Q C t₀ (v .goal) h x u (s .log .redo) 0 (trailOf s) z) in
+      let b : WalkedBack C 0 (s .log .undo) (s .log .redo) (s .text) (undoWalk C 1 s) = rw (e, q) (walk-back R F Q C t₀ (v .goal) h x u (s .log .redo) 0 (stepStateOf s) z) in
       let r = b (record { text = []; cursor = c; undone = false }) in
       (r .0 .cursor, ap (λ (w : Walked). redoneState w (s .log .level)) (r .1))
 

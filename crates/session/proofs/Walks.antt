@@ -15,40 +15,40 @@ use Rattle.unicode.specs.Text.{isText}
 use Rattle.log_model.specs.Change.{insert, delete, replace, Change, begin, end, edit, place, old, flipped, turn}
 use Rattle.numbers.specs.Numbers.{top}
 use Rattle.formats.specs.declared.Format.{Format}
-use Rattle.log_model.specs.UndoBytes.{small, allSmall}
+use Rattle.log_model.specs.UndoBytes.{numbersFit, allNumbersFit}
 use Rattle.log_model.proofs.Newest.{turn-turn}
-use Rattle.undo_step.specs.Retrace.{Trail, Tried, done, stops, undoing}
-use Rattle.undo.specs.Undo.{Waiting, owed, passing, settled, Walked, onTried, onSettled, walk}
+use Rattle.undo_step.specs.UndoStep.{StepState, StepOutcome, done, stops, undoing}
+use Rattle.undo.specs.Undo.{Waiting, owed, passing, settled, Walked, onOutcome, onSettled, walk}
 use Rattle.session.proofs.Invariant.{Nest, Bound, Chain}
 use Rattle.session.proofs.Links.{undo-link, flip-link, cursor-link, text-link}
 
 -- ---- records turned round
 -- the numbers are the same ones
-small-turn : (w : ℕ) (x : Change) → small w (turn x) ≡ small w x
-small-turn w begin = refl
-small-turn w end = refl
-small-turn w (edit (insert p s)) = refl
-small-turn w (edit (delete p s)) = refl
-small-turn w (edit (replace p o n)) = ap (λ (b : Bool). ltb p (top w) && b) (and-comm (ltb (length n) (top w)) (ltb (length o) (top w)))
+numbers-turn : (w : ℕ) (x : Change) → numbersFit w (turn x) ≡ numbersFit w x
+numbers-turn w begin = refl
+numbers-turn w end = refl
+numbers-turn w (edit (insert p s)) = refl
+numbers-turn w (edit (delete p s)) = refl
+numbers-turn w (edit (replace p o n)) = ap (λ (b : Bool). ltb p (top w) && b) (and-comm (ltb (length n) (top w)) (ltb (length o) (top w)))
 
--- where a record moves over, the list that it leaves stays small
-pub small-tail : (w : ℕ) (x : Change) (u : List Change) → allSmall w (x ∷ u) ≡ true → allSmall w u ≡ true
-unfolding allSmall
-small-tail w x u h = and-both (small w x) (allSmall w u) h .1
+-- where a record moves over, the numbers of the list that it leaves fit
+pub numbers-tail : (w : ℕ) (x : Change) (u : List Change) → allNumbersFit w (x ∷ u) ≡ true → allNumbersFit w u ≡ true
+unfolding allNumbersFit
+numbers-tail w x u h = and-both (numbersFit w x) (allNumbersFit w u) h .1
 
 -- and so does the list that it comes to
-small-moved : (w : ℕ) (x : Change) (u r : List Change) → allSmall w (x ∷ u) ≡ true → allSmall w r ≡ true → allSmall w (turn x ∷ r) ≡ true
-unfolding allSmall
-small-moved w x u r h k = rw (small-turn w x, and-both (small w x) (allSmall w u) h .0, k)
+numbers-moved : (w : ℕ) (x : Change) (u r : List Change) → allNumbersFit w (x ∷ u) ≡ true → allNumbersFit w r ≡ true → allNumbersFit w (turn x ∷ r) ≡ true
+unfolding allNumbersFit
+numbers-moved w x u r h k = rw (numbers-turn w x, and-both (numbersFit w x) (allNumbersFit w u) h .0, k)
 
--- ---- trails and walks
+-- ---- states reached, and walks
 -- a text with the cursor and the flag of s
-abbrev pub withText : List ℕ → Trail → Trail
+abbrev pub withText : List ℕ → StepState → StepState
 withText t s = record { text = t; cursor = s .cursor; undone = s .undone }
 
 -- a walk that ends here
-abbrev pub arrived : List Change → List Change → Trail → Walked
-arrived u r s = record { from = u; to = r; trail = s; stopped = 0 }
+abbrev pub arrived : List Change → List Change → StepState → Walked
+arrived u r s = record { from = u; to = r; reached = s; stopped = 0 }
 
 -- ---- what a walk does behind a record, by cases
 -- d groups deep, it ends here only where d is 0
@@ -65,22 +65,22 @@ settled-same true (suc l) last f g h = h l
 
 -- ---- a walk of one unit the other way
 -- at a place d groups deep, over the list r
-abbrev pub goesOn : ℕ → ℕ → List Change → List Change → Trail → Walked
+abbrev pub goesOn : ℕ → ℕ → List Change → List Change → StepState → Walked
 goesOn C zero r u s = arrived r u s
 goesOn C (suc d) r u s = walk C 0 (owed (suc d)) r u s
 
 -- so it goes on behind a record
-goes-on : (C d : ℕ) (r u : List Change) (s : Trail) → onSettled (settled (owed d)) 0 (arrived r u s) (λ i. walk C i (owed d) r u s) ≡ goesOn C d r u s
+goes-on : (C d : ℕ) (r u : List Change) (s : StepState) → onSettled (settled (owed d)) 0 (arrived r u s) (λ i. walk C i (owed d) r u s) ≡ goesOn C d r u s
 goes-on C zero r u s = refl
 goes-on C (suc d) r u s = refl
 
 -- from where the walk w ended, a walk of one unit comes back to the place where w began, whatever the cursor between
 unfoldable pub WalkedBack : (C d : ℕ) (u r : List Change) (t : List ℕ) → Walked → Type 0
-WalkedBack C d u r t w = (c : Trail) → (c′ : Trail) × (walk C 0 (owed 0) (w .to) (w .from) (withText (w .trail .text) c) ≡ goesOn C d r u (withText t c′))
+WalkedBack C d u r t w = (c : StepState) → (c′ : StepState) × (walk C 0 (owed 0) (w .to) (w .from) (withText (w .reached .text) c) ≡ goesOn C d r u (withText t c′))
 
 -- a walk back from behind a record is one from before it
-walked-back : (C d d′ : ℕ) (x : Change) (u r : List Change) (t : List ℕ) (s : Trail)
-    → ((c : Trail) → (c′ : Trail) × (walk C 0 (owed d′) (turn x ∷ r) u (withText (s .text) c) ≡ goesOn C d r (x ∷ u) (withText t c′)))
+walked-back : (C d d′ : ℕ) (x : Change) (u r : List Change) (t : List ℕ) (s : StepState)
+    → ((c : StepState) → (c′ : StepState) × (walk C 0 (owed d′) (turn x ∷ r) u (withText (s .text) c) ≡ goesOn C d r (x ∷ u) (withText t c′)))
     → ((i : ℕ) → d′ ≡ suc i → WalkedBack C d′ u (turn x ∷ r) (s .text) (walk C 0 (owed d′) u (turn x ∷ r) s))
     → WalkedBack C d (x ∷ u) r t (onSettled (settled (owed d′)) 0 (arrived u (turn x ∷ r) s) (λ i. walk C i (owed d′) u (turn x ∷ r) s))
 unfolding WalkedBack
@@ -90,10 +90,10 @@ walked-back C d (suc i) x u r t s f g = λ c. (f (g i refl c .0) .0, g i refl c 
 -- ---- walking on
 -- from where the walk w ended, k + 1 units more
 unfoldable pub more : ℕ → ℕ → Walked → Walked
-more C k w = walk C k (owed 0) (w .from) (w .to) (w .trail)
+more C k w = walk C k (owed 0) (w .from) (w .to) (w .reached)
 
 -- l units more and k + 1 more are l + k + 1 more
-settled-more : (C k d l : ℕ) (u r : List Change) (s : Trail) → ((i : ℕ) → walk C (i + suc k) (owed d) u r s ≡ more C k (walk C i (owed d) u r s))
+settled-more : (C k d l : ℕ) (u r : List Change) (s : StepState) → ((i : ℕ) → walk C (i + suc k) (owed d) u r s ≡ more C k (walk C i (owed d) u r s))
     → onSettled (settled (owed d)) (l + suc k) (arrived u r s) (λ i. walk C i (owed d) u r s) ≡ more C k
     (onSettled (settled (owed d)) l (arrived u r s) (λ i. walk C i (owed d) u r s))
 unfolding more
@@ -108,8 +108,8 @@ module _ (R : Repertoire) (F : Format) (Q : List ℕ → Type 0) where
     pub nested′ : Nest d r
     pub chain : Chain R Q e u t
     pub chain′ : Chain R Q e′ r t
-    pub small : allSmall (F .width) u ≡ true
-    pub small′ : allSmall (F .width) r ≡ true
+    pub numbers : allNumbersFit (F .width) u ≡ true
+    pub numbers′ : allNumbersFit (F .width) r ≡ true
     pub text : isText R t ≡ true
     pub allowed : Q t
 
@@ -121,21 +121,21 @@ module _ (R : Repertoire) (F : Format) (Q : List ℕ → Type 0) where
         nested′ = z .nested;
         chain = z .chain′;
         chain′ = z .chain;
-        small = z .small′;
-        small′ = z .small;
+        numbers = z .numbers′;
+        numbers′ = z .numbers;
         text = z .text;
         allowed = z .allowed;
       }
 
   -- the record x undone at such a place: the place behind it, and the way back by the record turned round
-  pub record Move (C : ℕ) (e e′ : List ℕ) (d : ℕ) (x : Change) (u r : List Change) (s : Trail) : Type 0 where
+  pub record Move (C : ℕ) (e e′ : List ℕ) (d : ℕ) (x : Change) (u r : List Change) (s : StepState) : Type 0 where
     pub depth : ℕ
-    pub next : Trail
+    pub next : StepState
     pub tried : undoing C x s ≡ done next
     pub passed : passing x (owed d) ≡ owed depth
     pub at : At e e′ depth u (turn x ∷ r) (next .text)
     pub cursor : In (s .text) (s .cursor) (s .cursor) → In (next .text) (next .cursor) (next .cursor)
-    pub retried : (c : Trail) → (c′ : Trail) × (undoing C (turn x) (withText (next .text) c) ≡ done (withText (s .text) c′))
+    pub retried : (c : StepState) → (c′ : StepState) × (undoing C (turn x) (withText (next .text) c) ≡ done (withText (s .text) c′))
     pub repassed : passing (turn x) (owed depth) ≡ owed d
 
   -- the place behind a record: both lists stay small
@@ -147,14 +147,14 @@ module _ (R : Repertoire) (F : Format) (Q : List ℕ → Type 0) where
         nested′ = n′;
         chain = c;
         chain′ = c′;
-        small = small-tail (F .width) x u (z .small);
-        small′ = small-moved (F .width) x u r (z .small) (z .small′);
+        numbers = numbers-tail (F .width) x u (z .numbers);
+        numbers′ = numbers-moved (F .width) x u r (z .numbers) (z .numbers′);
         text = v;
         allowed = q;
       }
 
   -- every record there is undone without a stop
-  pub move : (C : ℕ) (e e′ : List ℕ) (d : ℕ) (x : Change) (u r : List Change) (s : Trail) → Bound Q C → At e e′ d (x ∷ u) r (s .text) → Move C e e′ d x u r s
+  pub move : (C : ℕ) (e e′ : List ℕ) (d : ℕ) (x : Change) (u r : List Change) (s : StepState) → Bound Q C → At e e′ d (x ∷ u) r (s .text) → Move C e e′ d x u r s
   unfolding undoing
   move C e e′ zero begin u r s h z = absurd (z .nested)
   move C e e′ (suc d) begin u r s h z =
@@ -202,11 +202,11 @@ module _ (R : Repertoire) (F : Format) (Q : List ℕ → Type 0) where
   -- it has ended where no group holds it
   pub record Good (e e′ : List ℕ) (w : Walked) : Type 0 where
     pub runs : w .stopped ≡ 0
-    pub at : At e e′ 0 (w .from) (w .to) (w .trail .text)
-    pub cursor : In (w .trail .text) (w .trail .cursor) (w .trail .cursor)
+    pub at : At e e′ 0 (w .from) (w .to) (w .reached .text)
+    pub cursor : In (w .reached .text) (w .reached .cursor) (w .reached .cursor)
 
   -- every walk does
-  pub good : (C : ℕ) (e e′ : List ℕ) → Bound Q C → (u r : List Change) (l d : ℕ) (s : Trail) → At e e′ d u r (s .text) → In (s .text) (s .cursor) (s .cursor)
+  pub good : (C : ℕ) (e e′ : List ℕ) → Bound Q C → (u r : List Change) (l d : ℕ) (s : StepState) → At e e′ d u r (s .text) → In (s .text) (s .cursor) (s .cursor)
       → Good e e′ (walk C l (owed d) u r s)
   unfolding walk
   good C e e′ h [] r l d s z k = record { runs = refl; at = subst (λ (i : ℕ). At e e′ i [] r (s .text)) (z .nested) z; cursor = k }
@@ -219,15 +219,15 @@ module _ (R : Repertoire) (F : Format) (Q : List ℕ → Type 0) where
 
   -- ---- a walk of one unit the other way
   -- one record turned round undone
-  forth : (C : ℕ) (e e′ : List ℕ) (d : ℕ) (x : Change) (u r : List Change) (s : Trail) (m : Move C e e′ d x u r s) (c : Trail)
-      → (c′ : Trail) × (walk C 0 (owed (m .depth)) (turn x ∷ r) u (withText (m .next .text) c) ≡ goesOn C d r (x ∷ u) (withText (s .text) c′))
+  forth : (C : ℕ) (e e′ : List ℕ) (d : ℕ) (x : Change) (u r : List Change) (s : StepState) (m : Move C e e′ d x u r s) (c : StepState)
+      → (c′ : StepState) × (walk C 0 (owed (m .depth)) (turn x ∷ r) u (withText (m .next .text) c) ≡ goesOn C d r (x ∷ u) (withText (s .text) c′))
   unfolding walk
   forth C e e′ d x u r s m c =
       let c′ = m .retried c .0 in
       (c′, rw (m .retried c .1, m .repassed, turn-turn x) (goes-on C d r (x ∷ u) (withText (s .text) c′)))
 
   -- a unit back and the same unit forth
-  pub walk-back : (C : ℕ) (e e′ : List ℕ) → Bound Q C → (x : Change) (u r : List Change) (d : ℕ) (s : Trail) → At e e′ d (x ∷ u) r (s .text)
+  pub walk-back : (C : ℕ) (e e′ : List ℕ) → Bound Q C → (x : Change) (u r : List Change) (d : ℕ) (s : StepState) → At e e′ d (x ∷ u) r (s .text)
       → WalkedBack C d (x ∷ u) r (s .text) (walk C 0 (owed d) (x ∷ u) r s)
   unfolding walk
   walk-back C e e′ h x [] r d s z =
@@ -240,7 +240,7 @@ module _ (R : Repertoire) (F : Format) (Q : List ℕ → Type 0) where
       (walked-back C d (m .depth) x (y ∷ u) r (s .text) (m .next) (forth C e e′ d x (y ∷ u) r s m) (λ i q. walk-back C e e′ h y u (turn x ∷ r) (m .depth) (m .next) (m .at)))
 
   -- ---- walking on: l + 1 units and then k + 1 are l + k + 2
-  pub further : (C : ℕ) (e e′ : List ℕ) → Bound Q C → (k : ℕ) (u r : List Change) (l d : ℕ) (s : Trail) → At e e′ d u r (s .text)
+  pub further : (C : ℕ) (e e′ : List ℕ) → Bound Q C → (k : ℕ) (u r : List Change) (l d : ℕ) (s : StepState) → At e e′ d u r (s .text)
       → walk C (l + suc k) (owed d) u r s ≡ more C k (walk C l (owed d) u r s)
   unfolding walk more
   further C e e′ h k [] r l d s z = refl
@@ -251,14 +251,14 @@ module _ (R : Repertoire) (F : Format) (Q : List ℕ → Type 0) where
 
   -- ---- the length of the text buffer has no say, where no text of Q is longer
   -- at one record
-  undoing-cap : (C C′ : ℕ) (e : List ℕ) (x : Change) (u : List Change) (s : Trail) → Bound Q C → Bound Q C′ → Chain R Q e (x ∷ u) (s .text) → undoing C x s ≡ undoing C′ x s
+  undoing-cap : (C C′ : ℕ) (e : List ℕ) (x : Change) (u : List Change) (s : StepState) → Bound Q C → Bound Q C′ → Chain R Q e (x ∷ u) (s .text) → undoing C x s ≡ undoing C′ x s
   unfolding undoing
   undoing-cap C C′ e begin u s h h′ c = refl
   undoing-cap C C′ e end u s h h′ c = refl
   undoing-cap C C′ e (edit x) u s h h′ c = undo-link R C x (c .0) s h (c .1) ∙ sym (undo-link R C′ x (c .0) s h′ (c .1))
 
   -- of a whole walk
-  pub walk-cap : (C C′ : ℕ) (e e′ : List ℕ) → Bound Q C → Bound Q C′ → (u r : List Change) (l d : ℕ) (s : Trail) → At e e′ d u r (s .text)
+  pub walk-cap : (C C′ : ℕ) (e e′ : List ℕ) → Bound Q C → Bound Q C′ → (u r : List Change) (l d : ℕ) (s : StepState) → At e e′ d u r (s .text)
       → walk C l (owed d) u r s ≡ walk C′ l (owed d) u r s
   unfolding walk
   walk-cap C C′ e e′ h h′ [] r l d s z = refl
@@ -268,7 +268,7 @@ module _ (R : Repertoire) (F : Format) (Q : List ℕ → Type 0) where
       rw (m .tried, q, m .passed) (settled-same (settled (owed (m .depth))) l _ _ _ (λ i. walk-cap C C′ e e′ h h′ u (turn x ∷ r) i (m .depth) (m .next) (m .at)))
 
   -- ---- how many records a walk leaves: no more than there were
-  pub walk-le : (C : ℕ) (e e′ : List ℕ) → Bound Q C → (u r : List Change) (l d : ℕ) (s : Trail) → At e e′ d u r (s .text) → length (walk C l (owed d) u r s .from) ≤ length u
+  pub walk-le : (C : ℕ) (e e′ : List ℕ) → Bound Q C → (u r : List Change) (l d : ℕ) (s : StepState) → At e e′ d u r (s .text) → length (walk C l (owed d) u r s .from) ≤ length u
   unfolding walk
   walk-le C e e′ h [] r l d s z = omega arith
   walk-le C e e′ h (x ∷ u) r l d s z =
@@ -278,7 +278,7 @@ module _ (R : Repertoire) (F : Format) (Q : List ℕ → Type 0) where
       (λ i. omega (arith, walk-le C e e′ h u (turn x ∷ r) i (m .depth) (m .next) (m .at))))
 
   -- and fewer where there were some
-  pub walk-lt : (C : ℕ) (e e′ : List ℕ) → Bound Q C → (x : Change) (u r : List Change) (l d : ℕ) (s : Trail) → At e e′ d (x ∷ u) r (s .text)
+  pub walk-lt : (C : ℕ) (e e′ : List ℕ) → Bound Q C → (x : Change) (u r : List Change) (l d : ℕ) (s : StepState) → At e e′ d (x ∷ u) r (s .text)
       → length (walk C l (owed d) (x ∷ u) r s .from) ≤ length u
   unfolding walk
   walk-lt C e e′ h x u r l d s z =
@@ -290,7 +290,7 @@ module _ (R : Repertoire) (F : Format) (Q : List ℕ → Type 0) where
 -- ---- whether a record of a text was undone before has no influence on the rest
 -- all but the flag
 unfoldable pub forget : Walked → Walked
-forget w = record { from = w .from; to = w .to; trail = record { text = w .trail .text; cursor = w .trail .cursor; undone = false }; stopped = w .stopped }
+forget w = record { from = w .from; to = w .to; reached = record { text = w .reached .text; cursor = w .reached .cursor; undone = false }; stopped = w .stopped }
 
 -- behind a record
 forget-settled : (b : Bool) (l : ℕ) (z z′ : Walked) (f f′ : ℕ → Walked) → forget z ≡ forget z′ → ((i : ℕ) → forget (f i) ≡ forget (f′ i))
@@ -300,7 +300,7 @@ forget-settled true zero z z′ f f′ p q = p
 forget-settled true (suc l) z z′ f f′ p q = q l
 
 -- at a record
-forget-tried : (v : Tried) (f f′ : ℕ → Walked) (g : Trail → Walked) → ((k : ℕ) → forget (f k) ≡ forget (f′ k)) → forget (onTried v f g) ≡ forget (onTried v f′ g)
+forget-tried : (v : StepOutcome) (f f′ : ℕ → Walked) (g : StepState → Walked) → ((k : ℕ) → forget (f k) ≡ forget (f′ k)) → forget (onOutcome v f g) ≡ forget (onOutcome v f′ g)
 forget-tried (done s) f f′ g h = refl
 forget-tried (stops k) f f′ g h = h k
 

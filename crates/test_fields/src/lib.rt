@@ -281,7 +281,7 @@ pub fn amount_of(x: usize) -> u8 {
 }
 
 // Are these the bytes that a field says? It is read into `scratch`.
-fn holds(field: &[u8], bytes: &[u8], scratch: &mut [u8]) -> bool {
+fn is_field(field: &[u8], bytes: &[u8], scratch: &mut [u8]) -> bool {
     let f = text_of(field, 0, scratch);
     let len = f.value;
     if f.next != field.len() {
@@ -293,12 +293,12 @@ fn holds(field: &[u8], bytes: &[u8], scratch: &mut [u8]) -> bool {
 // Is a buffer left as a line says: the used part as the field `due`, or the whole as the field `lent` where `due` is '='?
 fn is_left(due: &[u8], lent: &[u8], buffer: &[u8], used: usize, scratch: &mut [u8]) -> bool {
     if same(due, b"=") {
-        return holds(lent, buffer, scratch);
+        return is_field(lent, buffer, scratch);
     }
     if buffer.len() < used {
         return false;
     }
-    holds(due, &buffer[0..used], scratch)
+    is_field(due, &buffer[0..used], scratch)
 }
 
 // The end of the field behind a space at a place.

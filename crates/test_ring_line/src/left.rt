@@ -1,7 +1,7 @@
 // What a ring's call leaves, and answers, beside what a line says: the fields behind '>'.
-ghost use Prim.Native.Nat.{_≤_};
 use check::same;
-use kill_ring::Left;
+use kill_ring::AnswerAndRing;
+use numbers::wide;
 use test_fields::NO_CALL;
 use test_fields::end_of_field;
 use test_fields::is_field_left;
@@ -15,7 +15,7 @@ use test_fields::text_of;
 const ANSWER: usize = 8;
 
 // Are an answer and the record what the numbers behind '>' say? No call answers NO_CALL.
-fn is_answer(l: Left, v: &[usize; 12]) -> bool {
+fn is_answer(l: AnswerAndRing, v: &[usize; 12]) -> bool {
     let a = l.answer;
     let r = l.ring;
     (a.number < NO_CALL)
@@ -27,12 +27,6 @@ fn is_answer(l: Left, v: &[usize; 12]) -> bool {
         & (r.index == v[5])
         & (r.action == v[6])
         & (r.yanked == v[7])
-}
-
-fn wide(b: u8) -> usize
-    ensures { λ r. ⌜ r ≤ 255 ⌝ }
-{
-    b as usize
 }
 
 // Are the texts of the slots in use these bytes, one behind the other?
@@ -101,7 +95,7 @@ pub fn is_all_left(
     due: &[u8],
     slots: &[u8],
     lens: &[u8],
-    l: Left,
+    l: AnswerAndRing,
     scratch: &mut [u8],
 ) -> bool {
     let mut v = [0usize; 12];

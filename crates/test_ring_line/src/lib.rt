@@ -4,7 +4,7 @@
 mod left;
 mod ring_calls;
 
-use kill_ring::Left;
+use kill_ring::AnswerAndRing;
 use kill_ring::Ring;
 use kill_ring::RingAnswer;
 use left::is_all_left;
@@ -28,13 +28,13 @@ fn ring_of(v: &[usize]) -> Ring {
     }
 }
 
-fn no_call(ring: Ring) -> Left {
+fn no_call(ring: Ring) -> AnswerAndRing {
     let answer = RingAnswer {
         number: NO_CALL,
         slot: 0,
         size: 0,
     };
-    Left { answer, ring }
+    AnswerAndRing { answer, ring }
 }
 
 // The lengths of what a line lends and hands over, and how many numbers it has.
@@ -67,7 +67,7 @@ fn call_lent(
     text: &[u8],
     l: Lent,
     v: &[usize],
-) -> Left {
+) -> AnswerAndRing {
     let i = least(l.slots, slots.len());
     let j = least(l.lens, lens.len());
     let k = least(l.text, text.len());
@@ -92,7 +92,14 @@ fn call_lent(
 }
 
 // Is all that was lent left, and all answered, as a line says?
-fn is_lent_left(lent: &[u8], due: &[u8], slots: &[u8], lens: &[u8], l: Lent, left: Left) -> bool {
+fn is_lent_left(
+    lent: &[u8],
+    due: &[u8],
+    slots: &[u8],
+    lens: &[u8],
+    l: Lent,
+    left: AnswerAndRing,
+) -> bool {
     let mut scratch = io::large_buffer();
     let i = least(l.slots, slots.len());
     let j = least(l.lens, lens.len());

@@ -1,6 +1,6 @@
 // The calls of the kill ring by their names: each is called at one place. The arguments besides a text stand in the order of the
 // call's parameters.
-use kill_ring::Left;
+use kill_ring::AnswerAndRing;
 use kill_ring::Ring;
 use test_fields::code_of;
 use test_fields::value_at;
@@ -18,7 +18,7 @@ pub fn call(
     ring: Ring,
     text: &[u8],
     v: &[usize],
-) -> Left {
+) -> AnswerAndRing {
     let a = value_at(v, 0);
     let mode = code_of(a);
     match key {

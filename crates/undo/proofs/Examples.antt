@@ -8,7 +8,7 @@ use Rattle.utf8.specs.Chars.{validFrom}
 use Rattle.checks.specs.Outcome.{answered}
 use Rattle.log_model.specs.Change.{Change, begin, end, edit, insert, delete}
 use Rattle.edit.specs.Plan.{State, splice}
-use Rattle.undo_step.specs.Retrace.{misfit, exchanging, undoing}
+use Rattle.undo_step.specs.UndoStep.{misfit, exchanging, undoing}
 use Rattle.undo.specs.Undo.{walk, undoOut}
 
 -- a text with the cursor at its end, its undo and redo lists, and a level

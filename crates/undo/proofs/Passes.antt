@@ -25,24 +25,24 @@ use Rattle.log_state.proofs.Recorded.{good}
 use Rattle.edit.specs.Plan.{splice}
 use Rattle.edit.specs.Calls.{Lent, lent, logLent, stateOf, Ready}
 use Rattle.edit.proofs.Answers.{cursor-in}
-use Rattle.edit.proofs.Held.{state-held, state-ready}
+use Rattle.edit.proofs.Stored.{state-stored, state-ready}
 use Rattle.edit.proofs.Splice.{splice-text, splice-end}
 use Rattle.undo_step.specs.declared.Step.{Step}
-use Rattle.undo_step.specs.Retrace.{Trail, Tried, done, stops, misfit, exchanging, undoing, stepTo, Retraced}
-use Rattle.undo.specs.Steps.{trailBy, lineOf, stateAt, fromOf, passLog, Leaves}
-use Rattle.undo.proofs.Seams.{held}
+use Rattle.undo_step.specs.UndoStep.{StepState, StepOutcome, done, stops, misfit, exchanging, undoing, stepTo, UndoneOrRedone}
+use Rattle.undo.specs.Steps.{stepStateBy, lineOf, stateAt, fromOf, passLog, Leaves}
+use Rattle.undo.proofs.Seams.{holds}
 
 -- ---- a stop has a number over 1
-abbrev pub Numbered : Tried → Type 0
+abbrev pub Numbered : StepOutcome → Type 0
 Numbered (done p) = Unit {0}
 Numbered (stops k) = 1 < k
 
-tried-numbered : (a b : Bool) (p : Trail) → Numbered (cond a (stops 12) (cond b (stops 9) (done p)))
+tried-numbered : (a b : Bool) (p : StepState) → Numbered (cond a (stops 12) (cond b (stops 9) (done p)))
 tried-numbered true b p = omega arith
 tried-numbered false true p = omega arith
 tried-numbered false false p = tt
 
-pub numbered : (C : ℕ) (x : Change) (s : Trail) → Numbered (undoing C x s)
+pub numbered : (C : ℕ) (x : Change) (s : StepState) → Numbered (undoing C x s)
 unfolding undoing exchanging
 numbered C begin s = tt
 numbered C end s = tt
@@ -52,17 +52,17 @@ numbered C (edit x) s =
 
 -- ---- what it leaves in the bytes
 module _ (F : Format) (l : Lent) (w : groups.Log) where
-  pub stop-leaves : (v : Tried) (s q : Step) (t : List ℕ) → lineOf s ≡ l .line → Retraced v s q (l .text) t → (q .number ≡ 0 → ⊥) → Leaves F l v w q (l .log) t
+  pub stop-leaves : (v : StepOutcome) (s q : Step) (t : List ℕ) → lineOf s ≡ l .line → UndoneOrRedone v s q (l .text) t → (q .number ≡ 0 → ⊥) → Leaves F l v w q (l .log) t
   stop-leaves (done p) s q t e r n = absurd (n (ap (λ (z : Step). z .number) (r .0)))
   stop-leaves (stops k) s q t e r n = (ap (λ (z : Step). z .number) (r .0), ap lineOf (r .0) ∙ e, refl, r .1)
 
-  pub done-leaves : (v : Tried) (s q : Step) (g : Log) (t : List ℕ) → Numbered v → Retraced v s q (l .text) t → q .number ≡ 0 → g ≡ log.logOf F w
+  pub done-leaves : (v : StepOutcome) (s q : Step) (g : Log) (t : List ℕ) → Numbered v → UndoneOrRedone v s q (l .text) t → q .number ≡ 0 → g ≡ log.logOf F w
       → log.Stored F w (l .records) (l .texts) → Leaves F l v w q g t
   done-leaves (done p) s q g t m r z e b = (r .0, e, record { text = r .1; log = b })
   done-leaves (stops k) s q g t m r z e b = absurd (omega (arith, m, ap (λ (i : Step). i .number) (r .0)))
 
 -- ---- a text stays a text, and its cursor a place between characters
-abbrev Fits : Repertoire → Tried → Type 0
+abbrev Fits : Repertoire → StepOutcome → Type 0
 Fits R (done p) = (isText R (p .text) ≡ true) × In (p .text) (p .cursor) (p .cursor)
 Fits R (stops k) = Unit {0}
 
@@ -89,7 +89,7 @@ module _ (R : Repertoire) where
       fit i = (splice-text t p (p + n) s i R v e, splice-end t p (p + n) s i (text-valid R s e))
 
   -- a record undone
-  undone-fits : (C : ℕ) (x : Change) (s : Trail) → okChange R x ≡ true → isText R (s .text) ≡ true → In (s .text) (s .cursor) (s .cursor) → Fits R (undoing C x s)
+  undone-fits : (C : ℕ) (x : Change) (s : StepState) → okChange R x ≡ true → isText R (s .text) ≡ true → In (s .text) (s .cursor) (s .cursor) → Fits R (undoing C x s)
   unfolding undoing
   undone-fits C begin s k v i = (v, i)
   undone-fits C end s k v i = (v, i)
@@ -112,7 +112,7 @@ ok-turn R (edit (replace p o n)) e = let b = and-both (isText R n) (isText R o) 
 module _ {F : Format} {l : Lent} (h : Ready F l) where
   -- the redo list as it is written
   good-redo : AllGood catalogue (F .width) (map turn (stateOf catalogue F l .log .redo))
-  good-redo = good-right catalogue (F .width) (reverse (stateOf catalogue F l .log .undo)) (map turn (stateOf catalogue F l .log .redo)) (held h .both .good)
+  good-redo = good-right catalogue (F .width) (reverse (stateOf catalogue F l .log .undo)) (map turn (stateOf catalogue F l .log .redo)) (holds h .both .good)
 
   -- in either direction
   pub fine : (back : Bool) {x : Change} {f : List Change} → fromOf back (stateOf catalogue F l .log) ≡ x ∷ f → Fine F x (passLog back x f (stateOf catalogue F l .log))
@@ -125,35 +125,35 @@ module _ {F : Format} {l : Lent} (h : Ready F l) where
 
 -- it was undone: what is lent to the next record passes the checks, and holds the state behind it
 pub record Went (F : Format) (l : Lent) (b : Bool) (x : Change) (w : groups.Log) (q : Step) (g : Log) (t : List ℕ) : Type 0 where
-  pub trail : Trail
-  pub tried : undoing (length (l .text)) x (trailBy (stateOf catalogue F l) b) ≡ done trail
-  pub step : q ≡ stepTo trail
+  pub reached : StepState
+  pub tried : undoing (length (l .text)) x (stepStateBy (stateOf catalogue F l) b) ≡ done reached
+  pub step : q ≡ stepTo reached
   pub ready : Ready F (lent t (l .records) (l .texts) (lineOf q) g)
-  pub state : stateOf catalogue F (lent t (l .records) (l .texts) (lineOf q) g) ≡ stateAt trail w
+  pub state : stateOf catalogue F (lent t (l .records) (l .texts) (lineOf q) g) ≡ stateAt reached w
 
 -- it was stopped: all is as it was
 pub record Stopped (F : Format) (l : Lent) (b : Bool) (x : Change) (q : Step) (g : Log) (t : List ℕ) : Type 0 where
-  pub tried : undoing (length (l .text)) x (trailBy (stateOf catalogue F l) b) ≡ stops (q .number)
+  pub tried : undoing (length (l .text)) x (stepStateBy (stateOf catalogue F l) b) ≡ stops (q .number)
   pub line : lineOf q ≡ l .line
   pub log : g ≡ l .log
   pub text : t ≡ l .text
 
 module _ (F : Format) (l : Lent) (b : Bool) (x : Change) (w : groups.Log) (q : Step) (g : Log) (t : List ℕ) where
-  abbrev tried : Tried
-  tried = undoing (length (l .text)) x (trailBy (stateOf catalogue F l) b)
+  abbrev tried : StepOutcome
+  tried = undoing (length (l .text)) x (stepStateBy (stateOf catalogue F l) b)
 
   pub went : Ready F l → Fine F x w → w .level ≡ l .log .level → length t ≡ length (l .text) → Leaves F l tried w q g t → q .number ≡ 0 → Went F l b x w q g t
-  went h n v e r z = go tried refl (numbered (length (l .text)) x (trailBy (stateOf catalogue F l) b))
-      (undone-fits catalogue (length (l .text)) x (trailBy (stateOf catalogue F l) b) (n .ok) (h .text) (cursor-in F l h)) r
+  went h n v e r z = go tried refl (numbered (length (l .text)) x (stepStateBy (stateOf catalogue F l) b))
+      (undone-fits catalogue (length (l .text)) x (stepStateBy (stateOf catalogue F l) b) (n .ok) (h .text) (cursor-in F l h)) r
     where
-      go : (a : Tried) → tried ≡ a → Numbered a → Fits catalogue a → Leaves F l a w q g t → Went F l b x w q g t
+      go : (a : StepOutcome) → tried ≡ a → Numbered a → Fits catalogue a → Leaves F l a w q g t → Went F l b x w q g t
       go (done p) i m f r =
           let s = r .2 in
-          let c = state-ready F (stateAt p w) t (l .records) (l .texts) s (n .undo) (n .redo) (omega (arith, h .small)) (h .log .records)
+          let c = state-ready F (stateAt p w) t (l .records) (l .texts) s (n .undo) (n .redo) (omega (arith, h .limit)) (h .log .records)
           (h .log .texts) (h .log .fit) (omega (arith, v, h .log .level)) (f .0) (f .1) in
-          let d = state-held catalogue F (stateAt p w) t (l .records) (l .texts) s (n .undo) (n .redo) in
+          let d = state-stored catalogue F (stateAt p w) t (l .records) (l .texts) s (n .undo) (n .redo) in
           record {
-            trail = p;
+            reached = p;
             tried = i;
             step = r .0;
             ready = subst (λ (a : Step). Ready F (lent t (l .records) (l .texts) (lineOf a) g)) (sym (r .0))
@@ -165,6 +165,6 @@ module _ (F : Format) (l : Lent) (b : Bool) (x : Change) (w : groups.Log) (q : S
   pub stopped : Leaves F l tried w q g t → (q .number ≡ 0 → ⊥) → Stopped F l b x q g t
   stopped r z = go tried refl r
     where
-      go : (a : Tried) → tried ≡ a → Leaves F l a w q g t → Stopped F l b x q g t
+      go : (a : StepOutcome) → tried ≡ a → Leaves F l a w q g t → Stopped F l b x q g t
       go (done p) i r = absurd (z (ap (λ (s : Step). s .number) (r .0)))
       go (stops k) i r = record { tried = i ∙ ap stops (sym (r .0)); line = r .1; log = r .2; text = r .3 }

@@ -7,8 +7,8 @@ use lib.ListN.{length, take, drop, length-append, take-append-drop}
 use Rattle.unicode.specs.Repertoire.{Repertoire}
 use Rattle.log_model.specs.Change.{Change}
 use Rattle.formats.specs.declared.Format.{Format}
-use Rattle.log_model.specs.Layout.{recordOf, textsOf, encodeRecords, encodeTexts, Small, AllGood}
-use Rattle.log_model.specs.Hold.{Holds}
+use Rattle.log_model.specs.Layout.{recordOf, textsOf, encodeRecords, encodeTexts, Representable, AllGood}
+use Rattle.log_model.specs.Holds.{Holds}
 use Rattle.log_model.proofs.Decode.{Reads, reads, record-pos, text-at}
 use Rattle.log_model.proofs.Holds.{records-append, texts-append, good-right}
 use Rattle.log_records.specs.Records.{IsWhole, recordAt, Carries}
@@ -27,8 +27,8 @@ module _ {R : Repertoire} {F : Format} {rb tb : List ℕ} {ur ut rr rt : ℕ} {u
   abbrev texts-behind : List ℕ
   texts-behind = encodeTexts ys ++ drop (ut + rt) tb
 
-  small : Small (F .width) c
-  small = good-right R (F .width) xs (c ∷ ys) (subst (AllGood R (F .width)) row (h .both .good)) .0 .0
+  representable : Representable (F .width) c
+  representable = good-right R (F .width) xs (c ∷ ys) (subst (AllGood R (F .width)) row (h .both .good)) .0 .0
 
   in-records : rb ≡ encodeRecords F xs ++ (recordOf F c ++ behind)
   in-records =
@@ -47,7 +47,7 @@ module _ {R : Repertoire} {F : Format} {rb tb : List ℕ} {ur ut rr rt : ℕ} {u
     reads-in =
         subst (λ (z : List ℕ). Reads F c z tb at t) (sym in-records)
         (subst (λ (z : List ℕ). Reads F c (encodeRecords F xs ++ (recordOf F c ++ behind)) z at t) (sym in-texts)
-        (reads F c (encodeRecords F xs) (encodeTexts xs) behind texts-behind at t (sym e) (sym f) small))
+        (reads F c (encodeRecords F xs) (encodeTexts xs) behind texts-behind at t (sym e) (sym f) representable))
 
     whole : IsWhole F rb at
     whole =

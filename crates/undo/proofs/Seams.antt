@@ -11,7 +11,7 @@ use Rattle.log_model.specs.Change.{Change, turn}
 use Rattle.formats.specs.declared.Format.{Format}
 use Rattle.log_model.specs.Layout.{recordOf, textsOf, encodeRecords, encodeTexts}
 use Rattle.log_model.specs.Groups as groups
-use Rattle.log_model.specs.Hold.{Holds}
+use Rattle.log_model.specs.Holds.{Holds}
 use Rattle.log_model.specs.UndoBytes.{undoRecords, undoTexts}
 use Rattle.log_model.proofs.Decode.{record-pos}
 use Rattle.log_model.proofs.Newest.{turn-turn}
@@ -19,7 +19,7 @@ use Rattle.log_model.proofs.Holds.{seam-within, texts-within, seam-moved}
 use Rattle.log_model.proofs.UndoBytes.{records-size, texts-size}
 use Rattle.log_state.specs.declared.Log.{Log}
 use Rattle.log_state.specs.Calls as log
-use Rattle.log_state.proofs.Answers.{state, held-state, held-bytes}
+use Rattle.log_state.proofs.Answers.{state, holds-state, holds-bytes}
 use Rattle.log_state.proofs.Recorded.{records-used, texts-used}
 use Rattle.edit.specs.Calls.{Lent, logLent, stateOf, Ready}
 use Rattle.edit.proofs.Answers.{hold}
@@ -55,8 +55,8 @@ module _ {F : Format} {l : Lent} (h : Ready F l) where
   rt = l .log .redo .texts
 
   -- the lists that the bytes hold, in the buffers
-  pub held : Holds catalogue F (l .records) (l .texts) ur ut rr rt (reverse (v .undo)) (map turn (v .redo))
-  held = hold F l h
+  pub holds : Holds catalogue F (l .records) (l .texts) ur ut rr rt (reverse (v .undo)) (map turn (v .redo))
+  holds = hold F l h
 
   -- the log's texts are no more than a number says
   pub texts-below : length (l .texts) < 4294967296
@@ -67,12 +67,12 @@ module _ {F : Format} {l : Lent} (h : Ready F l) where
       → at ≡ length (encodeRecords F (reverse u)) → t ≡ length (encodeTexts (reverse u))
       → Seam F l (record { undo = u; redo = r; level = l .log .level }) at t
   seam u r row {at} {t} e f =
-      let m = seam-moved held (reverse u) (map turn r) row e f in
+      let m = seam-moved holds (reverse u) (map turn r) row e f in
       record {
-        within = seam-within held (reverse u) (map turn r) row e f;
-        texts = texts-within held (reverse u) (map turn r) row e f;
-        state = held-state catalogue F (l .records) (l .texts) at t (ur + rr - at) (ut + rt - t) (l .log .level) u r m;
-        bytes = held-bytes catalogue F (l .records) (l .texts) at t (ur + rr - at) (ut + rt - t) (l .log .level) u r m;
+        within = seam-within holds (reverse u) (map turn r) row e f;
+        texts = texts-within holds (reverse u) (map turn r) row e f;
+        state = holds-state catalogue F (l .records) (l .texts) at t (ur + rr - at) (ut + rt - t) (l .log .level) u r m;
+        bytes = holds-bytes catalogue F (l .records) (l .texts) at t (ur + rr - at) (ut + rt - t) (l .log .level) u r m;
       }
 
   -- ---- the newest record of the undo list
@@ -81,7 +81,7 @@ module _ {F : Format} {l : Lent} (h : Ready F l) where
   some-newest p = go (v .undo) refl
     where
       go : (w : List Change) → v .undo ≡ w → (x : Change) × (u : List Change) × (v .undo ≡ x ∷ u)
-      go [] e = absurd (omega (arith, held .records, ap (λ (w : List Change). length (encodeRecords F (reverse w))) e))
+      go [] e = absurd (omega (arith, holds .records, ap (λ (w : List Change). length (encodeRecords F (reverse w))) e))
       go (x ∷ u) e = (x, u, e)
 
   module _ {x : Change} {u : List Change} (e : v .undo ≡ x ∷ u) where
@@ -103,18 +103,18 @@ module _ {F : Format} {l : Lent} (h : Ready F l) where
       -- where it stands, and the seam before it
       pub newest-stands : Stands F (l .records) (l .texts) at t x
       unfolding undoRecords undoTexts
-      newest-stands = stands held (reverse u) (map turn (v .redo)) x row a b
+      newest-stands = stands holds (reverse u) (map turn (v .redo)) x row a b
 
       pub newest-seam : Seam F l (passLog true x u v) at t
       unfolding undoRecords undoTexts
       newest-seam = seam u (turn x ∷ v .redo) (row ∙ ap (λ (c : Change). reverse u ++ (c ∷ map turn (v .redo))) (sym (turn-turn x))) a b
 
-    -- its size is the one noted at the list's last byte
+    -- its size is the one written at the list's last byte
     pub newest-size : (sizes : List ℕ) → SizesOf F sizes (v .undo) → getD sizes (ur - 1) 0 ≡ length (recordOf F x)
     newest-size sizes z =
         ap (λ (n : ℕ). getD sizes (n - 1) 0) (records-used F (logLent l) (h .log) ∙ ap (λ (w : List Change). length (undoRecords F w)) e) ∙ subst (SizesOf F sizes) e z .0
 
-    -- and what is noted of those before it
+    -- and what is written of those before it
     pub sizes-left : (sizes : List ℕ) → SizesOf F sizes (v .undo) → SizesOf F sizes u
     sizes-left sizes z = subst (SizesOf F sizes) e z .1
 
@@ -129,7 +129,7 @@ module _ {F : Format} {l : Lent} (h : Ready F l) where
   -- ---- the next record of the redo list
   -- its bytes
   redo-records : rr ≡ length (encodeRecords F (map turn (v .redo)))
-  redo-records = ap (λ (g : Log). g .redo .records) (held-state catalogue F (l .records) (l .texts) ur ut rr rt (l .log .level) (v .undo) (v .redo) held)
+  redo-records = ap (λ (g : Log). g .redo .records) (holds-state catalogue F (l .records) (l .texts) ur ut rr rt (l .log .level) (v .undo) (v .redo) holds)
 
   -- there is one where the list has bytes
   pub some-next : 0 < rr → (x : Change) × (r : List Change) × (v .redo ≡ x ∷ r)
@@ -163,7 +163,7 @@ module _ {F : Format} {l : Lent} (h : Ready F l) where
 
     -- where it stands, and the seam behind it
     pub next-stands : Stands F (l .records) (l .texts) ur ut (turn x)
-    next-stands = stands held (reverse (v .undo)) (map turn r) (turn x) row-on (held .records) (held .texts)
+    next-stands = stands holds (reverse (v .undo)) (map turn r) (turn x) row-on (holds .records) (holds .texts)
 
     pub next-seam : {at t : ℕ} → at ≡ ur + length (recordOf F (turn x)) → t ≡ ut + length (textsOf (turn x)) → Seam F l (passLog false x r v) at t
     unfolding undoRecords undoTexts

@@ -20,8 +20,8 @@ use Rattle.log_records.specs.Records.{numbersOf, recordAt, Carries}
 use Rattle.log_records.specs.Walks.{SizesOf}
 use Rattle.log_records.proofs.Records.{carried-texts, carried-size}
 use Rattle.undo_step.specs.declared.Step.{Step}
-use Rattle.undo_step.specs.Retrace.{undoing, facing, Retraced}
-use Rattle.undo.specs.Steps.{trailBy, lineOf, LastStart, passLog, Leaves}
+use Rattle.undo_step.specs.UndoStep.{undoing, toUndo, UndoneOrRedone}
+use Rattle.undo.specs.Steps.{stepStateBy, lineOf, LastStart, passLog, Leaves}
 use Rattle.undo.proofs.Rows.{Stands}
 use Rattle.undo.proofs.Seams.{Seam, newest-records, newest-texts, newest-size, newest-stands, newest-seam, next-stands, next-seam}
 use Rattle.undo.proofs.Passes.{numbered, stop-leaves, done-leaves}
@@ -42,40 +42,40 @@ module _ {F : Format} {rb tb : List ℕ} {at t : ℕ} {c : Change} (s : Stands F
     space = omega (arith, lengths, s .space)
 
 -- a record turned round twice
-facing-twice : (back : Bool) (x : Change) → facing back (facing back x) ≡ x
-facing-twice true x = refl
-facing-twice false x = turn-turn x
+to-undo-twice : (back : Bool) (x : Change) → toUndo back (toUndo back x) ≡ x
+to-undo-twice true x = refl
+to-undo-twice false x = turn-turn x
 
 -- the record x undone or redone, where it stands as it was written: s is where the walk was, q where it is
-module _ (F : Format) (l : Lent) (back : Bool) (x : Change) (f : List Change) {at t : ℕ} (c : Stands F (l .records) (l .texts) at t (facing back x))
+module _ (F : Format) (l : Lent) (back : Bool) (x : Change) (f : List Change) {at t : ℕ} (c : Stands F (l .records) (l .texts) at t (toUndo back x))
     {r : Record} (e : r ≡ recordAt F (l .records) at) (s q : Step) (t′ : List ℕ)
-    (tried : (G : Format) (c : Change) → Carries G c r (l .texts) t → Retraced
-    (undoing (length (l .text)) (facing back c) (trailBy (stateOf catalogue F l) (s .undone))) s q (l .text) t′) where
+    (tried : (G : Format) (c : Change) → Carries G c r (l .texts) t → UndoneOrRedone
+    (undoing (length (l .text)) (toUndo back c) (stepStateBy (stateOf catalogue F l) (s .undone))) s q (l .text) t′) where
   abbrev v : groups.Log
   v = stateOf catalogue F l .log
 
-  is-tried : Retraced (undoing (length (l .text)) x (trailBy (stateOf catalogue F l) (s .undone))) s q (l .text) t′
+  is-tried : UndoneOrRedone (undoing (length (l .text)) x (stepStateBy (stateOf catalogue F l) (s .undone))) s q (l .text) t′
   is-tried =
-      subst (λ (a : Change). Retraced (undoing (length (l .text)) a (trailBy (stateOf catalogue F l) (s .undone))) s q (l .text) t′) (facing-twice back x)
-      (tried F (facing back x) (is-carried c e))
+      subst (λ (a : Change). UndoneOrRedone (undoing (length (l .text)) a (stepStateBy (stateOf catalogue F l) (s .undone))) s q (l .text) t′) (to-undo-twice back x)
+      (tried F (toUndo back x) (is-carried c e))
 
-  is-kind : r .kind ≡ numbersOf F (facing back x) .kind
+  is-kind : r .kind ≡ numbersOf F (toUndo back x) .kind
   is-kind = ap (λ (a : Record). a .kind) (e ∙ c .carries .numbers)
 
-  pub record-stops : lineOf s ≡ l .line → (q .number ≡ 0 → ⊥) → (r .kind ≡ numbersOf F (facing back x) .kind)
-      × Leaves F l (undoing (length (l .text)) x (trailBy (stateOf catalogue F l) (s .undone))) (passLog back x f v) q (l .log) t′
-  record-stops i z = (is-kind, stop-leaves F l (passLog back x f v) (undoing (length (l .text)) x (trailBy (stateOf catalogue F l) (s .undone))) s q t′ i is-tried z)
+  pub record-stops : lineOf s ≡ l .line → (q .number ≡ 0 → ⊥) → (r .kind ≡ numbersOf F (toUndo back x) .kind)
+      × Leaves F l (undoing (length (l .text)) x (stepStateBy (stateOf catalogue F l) (s .undone))) (passLog back x f v) q (l .log) t′
+  record-stops i z = (is-kind, stop-leaves F l (passLog back x f v) (undoing (length (l .text)) x (stepStateBy (stateOf catalogue F l) (s .undone))) s q t′ i is-tried z)
 
   pub record-passes : {i j : ℕ} {g : Log} → Seam F l (passLog back x f v) i j → q .number ≡ 0
       → g ≡ state i j (l .log .undo .records + l .log .redo .records - i) (l .log .undo .texts + l .log .redo .texts - j) (l .log .level)
-      → (r .kind ≡ numbersOf F (facing back x) .kind) × Leaves F l (undoing (length (l .text)) x (trailBy (stateOf catalogue F l) (s .undone))) (passLog back x f v) q g t′
+      → (r .kind ≡ numbersOf F (toUndo back x) .kind) × Leaves F l (undoing (length (l .text)) x (stepStateBy (stateOf catalogue F l) (s .undone))) (passLog back x f v) q g t′
   record-passes {g = g} m z k = (
     is-kind,
-    done-leaves F l (passLog back x f v) (undoing (length (l .text)) x (trailBy (stateOf catalogue F l) (s .undone))) s q g t′
-        (numbered (length (l .text)) x (trailBy (stateOf catalogue F l) (s .undone))) is-tried z (k ∙ m .state) (m .bytes),
+    done-leaves F l (passLog back x f v) (undoing (length (l .text)) x (stepStateBy (stateOf catalogue F l) (s .undone))) s q g t′
+        (numbered (length (l .text)) x (stepStateBy (stateOf catalogue F l) (s .undone))) is-tried z (k ∙ m .state) (m .bytes),
   )
 
--- ---- the newest record, by the size n that is noted
+-- ---- the newest record, by the size n that is written
 module _ {F : Format} {l : Lent} (h : Ready F l) (sizes : List ℕ) (z : SizesOf F sizes (stateOf catalogue F l .log .undo)) {x : Change}
     {u : List Change} (e : stateOf catalogue F l .log .undo ≡ x ∷ u) where
   abbrev ur : ℕ

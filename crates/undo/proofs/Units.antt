@@ -17,14 +17,14 @@ use Rattle.edit.specs.Plan.{State}
 use Rattle.edit.specs.Calls.{Lent, lent, stateOf, says, Ready}
 use Rattle.edit.specs.declared.EditAnswer.{EditAnswer}
 use Rattle.undo_step.specs.declared.Step.{Step}
-use Rattle.undo_step.specs.Retrace.{Trail, done, undoing}
+use Rattle.undo_step.specs.UndoStep.{StepState, done, undoing}
 use Rattle.undo.specs.declared.Taken.{Taken}
 use Rattle.undo.specs.Undo.{Waiting, owed, passing, Walked, walk, numberOf, undoWalk}
-use Rattle.undo.specs.Steps.{trailBy, lineOf, fromOf, toOf, PassesOne}
+use Rattle.undo.specs.Steps.{stepStateBy, lineOf, fromOf, toOf, PassesOne}
 use Rattle.undo.proofs.Seams.{usedOf}
 use Rattle.undo.proofs.Counts.{Waits, settles, unsettled, one-of, counts-back}
 use Rattle.undo.proofs.Walks.{walked, walk-end, walk-stop, walk-on, walk-last, walk-next, Come, come-first, Ends, ended}
-use Rattle.undo.proofs.Walks.{stopped-there, stop-ended, goes, come-next, falls, from-there, to-there, trail-there, tried-there}
+use Rattle.undo.proofs.Walks.{stopped-there, stop-ended, goes, come-next, falls, from-there, to-there, reached-there, tried-there}
 
 -- ---- a walk that is to come to W: n units more are to be done after this one
 pub record Walking (F : Format) (l₀ : Lent) (back : Bool) (W : Walked) (t : List ℕ) (s : Step) (g : Log) (n ends begins : ℕ) : Type 0 where
@@ -35,7 +35,7 @@ pub record Walking (F : Format) (l₀ : Lent) (back : Bool) (W : Walked) (t : Li
   pub same :
       walk (length (l₀ .text)) n waiting (fromOf back (stateOf catalogue F (lent t (l₀ .records) (l₀ .texts) (lineOf s) g) .log))
       (toOf back (stateOf catalogue F (lent t (l₀ .records) (l₀ .texts) (lineOf s) g) .log))
-      (trailBy (stateOf catalogue F (lent t (l₀ .records) (l₀ .texts) (lineOf s) g)) (s .undone))
+      (stepStateBy (stateOf catalogue F (lent t (l₀ .records) (l₀ .texts) (lineOf s) g)) (s .undone))
       ≡ W
 
 -- the list that is walked over is no longer than its buffer
@@ -46,7 +46,7 @@ used-few false h = omega (arith, h .log .hold .room, h .log .records, h .log .fi
 -- at its beginning nothing was passed
 pub walking-first : (back : Bool) (n : ℕ) {F : Format} {l₀ : Lent} → Ready F l₀
     → Walking F l₀ back (walk (length (l₀ .text)) n (owed 0) (fromOf back (stateOf catalogue F l₀ .log)) (toOf back (stateOf catalogue F l₀ .log))
-    (trailBy (stateOf catalogue F l₀) false))
+    (stepStateBy (stateOf catalogue F l₀) false))
     (l₀ .text) (record { number = 0; len = l₀ .line .len; cursor = l₀ .line .cursor; undone = false }) (l₀ .log) n 0 0
 walking-first back n h = record { waiting = owed 0; come = come-first h; waits = refl; few = omega (arith, used-few back h); same = refl }
 
@@ -58,23 +58,23 @@ module _ {F : Format} {l₀ : Lent} {back : Bool} {W : Walked} {t : List ℕ} {s
   pub walked-all : fromOf back (now .log) ≡ [] → {r : EditAnswer} → r ≡ says (numberOf (s .number) (s .undone)) (lineOf s) g → Ends F l₀ back W r t
   walked-all e q =
       ended back (k .come) (s .undone) 0
-      (sym (k .same) ∙ ap (λ (f : List Change). walk (length (l₀ .text)) n (k .waiting) f (toOf back (now .log)) (trailBy now (s .undone))) e
-      ∙ walk-end (length (l₀ .text)) n (k .waiting) (toOf back (now .log)) (trailBy now (s .undone))
-      ∙ ap (λ (f : List Change). walked f (toOf back (now .log)) (trailBy now (s .undone)) 0) (sym e))
+      (sym (k .same) ∙ ap (λ (f : List Change). walk (length (l₀ .text)) n (k .waiting) f (toOf back (now .log)) (stepStateBy now (s .undone))) e
+      ∙ walk-end (length (l₀ .text)) n (k .waiting) (toOf back (now .log)) (stepStateBy now (s .undone))
+      ∙ ap (λ (f : List Change). walked f (toOf back (now .log)) (stepStateBy now (s .undone)) 0) (sym e))
       (q ∙ ap (λ (i : ℕ). says (numberOf i (s .undone)) (lineOf s) g) (k .come .number))
 
   module _ {x : Change} {f : List Change} (e : fromOf back (now .log) ≡ x ∷ f) (p : Taken) (t′ : List ℕ)
       (o : PassesOne F (lent t (l₀ .records) (l₀ .texts) (lineOf s) g) back (s .undone) p t′) where
     -- the walk is at that record
-    at-record : W ≡ walk (length (l₀ .text)) n (k .waiting) (x ∷ f) (toOf back (now .log)) (trailBy now (s .undone))
-    at-record = sym (k .same) ∙ ap (λ (a : List Change). walk (length (l₀ .text)) n (k .waiting) a (toOf back (now .log)) (trailBy now (s .undone))) e
+    at-record : W ≡ walk (length (l₀ .text)) n (k .waiting) (x ∷ f) (toOf back (now .log)) (stepStateBy now (s .undone))
+    at-record = sym (k .same) ∙ ap (λ (a : List Change). walk (length (l₀ .text)) n (k .waiting) a (toOf back (now .log)) (stepStateBy now (s .undone))) e
 
     -- a record stops it
     pub walked-stop : (p .step .number ≡ 0 → ⊥) → {r : EditAnswer} → r ≡ says (numberOf (p .step .number) (p .step .undone)) (lineOf (p .step)) (p .log) → Ends F l₀ back W r t′
     walked-stop z q =
         stop-ended back (k .come) e p t′ o z
         (at-record
-        ∙ walk-stop (length (l₀ .text)) n (k .waiting) (toOf back (now .log)) (trailBy now (s .undone)) x f (p .step .number) (stopped-there back (k .come) e p t′ o z))
+        ∙ walk-stop (length (l₀ .text)) n (k .waiting) (toOf back (now .log)) (stepStateBy now (s .undone)) x f (p .step .number) (stopped-there back (k .come) e p t′ o z))
         q
 
     module _ (i : length t′ ≡ length t) (z : p .step .number ≡ 0) where
@@ -88,18 +88,18 @@ module _ {F : Format} {l₀ : Lent} {back : Bool} {W : Walked} {t : List ℕ} {s
       come : Come F l₀ back t′ (p .step) (p .log)
       come = come-next back (k .come) e p t′ o i z
 
-      tried : undoing (length (l₀ .text)) x (trailBy now (s .undone)) ≡ done (goes back (k .come) e p t′ o i z .trail)
+      tried : undoing (length (l₀ .text)) x (stepStateBy now (s .undone)) ≡ done (goes back (k .come) e p t′ o i z .reached)
       tried = tried-there back (k .come) e p t′ o i z
 
       -- what is left of the walk from there
       rest : (m : ℕ)
-          → walk (length (l₀ .text)) m passed f (turn x ∷ toOf back (now .log)) (goes back (k .come) e p t′ o i z .trail)
-          ≡ walk (length (l₀ .text)) m passed (fromOf back (next .log)) (toOf back (next .log)) (trailBy next (p .step .undone))
+          → walk (length (l₀ .text)) m passed f (turn x ∷ toOf back (now .log)) (goes back (k .come) e p t′ o i z .reached)
+          ≡ walk (length (l₀ .text)) m passed (fromOf back (next .log)) (toOf back (next .log)) (stepStateBy next (p .step .undone))
       rest m =
           sym
-          (ap₂ (λ (a b : List Change). walk (length (l₀ .text)) m passed a b (trailBy next (p .step .undone)))
+          (ap₂ (λ (a b : List Change). walk (length (l₀ .text)) m passed a b (stepStateBy next (p .step .undone)))
           (from-there back (k .come) e p t′ o i z) (to-there back (k .come) e p t′ o i z)
-          ∙ ap (walk (length (l₀ .text)) m passed f (turn x ∷ toOf back (now .log))) (trail-there back (k .come) e p t′ o i z))
+          ∙ ap (walk (length (l₀ .text)) m passed f (turn x ∷ toOf back (now .log))) (reached-there back (k .come) e p t′ o i z))
 
       module _ (ends′ begins′ : ℕ) (c : Waits passed ends′ begins′) (m : ends′ + begins′ ≤ ends + begins + 1) where
         -- at most one End or Begin more, and a byte less
@@ -114,7 +114,7 @@ module _ {F : Format} {l₀ : Lent} {back : Bool} {W : Walked} {t : List ℕ} {s
               come = come;
               waits = c;
               few = fewer;
-              same = sym (at-record ∙ walk-on (length (l₀ .text)) n (k .waiting) (toOf back (now .log)) (trailBy now (s .undone)) x f _ tried
+              same = sym (at-record ∙ walk-on (length (l₀ .text)) n (k .waiting) (toOf back (now .log)) (stepStateBy now (s .undone)) x f _ tried
                   (unsettled passed ends′ begins′ c u) ∙ rest n);
             }
 
@@ -128,19 +128,19 @@ module _ {F : Format} {l₀ : Lent} {back : Bool} {W : Walked} {t : List ℕ} {s
               few = fewer;
               same =
                   sym
-                  (at-record ∙ ap (λ (a : ℕ). walk (length (l₀ .text)) a (k .waiting) (x ∷ f) (toOf back (now .log)) (trailBy now (s .undone))) v
-                  ∙ walk-next (length (l₀ .text)) (k .waiting) (toOf back (now .log)) (trailBy now (s .undone)) x f _ tried (settles passed ends′ begins′ c u) m ∙ rest m);
+                  (at-record ∙ ap (λ (a : ℕ). walk (length (l₀ .text)) a (k .waiting) (x ∷ f) (toOf back (now .log)) (stepStateBy now (s .undone))) v
+                  ∙ walk-next (length (l₀ .text)) (k .waiting) (toOf back (now .log)) (stepStateBy now (s .undone)) x f _ tried (settles passed ends′ begins′ c u) m ∙ rest m);
             }
 
         -- it is done, and was the last
         pub walked-last : ends′ ≤ begins′ → n ≡ 0 → {r : EditAnswer} → r ≡ says (numberOf (p .step .number) (p .step .undone)) (lineOf (p .step)) (p .log) → Ends F l₀ back W r t′
         walked-last u v q =
             ended back come (p .step .undone) 0
-            (at-record ∙ ap (λ (a : ℕ). walk (length (l₀ .text)) a (k .waiting) (x ∷ f) (toOf back (now .log)) (trailBy now (s .undone))) v
-            ∙ walk-last (length (l₀ .text)) (k .waiting) (toOf back (now .log)) (trailBy now (s .undone)) x f _ tried (settles passed ends′ begins′ c u)
+            (at-record ∙ ap (λ (a : ℕ). walk (length (l₀ .text)) a (k .waiting) (x ∷ f) (toOf back (now .log)) (stepStateBy now (s .undone))) v
+            ∙ walk-last (length (l₀ .text)) (k .waiting) (toOf back (now .log)) (stepStateBy now (s .undone)) x f _ tried (settles passed ends′ begins′ c u)
             ∙ sym
-            (ap₂ (λ (a b : List Change). walked a b (trailBy next (p .step .undone)) 0) (from-there back (k .come) e p t′ o i z) (to-there back (k .come) e p t′ o i z)
-            ∙ ap (λ (a : Trail). walked f (turn x ∷ toOf back (now .log)) a 0) (trail-there back (k .come) e p t′ o i z)))
+            (ap₂ (λ (a b : List Change). walked a b (stepStateBy next (p .step .undone)) 0) (from-there back (k .come) e p t′ o i z) (to-there back (k .come) e p t′ o i z)
+            ∙ ap (λ (a : StepState). walked f (turn x ∷ toOf back (now .log)) a 0) (reached-there back (k .come) e p t′ o i z)))
             (q ∙ ap (λ (a : ℕ). says (numberOf a (p .step .undone)) (lineOf (p .step)) (p .log)) z)
 
 -- ---- one unit that is the newest record alone: it is no End

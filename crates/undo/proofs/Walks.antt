@@ -20,19 +20,19 @@ use Rattle.edit.specs.Calls.{Lent, lent, stateOf, says, Edited, Ready}
 use Rattle.edit.specs.declared.EditAnswer.{EditAnswer}
 use Rattle.edit.proofs.Answers.{log-kept, length-kept, state-kept}
 use Rattle.undo_step.specs.declared.Step.{Step}
-use Rattle.undo_step.specs.Retrace.{Trail, done, stops, undoing}
+use Rattle.undo_step.specs.UndoStep.{StepState, done, stops, undoing}
 use Rattle.log_records.specs.Walks.{SizesOf}
 use Rattle.undo.specs.declared.Taken.{Taken}
 use Rattle.undo.specs.Undo.{Waiting, passing, settled, Walked, walk, numberOf}
-use Rattle.undo.specs.Steps.{trailBy, lineOf, stateAt, fromOf, toOf, logBy, passLog, PassesOne, Unmoved}
+use Rattle.undo.specs.Steps.{stepStateBy, lineOf, stateAt, fromOf, toOf, logBy, passLog, PassesOne, Unmoved}
 use Rattle.undo.proofs.Seams.{sizes-left, usedOf, used-falls}
 use Rattle.undo.proofs.Passes.{Went, Stopped, fine, went, stopped}
 
 -- ---- a walk at a record
-abbrev pub walked : List Change → List Change → Trail → ℕ → Walked
-walked f g s k = record { from = f; to = g; trail = s; stopped = k }
+abbrev pub walked : List Change → List Change → StepState → ℕ → Walked
+walked f g s k = record { from = f; to = g; reached = s; stopped = k }
 
-module _ (C l : ℕ) (w : Waiting) (r : List Change) (s : Trail) where
+module _ (C l : ℕ) (w : Waiting) (r : List Change) (s : StepState) where
   -- no record is left
   pub walk-end : walk C l w [] r s ≡ walked [] r s 0
   unfolding walk
@@ -44,13 +44,14 @@ module _ (C l : ℕ) (w : Waiting) (r : List Change) (s : Trail) where
     unfolding walk
     walk-stop k e = rw e
 
-    module _ (p : Trail) (e : undoing C x s ≡ done p) where
+    module _ (p : StepState) (e : undoing C x s ≡ done p) where
       -- this unit goes on
       pub walk-on : settled (passing x w) ≡ false → walk C l w (x ∷ u) r s ≡ walk C l (passing x w) u (turn x ∷ r) p
       unfolding walk
       walk-on f = rw (e, f)
 
-module _ (C : ℕ) (w : Waiting) (r : List Change) (s : Trail) (x : Change) (u : List Change) (p : Trail) (e : undoing C x s ≡ done p) (f : settled (passing x w) ≡ true) where
+module _ (C : ℕ) (w : Waiting) (r : List Change) (s : StepState) (x : Change) (u : List Change) (p : StepState)
+    (e : undoing C x s ≡ done p) (f : settled (passing x w) ≡ true) where
   -- it was the last
   pub walk-last : walk C 0 w (x ∷ u) r s ≡ walked u (turn x ∷ r) p 0
   unfolding walk
@@ -122,7 +123,7 @@ come-first h = record { ready = h; number = refl; text = refl; level = refl; unm
 
 -- what a walk has come to is its outcome
 abbrev pub outOf : Bool → Walked → ℕ → Outcome State
-outOf back w level = answered (numberOf (w .stopped) (w .trail .undone)) 0 0 (stateAt (w .trail) (logBy back (w .from) (w .to) level))
+outOf back w level = answered (numberOf (w .stopped) (w .reached .undone)) 0 0 (stateAt (w .reached) (logBy back (w .from) (w .to) level))
 
 -- a walk that was to come to W is at its end: its answer is r, and the text's buffer t
 pub record Ends (F : Format) (l₀ : Lent) (back : Bool) (W : Walked) (r : EditAnswer) (t : List ℕ) : Type 0 where
@@ -161,7 +162,7 @@ module _ (back : Bool) {F : Format} {l₀ : Lent} {t : List ℕ} {s : Step} {g :
   st = stateOf catalogue F l
 
   -- the walk is at its end: k is the number that stopped it, and b says whether a record of a text was undone
-  pub ended : (b : Bool) (k : ℕ) {W : Walked} {r : EditAnswer} → W ≡ walked (fromOf back (st .log)) (toOf back (st .log)) (trailBy st b) k
+  pub ended : (b : Bool) (k : ℕ) {W : Walked} {r : EditAnswer} → W ≡ walked (fromOf back (st .log)) (toOf back (st .log)) (stepStateBy st b) k
       → r ≡ says (numberOf k b) (lineOf s) g → Ends F l₀ back W r t
   ended b k e q =
       record {
@@ -169,7 +170,7 @@ module _ (back : Bool) {F : Format} {l₀ : Lent} {t : List ℕ} {s : Step} {g :
         ready = subst (λ (a : EditAnswer). Ready F (lent t (l₀ .records) (l₀ .texts) (a .line) (a .log))) (sym q) (c .ready);
         out =
             ap (λ (w : Walked). outOf back w (l₀ .log .level)) e
-            ∙ ap (λ (v : groups.Log). answered (numberOf k b) 0 0 (stateAt (trailBy st b) v))
+            ∙ ap (λ (v : groups.Log). answered (numberOf k b) 0 0 (stateAt (stepStateBy st b) v))
             (ap (logBy back (fromOf back (st .log)) (toOf back (st .log))) (sym (c .level)) ∙ lists-of back (st .log))
             ∙ ap (λ (a : EditAnswer). answered (a .number) 0 0 (stateOf catalogue F (lent t (l₀ .records) (l₀ .texts) (a .line) (a .log)))) (sym q);
         unmoved = subst (λ (a : EditAnswer). Unmoved (usedOf back (l₀ .log)) (usedOf back (a .log)) (l₀ .text) t) (sym q) (c .unmoved);
@@ -185,17 +186,17 @@ module _ (back : Bool) {F : Format} {l₀ : Lent} {t : List ℕ} {s : Step} {g :
     is-stopped z = stopped F l (s .undone) x w (q .step) (q .log) t′ (p x f e .1) z
 
     module _ (z : q .step .number ≡ 0 → ⊥) where
-      pub stopped-there : undoing (length (l₀ .text)) x (trailBy st (s .undone)) ≡ stops (q .step .number)
-      stopped-there = ap (λ (n : ℕ). undoing n x (trailBy st (s .undone))) (sym (c .text)) ∙ is-stopped z .tried
+      pub stopped-there : undoing (length (l₀ .text)) x (stepStateBy st (s .undone)) ≡ stops (q .step .number)
+      stopped-there = ap (λ (n : ℕ). undoing n x (stepStateBy st (s .undone))) (sym (c .text)) ∙ is-stopped z .tried
 
       -- the walk ends before it
-      pub stop-ended : {W : Walked} {r : EditAnswer} → W ≡ walked (x ∷ f) (toOf back (st .log)) (trailBy st (s .undone)) (q .step .number)
+      pub stop-ended : {W : Walked} {r : EditAnswer} → W ≡ walked (x ∷ f) (toOf back (st .log)) (stepStateBy st (s .undone)) (q .step .number)
           → r ≡ says (numberOf (q .step .number) (q .step .undone)) (lineOf (q .step)) (q .log)
           → Ends F l₀ back W r t′
       stop-ended {W} {r} y k =
           let i = is-stopped z in
           subst (Ends F l₀ back W r) (sym (i .text))
-          (ended (s .undone) (q .step .number) (y ∙ ap (λ (a : List Change). walked a (toOf back (st .log)) (trailBy st (s .undone)) (q .step .number)) (sym e))
+          (ended (s .undone) (q .step .number) (y ∙ ap (λ (a : List Change). walked a (toOf back (st .log)) (stepStateBy st (s .undone)) (q .step .number)) (sym e))
           (k ∙ ap (λ (a : ℕ). says a (lineOf (q .step)) (q .log)) (stop-number (q .step .number) (q .step .undone) (s .undone) z)
           ∙ ap₂ (says (numberOf (q .step .number) (s .undone))) (i .line) (i .log)))
 
@@ -222,7 +223,7 @@ module _ (back : Bool) {F : Format} {l₀ : Lent} {t : List ℕ} {s : Step} {g :
             unmoved = record { fewer = omega (arith, falls, c .unmoved .fewer); same = λ j. absurd (omega (arith, falls, c .unmoved .fewer)) };
           }
 
-      -- the lists and the trail there
+      -- the lists and the state reached there
       abbrev there : State
       there = stateOf catalogue F (lent t′ (l₀ .records) (l₀ .texts) (lineOf (q .step)) (q .log))
 
@@ -232,14 +233,14 @@ module _ (back : Bool) {F : Format} {l₀ : Lent} {t : List ℕ} {s : Step} {g :
       pub to-there : toOf back (there .log) ≡ turn x ∷ toOf back (st .log)
       to-there = ap (λ (a : State). toOf back (a .log)) (goes .state) ∙ to-by back f (turn x ∷ toOf back (st .log)) (g .level)
 
-      pub trail-there : trailBy there (q .step .undone) ≡ goes .trail
-      trail-there = ap₂ (λ (a : State) (b : Bool). trailBy a b) (goes .state) (ap (λ (a : Step). a .undone) (goes .step))
+      pub reached-there : stepStateBy there (q .step .undone) ≡ goes .reached
+      reached-there = ap₂ (λ (a : State) (b : Bool). stepStateBy a b) (goes .state) (ap (λ (a : Step). a .undone) (goes .step))
 
       -- it was tried in a buffer of the same length
-      pub tried-there : undoing (length (l₀ .text)) x (trailBy st (s .undone)) ≡ done (goes .trail)
-      tried-there = ap (λ (n : ℕ). undoing n x (trailBy st (s .undone))) (sym (c .text)) ∙ goes .tried
+      pub tried-there : undoing (length (l₀ .text)) x (stepStateBy st (s .undone)) ≡ done (goes .reached)
+      tried-there = ap (λ (n : ℕ). undoing n x (stepStateBy st (s .undone))) (sym (c .text)) ∙ goes .tried
 
--- the sizes that are noted of the undo list are those of what is left of it
+-- the sizes that are written of the undo list are those of what is left of it
 pub sizes-next : {F : Format} {l₀ : Lent} {t : List ℕ} {s : Step} {g : Log} (c : Come F l₀ true t s g) {x : Change} {f : List Change}
     (e : stateOf catalogue F (lent t (l₀ .records) (l₀ .texts) (lineOf s) g) .log .undo ≡ x ∷ f) (q : Taken) (t′ : List ℕ)
     (p : PassesOne F (lent t (l₀ .records) (l₀ .texts) (lineOf s) g) true (s .undone) q t′) (i : length t′ ≡ length t) (z : q .step .number ≡ 0) (sizes : List ℕ)

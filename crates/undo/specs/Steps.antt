@@ -15,13 +15,13 @@ use Rattle.log_state.specs.Calls.{logOf}
 use Rattle.edit.specs.Plan.{State}
 use Rattle.edit.specs.Calls.{Lent, lent, stateOf, Stored}
 use Rattle.undo_step.specs.declared.Step.{Step}
-use Rattle.undo_step.specs.Retrace.{Trail, Tried, done, stops, undoing, facing, stepTo}
+use Rattle.undo_step.specs.UndoStep.{StepState, StepOutcome, done, stops, undoing, toUndo, stepTo}
 use Rattle.undo.specs.declared.Taken.{Taken}
 use lib.ListN.{length, drop}
 
 -- a text and a cursor, and whether a record of a text was undone
-abbrev pub trailBy : State → Bool → Trail
-trailBy s b = record { text = s .text; cursor = s .cursor; undone = b }
+abbrev pub stepStateBy : State → Bool → StepState
+stepStateBy s b = record { text = s .text; cursor = s .cursor; undone = b }
 
 abbrev pub lineOf : Step → Line
 lineOf s = record { len = s .len; cursor = s .cursor }
@@ -31,7 +31,7 @@ abbrev pub lentBy : List ℕ → List ℕ → List ℕ → Step → Log → Lent
 lentBy t rb tb s g = lent t rb tb (lineOf s) g
 
 -- a text, a cursor and a log
-abbrev pub stateAt : Trail → groups.Log → State
+abbrev pub stateAt : StepState → groups.Log → State
 stateAt p v = record { text = p .text; cursor = p .cursor; log = v }
 
 -- the newest record begins at a place
@@ -57,7 +57,7 @@ abbrev pub passLog : Bool → Change → List Change → groups.Log → groups.L
 passLog back x f v = logBy back f (turn x ∷ toOf back v) (v .level)
 
 -- what a record that was tried leaves, where it leads to the log v: a stop changes nothing
-abbrev pub Leaves : Format → Lent → Tried → groups.Log → Step → Log → List ℕ → Type 0
+abbrev pub Leaves : Format → Lent → StepOutcome → groups.Log → Step → Log → List ℕ → Type 0
 Leaves F l (done p) v s g t = (s ≡ stepTo p) × (g ≡ logOf F v) × Stored F (stateAt p v) t (l .records) (l .texts)
 Leaves F l (stops k) v s g t = (s .number ≡ k) × (lineOf s ≡ l .line) × (g ≡ l .log) × (t ≡ l .text)
 
@@ -65,7 +65,7 @@ Leaves F l (stops k) v s g t = (s .number ≡ k) × (lineOf s ≡ l .line) × (g
 abbrev pub PassesOne : Format → Lent → Bool → Bool → Taken → List ℕ → Type 0
 PassesOne F l back b q t =
     (x : Change) (f : List Change) → fromOf back (stateOf catalogue F l .log) ≡ x ∷ f
-    → (q .kind ≡ numbersOf F (facing back x) .kind) × Leaves F l (undoing (length (l .text)) x (trailBy (stateOf catalogue F l) b))
+    → (q .kind ≡ numbersOf F (toUndo back x) .kind) × Leaves F l (undoing (length (l .text)) x (stepStateBy (stateOf catalogue F l) b))
     (passLog back x f (stateOf catalogue F l .log)) (q .step) (q .log) t
 
 -- the list that is walked over has come from u₀ bytes to u: where no record of it was passed, the text's buffer is as it was

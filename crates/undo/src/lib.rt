@@ -22,11 +22,11 @@ use formats::Format;
 use formats::RECORDS_MAX;
 use formats::format_for;
 use keymap::RepeatCount;
-use log_records::note_sizes;
 use log_records::read_record;
+use log_records::write_sizes;
 use log_state::Log;
 use undo_step::Step;
-use undo_step::retrace;
+use undo_step::undo_or_redo;
 
 // A record undone or redone: where the walk has come to, the log with its seam there, and the record's kind.
 pub struct Taken {
@@ -54,7 +54,7 @@ fn undo_at(
     let u = log.undo;
     let r = read_record(f, records, start);
     let first = u.texts - (r.old + r.new);
-    let step = retrace(text, texts, s, r, first, true);
+    let step = undo_or_redo(text, texts, s, r, first, true);
     let kind = r.kind;
     if step.number != 0 {
         return Taken { step, log, kind };
@@ -66,7 +66,7 @@ fn undo_at(
     }
 }
 
-// The same where the sizes of the undo list's records are noted.
+// The same where the sizes of the undo list's records are written down.
 pub fn undo_record(
     f: Format,
     text: &mut [u8],
@@ -112,8 +112,8 @@ pub fn one_if(kind: usize, k: usize) -> usize
     0
 }
 
-// undo_units with the sizes of the undo list's records noted. A unit is done where the Ends passed are no more than the Begins.
-fn undo_noted(
+// undo_units with the sizes of the undo list's records written down. A unit is done where the Ends passed are no more than the Begins.
+fn undo_by_sizes(
     f: Format,
     text: &mut [u8],
     records: &[u8],
@@ -198,7 +198,7 @@ fn undo_newest(
 
 // Undo on a text and a log that the checks pass: the newest records, until n units are done. A unit is done where no End that
 // was passed waits for its Begin. The newest record, which begins at last, is all of a single unit where it is no End; else the sizes
-// of the records are noted, in an array that is cleared at each call, so that a short list has a short one.
+// of the records are written down, in an array that is cleared at each call, so that a short list has a short one.
 fn undo_units(
     f: Format,
     text: &mut [u8],
@@ -227,12 +227,12 @@ fn undo_units(
     }
     if ur <= 1024 {
         let mut few = [0u8; 1024];
-        note_sizes(f, &records[..ur], &mut few);
-        return undo_noted(f, text, records, texts, &few, line, log, n);
+        write_sizes(f, &records[..ur], &mut few);
+        return undo_by_sizes(f, text, records, texts, &few, line, log, n);
     }
     let mut sizes = [0u8; RECORDS_MAX];
-    note_sizes(f, &records[..ur], &mut sizes);
-    undo_noted(f, text, records, texts, &sizes, line, log, n)
+    write_sizes(f, &records[..ur], &mut sizes);
+    undo_by_sizes(f, text, records, texts, &sizes, line, log, n)
 }
 
 // Where the log is as it was, no record was handled, and not a byte of the text's buffer is changed (still).

@@ -12,21 +12,21 @@ use Rattle.unicode.specs.Repertoire.{catalogue}
 use Rattle.checks.specs.Outcome.{Outcome, answered}
 use Rattle.log_model.specs.Change.{Change, begin, end, edit, turn}
 use Rattle.formats.specs.declared.Format.{Format}
-use Rattle.log_model.specs.Hold.{Holds}
+use Rattle.log_model.specs.Holds.{Holds}
 use Rattle.log_model.proofs.Holds.{cleared}
 use Rattle.log_state.specs.declared.Log.{Log}
-use Rattle.log_state.proofs.Answers.{state, held-state, held-bytes}
+use Rattle.log_state.proofs.Answers.{state, holds-state, holds-bytes}
 use Rattle.edit.specs.Plan.{State}
 use Rattle.edit.specs.Calls.{Lent, lent, stateOf, says, Edited, Ready}
 use Rattle.edit.specs.declared.EditAnswer.{EditAnswer}
 use Rattle.edit.proofs.Answers.{length-kept, state-kept}
 use Rattle.undo_step.specs.declared.Step.{Step}
-use Rattle.undo_step.specs.Retrace.{Trail, done, stops, undoing}
+use Rattle.undo_step.specs.UndoStep.{StepState, done, stops, undoing}
 use Rattle.undo.specs.declared.Taken.{Taken}
-use Rattle.undo.specs.Undo.{Walked, numberOf, trailOf}
-use Rattle.undo.specs.Steps.{trailBy, lineOf, PassesOne}
-use Rattle.undo.proofs.Seams.{held}
-use Rattle.undo.proofs.Walks.{walked, Come, come-first, outOf, edited, still, ended, stopped-there, stop-ended, goes, come-next, from-there, to-there, trail-there, tried-there}
+use Rattle.undo.specs.Undo.{Walked, numberOf, stepStateOf}
+use Rattle.undo.specs.Steps.{stepStateBy, lineOf, PassesOne}
+use Rattle.undo.proofs.Seams.{holds}
+use Rattle.undo.proofs.Walks.{walked, Come, come-first, outOf, edited, still, ended, stopped-there, stop-ended, goes, come-next, from-there, to-there, reached-there, tried-there}
 use Rattle.undo_cancel.specs.Cancel.{opens, walkTo, beginsDown, cancelOut}
 use Rattle.undo_cancel.specs.Open.{openBegins}
 
@@ -72,7 +72,7 @@ module _ {n : ℕ} (m : ℕ) (u : List Change) (e : n ≡ openBegins m u) where
 -- ---- the outcome of a cancel
 module _ (C m : ℕ) (s : State) where
   abbrev W : Walked
-  W = walkTo C m (s .log .undo) (s .log .redo) (trailOf s)
+  W = walkTo C m (s .log .undo) (s .log .redo) (stepStateOf s)
 
   -- it is not open; a stop; all are undone
   cancel-nothing : opens m (s .log .undo) ≡ false → cancelOut C m s ≡ answered 1 0 0 s
@@ -83,7 +83,7 @@ module _ (C m : ℕ) (s : State) where
   unfolding cancelOut
   cancel-stopped e z = rw (e, ne-eqb (W .stopped) 0 z)
 
-  cancel-done : opens m (s .log .undo) ≡ true → (u r : List Change) (p : Trail) → W ≡ walked u r p 0
+  cancel-done : opens m (s .log .undo) ≡ true → (u r : List Change) (p : StepState) → W ≡ walked u r p 0
       → cancelOut C m s ≡ answered 0 0 0 (record { text = p .text; cursor = p .cursor; log = record { undo = u; redo = []; level = s .log .level - beginsDown m (s .log .undo) } })
   unfolding cancelOut
   cancel-done e u r p f = rw (e, f)
@@ -93,21 +93,23 @@ pub cancels-nothing : {F : Format} {l : Lent} (h : Ready F l) (m : ℕ) → open
     → Edited F l (cancelOut (length (l .text)) m (stateOf catalogue F l)) r (l .text) (l .records) (l .texts)
 cancels-nothing {F} {l} h m e {r} q =
     subst (λ (o : Outcome State). Edited F l o r (l .text) (l .records) (l .texts)) (sym (cancel-nothing (length (l .text)) m (stateOf catalogue F l) e))
-    (edited (ended true (come-first h) false 0 {W = walked (stateOf catalogue F l .log .undo) (stateOf catalogue F l .log .redo) (trailBy (stateOf catalogue F l) false) 0} refl q))
+    (edited (ended true (come-first h) false 0
+    {W = walked (stateOf catalogue F l .log .undo) (stateOf catalogue F l .log .redo) (stepStateBy (stateOf catalogue F l) false) 0} refl q))
 
 -- ---- records undone down to the mark m, n of them still to do
-abbrev downTo : ℕ → ℕ → ℕ → List Change → List Change → Trail → Walked
+abbrev downTo : ℕ → ℕ → ℕ → List Change → List Change → StepState → Walked
 downTo C m zero u r s = walked u r s 0
 downTo C m (suc n) u r s = walkTo C m u r s
 
 -- a record stops them
-to-stop : (C m n : ℕ) (x : Change) (u r : List Change) (s : Trail) (k : ℕ) → 0 < n → undoing C x s ≡ stops k → downTo C m n (x ∷ u) r s ≡ walked (x ∷ u) r s k
+to-stop : (C m n : ℕ) (x : Change) (u r : List Change) (s : StepState) (k : ℕ) → 0 < n → undoing C x s ≡ stops k → downTo C m n (x ∷ u) r s ≡ walked (x ∷ u) r s k
 unfolding walkTo
 to-stop C m zero x u r s k h e = absurd (omega arith)
 to-stop C m (suc n) x u r s k h e = rw e
 
 -- a record is undone
-to-next : (C m n : ℕ) (x : Change) (u r : List Change) (s p : Trail) → undoing C x s ≡ done p → length u ≡ m + n → downTo C m (suc n) (x ∷ u) r s ≡ downTo C m n u (turn x ∷ r) p
+to-next : (C m n : ℕ) (x : Change) (u r : List Change) (s p : StepState) → undoing C x s ≡ done p → length u ≡ m + n
+    → downTo C m (suc n) (x ∷ u) r s ≡ downTo C m n u (turn x ∷ r) p
 unfolding walkTo
 to-next C m zero x u r s p e f = rw (e, eq-eqb (length u) m (omega arith))
 to-next C m (suc n) x u r s p e f = rw (e, ne-eqb (length u) m (λ z. omega arith))
@@ -119,8 +121,8 @@ pub record Cancelling (F : Format) (l₀ : Lent) (m : ℕ) (t : List ℕ) (s : S
   pub same :
       downTo (length (l₀ .text)) m n (stateOf catalogue F (lent t (l₀ .records) (l₀ .texts) (lineOf s) g) .log .undo)
       (stateOf catalogue F (lent t (l₀ .records) (l₀ .texts) (lineOf s) g) .log .redo)
-      (trailBy (stateOf catalogue F (lent t (l₀ .records) (l₀ .texts) (lineOf s) g)) (s .undone))
-      ≡ walkTo (length (l₀ .text)) m (stateOf catalogue F l₀ .log .undo) (stateOf catalogue F l₀ .log .redo) (trailOf (stateOf catalogue F l₀))
+      (stepStateBy (stateOf catalogue F (lent t (l₀ .records) (l₀ .texts) (lineOf s) g)) (s .undone))
+      ≡ walkTo (length (l₀ .text)) m (stateOf catalogue F l₀ .log .undo) (stateOf catalogue F l₀ .log .redo) (stepStateOf (stateOf catalogue F l₀))
 
 module _ {F : Format} {l₀ : Lent} (h : Ready F l₀) (m : ℕ) (o : opens m (stateOf catalogue F l₀ .log .undo) ≡ true) where
   abbrev st : State
@@ -136,7 +138,8 @@ module _ {F : Format} {l₀ : Lent} (h : Ready F l₀) (m : ℕ) (o : opens m (s
   cancelling-first {n} e =
       record { come = come-first h; count = omega (arith, opens-within m (st .log .undo) o); same = go (n - m) (omega (arith, opens-within m (st .log .undo) o)) }
     where
-      go : (k : ℕ) → 0 < k → downTo (length (l₀ .text)) m k (st .log .undo) (st .log .redo) (trailOf st) ≡ walkTo (length (l₀ .text)) m (st .log .undo) (st .log .redo) (trailOf st)
+      go : (k : ℕ) → 0 < k → downTo (length (l₀ .text)) m k (st .log .undo) (st .log .redo) (stepStateOf st)
+          ≡ walkTo (length (l₀ .text)) m (st .log .undo) (st .log .redo) (stepStateOf st)
       go zero z = absurd (omega arith)
       go (suc k) z = refl
 
@@ -157,15 +160,15 @@ module _ {F : Format} {l₀ : Lent} {m : ℕ} {t : List ℕ} {s : Step} {g : Log
 
   module _ (o : opens m (start .log .undo) ≡ true) (h : 0 < n) {x : Change} {f : List Change} (e : now .log .undo ≡ x ∷ f) (p : Taken) (t′ : List ℕ)
       (q : PassesOne F (lent t (l₀ .records) (l₀ .texts) (lineOf s) g) true (s .undone) p t′) where
-    at-record : walkTo (length (l₀ .text)) m (start .log .undo) (start .log .redo) (trailOf start) ≡ downTo (length (l₀ .text)) m n (x ∷ f)
-        (now .log .redo) (trailBy now (s .undone))
-    at-record = sym (k .same) ∙ ap (λ (a : List Change). downTo (length (l₀ .text)) m n a (now .log .redo) (trailBy now (s .undone))) e
+    at-record : walkTo (length (l₀ .text)) m (start .log .undo) (start .log .redo) (stepStateOf start) ≡ downTo (length (l₀ .text)) m n (x ∷ f)
+        (now .log .redo) (stepStateBy now (s .undone))
+    at-record = sym (k .same) ∙ ap (λ (a : List Change). downTo (length (l₀ .text)) m n a (now .log .redo) (stepStateBy now (s .undone))) e
 
     -- a record stops it
     pub cancel-stop : (p .step .number ≡ 0 → ⊥) → {r : EditAnswer} → r ≡ says (numberOf (p .step .number) (p .step .undone)) (lineOf (p .step)) (p .log)
         → Edited F l₀ (cancelOut (length (l₀ .text)) m start) r t′ (l₀ .records) (l₀ .texts) × (r .log ≡ l₀ .log → t′ ≡ l₀ .text)
     cancel-stop z {r} y =
-        let a = at-record ∙ to-stop (length (l₀ .text)) m n x f (now .log .redo) (trailBy now (s .undone)) (p .step .number) h (stopped-there true (k .come) e p t′ q z) in
+        let a = at-record ∙ to-stop (length (l₀ .text)) m n x f (now .log .redo) (stepStateBy now (s .undone)) (p .step .number) h (stopped-there true (k .come) e p t′ q z) in
         let w = stop-ended true (k .come) e p t′ q z a y in (
           subst (λ (c : Outcome State). Edited F l₀ c r t′ (l₀ .records) (l₀ .texts))
               (sym (cancel-stopped (length (l₀ .text)) m start o (λ b. z (sym (ap (λ (w : Walked). w .stopped) a) ∙ b))))
@@ -183,12 +186,12 @@ module _ {F : Format} {l₀ : Lent} {m : ℕ} {t : List ℕ} {s : Step} {g : Log
           count = ap length (from-there true (k .come) e p t′ q i z) ∙ b;
           same =
               ap₂ (λ (a c : List Change). downTo (length (l₀ .text)) m (n - 1) a c
-              (trailBy (stateOf catalogue F (lent t′ (l₀ .records) (l₀ .texts) (lineOf (p .step)) (p .log))) (p .step .undone)))
+              (stepStateBy (stateOf catalogue F (lent t′ (l₀ .records) (l₀ .texts) (lineOf (p .step)) (p .log))) (p .step .undone)))
               (from-there true (k .come) e p t′ q i z) (to-there true (k .come) e p t′ q i z)
-              ∙ ap (downTo (length (l₀ .text)) m (n - 1) f (turn x ∷ now .log .redo)) (trail-there true (k .come) e p t′ q i z)
+              ∙ ap (downTo (length (l₀ .text)) m (n - 1) f (turn x ∷ now .log .redo)) (reached-there true (k .come) e p t′ q i z)
               ∙ sym
-              (at-record ∙ ap (λ (a : ℕ). downTo (length (l₀ .text)) m a (x ∷ f) (now .log .redo) (trailBy now (s .undone))) j
-              ∙ to-next (length (l₀ .text)) m (n - 1) x f (now .log .redo) (trailBy now (s .undone)) (goes true (k .come) e p t′ q i z .trail)
+              (at-record ∙ ap (λ (a : ℕ). downTo (length (l₀ .text)) m a (x ∷ f) (now .log .redo) (stepStateBy now (s .undone))) j
+              ∙ to-next (length (l₀ .text)) m (n - 1) x f (now .log .redo) (stepStateBy now (s .undone)) (goes true (k .come) e p t′ q i z .reached)
               (tried-there true (k .come) e p t′ q i z) b);
         }
 
@@ -199,17 +202,17 @@ module _ {F : Format} {l₀ : Lent} {m : ℕ} {t : List ℕ} {s : Step} {g : Log
   cancel-ended o h {b} e {r} q = (
     subst (λ (c : Outcome State). Edited F l₀ c r t (l₀ .records) (l₀ .texts))
         (sym
-        (cancel-done (length (l₀ .text)) m start o (now .log .undo) (now .log .redo) (trailBy now (s .undone))
-        (sym (k .same) ∙ ap (λ (a : ℕ). downTo (length (l₀ .text)) m a (now .log .undo) (now .log .redo) (trailBy now (s .undone))) none)))
+        (cancel-done (length (l₀ .text)) m start o (now .log .undo) (now .log .redo) (stepStateBy now (s .undone))
+        (sym (k .same) ∙ ap (λ (a : ℕ). downTo (length (l₀ .text)) m a (now .log .undo) (now .log .redo) (stepStateBy now (s .undone))) none)))
         (record {
           answer =
               q ∙ ap (λ (a : ℕ). says 0 (lineOf s) (state (g .undo .records) (g .undo .texts) 0 0 a)) (ap₂ _-_ (k .come .level) e)
               ∙ ap₂ (λ (a : ℕ) (c : Log). says 0 (record { len = a; cursor = s .cursor }) c) (sym (length-kept F l (k .come .ready)))
-              (held-state catalogue F (l₀ .records) (l₀ .texts) (g .undo .records) (g .undo .texts) 0 0 level (now .log .undo) [] alone);
+              (holds-state catalogue F (l₀ .records) (l₀ .texts) (g .undo .records) (g .undo .texts) 0 0 level (now .log .undo) [] alone);
           bytes =
               record {
                 text = state-kept F l (k .come .ready) (s .cursor) .text;
-                log = held-bytes catalogue F (l₀ .records) (l₀ .texts) (g .undo .records) (g .undo .texts) 0 0 level (now .log .undo) [] alone;
+                log = holds-bytes catalogue F (l₀ .records) (l₀ .texts) (g .undo .records) (g .undo .texts) 0 0 level (now .log .undo) [] alone;
               };
         }),
     (λ i. k .come .unmoved .same (ap (λ (a : Log). a .undo .records) (ap (λ (a : EditAnswer). a .log) (sym q) ∙ i))),
@@ -228,4 +231,4 @@ module _ {F : Format} {l₀ : Lent} {m : ℕ} {t : List ℕ} {s : Step} {g : Log
       alone =
           cleared catalogue F (l₀ .records) (l₀ .texts) (g .undo .records) (g .undo .texts) (g .redo .records) (g .redo .texts)
           (reverse (now .log .undo)) (map turn (now .log .redo))
-          (held (k .come .ready))
+          (holds (k .come .ready))

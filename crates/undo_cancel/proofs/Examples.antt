@@ -7,7 +7,7 @@ use Rattle.utf8.specs.Chars.{validFrom}
 use Rattle.checks.specs.Outcome.{answered}
 use Rattle.log_model.specs.Change.{begin, end, edit, insert, delete}
 use Rattle.edit.specs.Plan.{splice}
-use Rattle.undo_step.specs.Retrace.{misfit, exchanging, undoing}
+use Rattle.undo_step.specs.UndoStep.{misfit, exchanging, undoing}
 use Rattle.undo.proofs.Examples.{state, q, r}
 use Rattle.undo_cancel.specs.Cancel.{opens, walkTo, beginsDown, cancelOut}
 

@@ -20,7 +20,7 @@ use Rattle.log_model.proofs.UndoBytes.{records-size}
 use Rattle.log_model.proofs.Walk.{reads-at, whole-at}
 use Rattle.log_records.specs.declared.Record.{Record}
 use Rattle.log_records.specs.Records.{numbersOf, recordAt}
-use Rattle.log_records.specs.Walks.{SizesOf, SizesNoted}
+use Rattle.log_records.specs.Walks.{SizesOf, SizesWritten}
 use Rattle.log_records.proofs.Records.{record-behind}
 use Rattle.undo_cancel.specs.Cancel.{opens, beginsDown}
 use Rattle.undo_cancel.specs.Open.{openBegins}
@@ -80,7 +80,7 @@ pub record Downto (F : Format) (sizes : List ℕ) (m at left begins : ℕ) (us :
   pub row : us ≡ reverse rest ++ passed
   pub place : at ≡ length (undoRecords F rest)
   pub count : left ≡ length rest
-  pub noted : SizesOf F sizes rest
+  pub written : SizesOf F sizes rest
   pub same : openBegins m (reverse us) ≡ openDown begins m rest
 
 -- the record that ends at at: its size, where it begins, its numbers
@@ -103,7 +103,7 @@ module _ (R : Repertoire) (F : Format) (rs sizes : List ℕ) (m : ℕ) where
   Downs at left begins = (ts : List ℕ) (us : List Change) → Layout R F rs ts us → Downto F sizes m at left begins us
 
   -- at its beginning
-  pub down-first : (count : ℕ) → SizesNoted R F rs count sizes → Downs (length rs) count 0
+  pub down-first : (count : ℕ) → SizesWritten R F rs count sizes → Downs (length rs) count 0
   down-first count w ts us l =
       record {
         rest = reverse us;
@@ -111,7 +111,7 @@ module _ (R : Repertoire) (F : Format) (rs sizes : List ℕ) (m : ℕ) where
         row = sym (append-nil (reverse (reverse us)) ∙ reverse-reverse us);
         place = ap length (l .records ∙ sym (undo-reverse F us));
         count = w ts us l .0 ∙ sym (length-reverse us);
-        noted = w ts us l .1;
+        written = w ts us l .1;
         same = down-all m (reverse us);
       }
 
@@ -126,20 +126,20 @@ module _ {R : Repertoire} {F : Format} {rs sizes : List ℕ} {m at left begins :
       go (c ∷ u) e = absurd (omega (arith, d .place, ap (λ (a : List Change). length (undoRecords F a)) e, records-size F c u, record-pos F c))
 
   -- the change c of the list stands before those that were passed
-  split : (c : Change) (u : List Change) → d .rest ≡ c ∷ u → us ≡ reverse u ++ (c ∷ d .passed)
-  split c u e = d .row ∙ ap (λ (a : List Change). reverse a ++ d .passed) e ∙ ap (λ (a : List Change). a ++ d .passed) (reverse-cons c u)
+  row-at : (c : Change) (u : List Change) → d .rest ≡ c ∷ u → us ≡ reverse u ++ (c ∷ d .passed)
+  row-at c u e = d .row ∙ ap (λ (a : List Change). reverse a ++ d .passed) e ∙ ap (λ (a : List Change). a ++ d .passed) (reverse-cons c u)
       ∙ append-assoc (reverse u) (c ∷ []) (d .passed)
 
   -- its numbers are read there, and its bytes lie in the list
   module _ (c : Change) (u : List Change) (e : d .rest ≡ c ∷ u) (i : ℕ) (p : i ≡ length (undoRecords F u)) where
     numbers-at : recordAt F rs i ≡ numbersOf F c
     unfolding undoRecords
-    numbers-at = record-behind R F rs ts (reverse u) (d .passed) c i (subst (Layout R F rs ts) (split c u e) l) p
+    numbers-at = record-behind R F rs ts (reverse u) (d .passed) c i (subst (Layout R F rs ts) (row-at c u e) l) p
 
     inside-at : i + length (recordOf F c) ≤ length rs
     unfolding undoRecords
     inside-at =
-        let k = subst (Layout R F rs ts) (split c u e) l in
+        let k = subst (Layout R F rs ts) (row-at c u e) l in
         let t = length (encodeTexts (reverse u)) in
         omega (arith, whole-at R F rs ts (reverse u) (d .passed) c i t k p refl .body, reads-at R F rs ts (reverse u) (d .passed) c i t k p refl .size)
 
@@ -151,7 +151,7 @@ module _ {R : Repertoire} {F : Format} {rs sizes : List ℕ} {m at left begins :
       go [] e = absurd (omega (arith, d .place, ap (λ (a : List Change). length (undoRecords F a)) e, ap length (undo-nil F)))
       go (c ∷ u) e =
           let p : at ≡ length (undoRecords F (c ∷ u)) = d .place ∙ ap (λ (a : List Change). length (undoRecords F a)) e in
-          let z : getD sizes (at - 1) 0 ≡ length (recordOf F c) = ap (λ (a : ℕ). getD sizes (a - 1) 0) p ∙ subst (SizesOf F sizes) e (d .noted) .0 in
+          let z : getD sizes (at - 1) 0 ≡ length (recordOf F c) = ap (λ (a : ℕ). getD sizes (a - 1) 0) p ∙ subst (SizesOf F sizes) e (d .written) .0 in
           let q : at - getD sizes (at - 1) 0 ≡ length (undoRecords F u) = omega (arith, z, p, records-size F c u) in
           record {
             change = c;
@@ -197,10 +197,10 @@ module _ {R : Repertoire} {F : Format} {rs sizes : List ℕ} {m at left begins :
           record {
             rest = x .before;
             passed = x .change ∷ d .passed;
-            row = split (x .change) (x .before) (x .is);
+            row = row-at (x .change) (x .before) (x .is);
             place = x .place;
             count = x .fewer;
-            noted = subst (SizesOf F sizes) (x .is) (d .noted) .1;
+            written = subst (SizesOf F sizes) (x .is) (d .written) .1;
             same = d .same ∙ ap (openDown begins m) (x .is) ∙ by-test (openDown begins m (x .change ∷ x .before) ≡ openDown (begins + i) m (x .before)) (eqb k 1) one other;
           }
         where

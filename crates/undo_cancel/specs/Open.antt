@@ -7,18 +7,18 @@ use Rattle.unicode.specs.Repertoire.{catalogue}
 use Rattle.log_model.specs.Change.{Change}
 use Rattle.formats.specs.declared.Format.{Format}
 use Rattle.log_model.specs.Layout.{Layout}
-use Rattle.log_model.specs.Hold.{Listed}
-use Rattle.log_records.specs.Walks.{SizesNoted}
+use Rattle.log_model.specs.Holds.{Listed}
+use Rattle.log_records.specs.Walks.{SizesWritten}
 use Rattle.undo_cancel.specs.Cancel.{opens, beginsDown}
 
 -- the Begins down to the mark m, where the group of that mark is open; else 0
 unfoldable pub openBegins : ℕ → List Change → ℕ
 openBegins m u = cond (opens m u) (beginsDown m u) 0
 
--- these bytes are the records of a list, and their number and sizes are noted
-pub record NotedIn (F : Format) (rs : List ℕ) (count : ℕ) (sizes : List ℕ) : Type 0 where
+-- these bytes are the records of a list, and their number and sizes are written
+pub record WrittenIn (F : Format) (rs : List ℕ) (count : ℕ) (sizes : List ℕ) : Type 0 where
   pub listed : Listed catalogue F rs
-  pub noted : SizesNoted catalogue F rs count sizes
+  pub written : SizesWritten catalogue F rs count sizes
 
 -- of every list that has these records
 abbrev pub OpenAt : Format → List ℕ → ℕ → ℕ → Type 0

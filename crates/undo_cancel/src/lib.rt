@@ -9,7 +9,7 @@ ghost use Rattle.formats.specs.Formats.{Fit, recordsMax};
 ghost use Rattle.edit.specs.Calls.{lent, stateOf, Edited, Ready, Answers};
 ghost use Rattle.log_records.specs.Walks.{SizesOf};
 ghost use Rattle.undo_cancel.specs.Cancel.{opens, beginsDown, cancelOut, cancelCall};
-ghost use Rattle.undo_cancel.specs.Open.{NotedIn, OpenAt};
+ghost use Rattle.undo_cancel.specs.Open.{WrittenIn, OpenAt};
 use checks::Line;
 use edit::EditAnswer;
 use edit::Own;
@@ -18,8 +18,8 @@ use edit::says;
 use formats::Format;
 use formats::RECORDS_MAX;
 use formats::format_for;
-use log_records::note_sizes;
 use log_records::read_record;
+use log_records::write_sizes;
 use log_state::Log;
 use undo::answer;
 use undo::one_if;
@@ -27,10 +27,10 @@ use undo::undo_record;
 use undo_step::Step;
 
 // The Begins from the newest record of a list down to a mark, where the record of that number, from 0, is a Begin with no End
-// after it; else 0. The sizes of the records are noted.
+// after it; else 0. The sizes of the records are written down.
 fn open_begins(f: Format, records: &[u8], sizes: &[u8], count: usize, mark: usize) -> usize
     requires { ⌜ Fit f ⌝ }
-    requires { ⌜ NotedIn f (now records) count (now sizes) ⌝ }
+    requires { ⌜ WrittenIn f (now records) count (now sizes) ⌝ }
     requires { ⌜ (length (now records) ≤ length (now sizes)) × (length (now records) ≤ recordsMax) ⌝ }
     ensures { λ r. ⌜ OpenAt f (now (records .entry)) mark r ⌝ }
 {
@@ -54,7 +54,7 @@ fn open_begins(f: Format, records: &[u8], sizes: &[u8], count: usize, mark: usiz
 }
 
 // The group of a mark undone and dropped: count is the number of records, begins that of the Begins dropped.
-fn cancel_noted(
+fn cancel_by_sizes(
     f: Format,
     text: &mut [u8],
     records: &[u8],
@@ -103,7 +103,7 @@ fn cancel_noted(
 }
 
 // cancel_group, with room to note the sizes of the undo list's records.
-fn note_and_cancel(
+fn cancel_with(
     f: Format,
     text: &mut [u8],
     records: &[u8],
@@ -123,12 +123,12 @@ fn note_and_cancel(
 {
     let u = log.undo;
     let ur = u.records;
-    let count = note_sizes(f, &records[..ur], sizes);
+    let count = write_sizes(f, &records[..ur], sizes);
     let begins = open_begins(f, &records[..ur], sizes, count, mark);
     if begins == 0 {
         return says(1, line, log);
     }
-    cancel_noted(
+    cancel_by_sizes(
         f,
         text,
         records,
@@ -163,10 +163,10 @@ fn cancel_group(
     let u = log.undo;
     if u.records <= 1024 {
         let mut few = [0u8; 1024];
-        return note_and_cancel(f, text, records, texts, &mut few, line, log, mark);
+        return cancel_with(f, text, records, texts, &mut few, line, log, mark);
     }
     let mut sizes = [0u8; RECORDS_MAX];
-    note_and_cancel(f, text, records, texts, &mut sizes, line, log, mark)
+    cancel_with(f, text, records, texts, &mut sizes, line, log, mark)
 }
 
 // Where the log is as it was, no record was handled, and not a byte of the text's buffer is changed (still).

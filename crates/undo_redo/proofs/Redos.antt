@@ -17,8 +17,8 @@ use Rattle.log_state.specs.declared.Log.{Log}
 use Rattle.edit.specs.declared.EditAnswer.{EditAnswer}
 use Rattle.edit.specs.Plan.{State}
 use Rattle.edit.specs.Calls.{Lent, lent, stateOf, says, Edited, Ready}
-use Rattle.undo_step.specs.Retrace.{Trail, Tried, done, stops, undoing}
-use Rattle.undo.specs.Undo.{Waiting, owed, passing, settled, Walked, onTried, onSettled, walk, numberOf, trailOf}
+use Rattle.undo_step.specs.UndoStep.{StepState, StepOutcome, done, stops, undoing}
+use Rattle.undo.specs.Undo.{Waiting, owed, passing, settled, Walked, onOutcome, onSettled, walk, numberOf, stepStateOf}
 use Rattle.undo_redo.specs.Redo.{redoneState, redoWalk, behindNumber, redoOut, Redone}
 use Rattle.undo.specs.Steps.{stateAt, Unmoved}
 use Rattle.undo.proofs.Seams.{none-next}
@@ -34,7 +34,8 @@ over-one : (k : ℕ) → 1 < k → Over k
 over-one zero h = tt
 over-one (suc k) h = h
 
-tried-over : (v : Tried) (f : ℕ → Walked) (g : Trail → Walked) → Numbered v → ((k : ℕ) → f k .stopped ≡ k) → ((p : Trail) → Over (g p .stopped)) → Over (onTried v f g .stopped)
+tried-over : (v : StepOutcome) (f : ℕ → Walked) (g : StepState → Walked) → Numbered v → ((k : ℕ) → f k .stopped ≡ k) → ((p : StepState) → Over (g p .stopped))
+    → Over (onOutcome v f g .stopped)
 tried-over (done p) f g n a b = b p
 tried-over (stops k) f g n a b = subst Over (sym (a k)) (over-one k n)
 
@@ -43,7 +44,7 @@ settled-over false l last go a b = b l
 settled-over true zero last go a b = subst Over (sym a) tt
 settled-over true (suc l) last go a b = b l
 
-walk-over : (C : ℕ) (u r : List Change) (l : ℕ) (w : Waiting) (s : Trail) → Over (walk C l w u r s .stopped)
+walk-over : (C : ℕ) (u r : List Change) (l : ℕ) (w : Waiting) (s : StepState) → Over (walk C l w u r s .stopped)
 unfolding walk
 walk-over C [] r l w s = tt
 walk-over C (x ∷ u) r l w s =
@@ -59,7 +60,7 @@ one-out (suc k) b s = rw (ne-eqb (suc k) 0 (λ e. omega arith))
 -- its outcome is that of its walk
 pub redo-one : (C : ℕ) (s : State) → redoOut C 1 s ≡ outOf false (redoWalk C s) (s .log .level)
 unfolding redoOut
-redo-one C s = one-out (redoWalk C s .stopped) (redoWalk C s .trail .undone) (redoneState (redoWalk C s) (s .log .level))
+redo-one C s = one-out (redoWalk C s .stopped) (redoWalk C s .reached .undone) (redoneState (redoWalk C s) (s .log .level))
 
 -- where its walk ends
 pub redone : {F : Format} {l₀ : Lent} {r : EditAnswer} {t : List ℕ} → Ends F l₀ false (redoWalk (length (l₀ .text)) (stateOf catalogue F l₀)) r t → Redone F l₀ r t
@@ -104,7 +105,7 @@ module _ (C : ℕ) (s : State) (j : ℕ) (s′ : State) (e : redoOut C 1 s ≡ a
   parts : outOf false w (s .log .level) ≡ answered j 0 0 s′
   parts = sym (redo-one C s) ∙ e
 
-  number : numberOf (w .stopped) (w .trail .undone) ≡ j
+  number : numberOf (w .stopped) (w .reached .undone) ≡ j
   number = let f = parts in cc
 
   there : redoneState w (s .log .level) ≡ s′
@@ -114,9 +115,9 @@ module _ (C : ℕ) (s : State) (j : ℕ) (s′ : State) (e : redoOut C 1 s ≡ a
   step-on : j ≤ 1 → (n : ℕ) → redoOut C (suc n) s ≡ behindNumber j (redoOut C n s′)
   unfolding redoOut
   step-on h n =
-      let z = number-on (w .stopped) (w .trail .undone) (walk-over C (s .log .redo) (s .log .undo) 0 (owed 0) (trailOf s)) (omega (arith, number)) in
-      let k : numberOf 0 (w .trail .undone) ≡ j = ap (λ (a : ℕ). numberOf a (w .trail .undone)) (sym z) ∙ number in
-      ap (λ (b : Bool). cond b (behindNumber (numberOf 0 (w .trail .undone)) (redoOut C n (redoneState w (s .log .level))))
+      let z = number-on (w .stopped) (w .reached .undone) (walk-over C (s .log .redo) (s .log .undo) 0 (owed 0) (stepStateOf s)) (omega (arith, number)) in
+      let k : numberOf 0 (w .reached .undone) ≡ j = ap (λ (a : ℕ). numberOf a (w .reached .undone)) (sym z) ∙ number in
+      ap (λ (b : Bool). cond b (behindNumber (numberOf 0 (w .reached .undone)) (redoOut C n (redoneState w (s .log .level))))
       (answered (w .stopped) 0 0 (redoneState w (s .log .level)))) (eq-eqb (w .stopped) 0 z)
       ∙ ap₂ (λ (a : ℕ) (b : State). behindNumber a (redoOut C n b)) k there
 
@@ -124,8 +125,8 @@ module _ (C : ℕ) (s : State) (j : ℕ) (s′ : State) (e : redoOut C 1 s ≡ a
   step-stop : 1 < j → (n : ℕ) → redoOut C (suc n) s ≡ answered j 0 0 s′
   unfolding redoOut
   step-stop h n =
-      let z = number-stop (w .stopped) (w .trail .undone) (omega (arith, number)) in
-      ap (λ (b : Bool). cond b (behindNumber (numberOf 0 (w .trail .undone)) (redoOut C n (redoneState w (s .log .level))))
+      let z = number-stop (w .stopped) (w .reached .undone) (omega (arith, number)) in
+      ap (λ (b : Bool). cond b (behindNumber (numberOf 0 (w .reached .undone)) (redoOut C n (redoneState w (s .log .level))))
       (answered (w .stopped) 0 0 (redoneState w (s .log .level)))) (ne-eqb (w .stopped) 0 (z .0))
       ∙ ap₂ (λ (a : ℕ) (b : State). answered a 0 0 b) (sym (z .1) ∙ number) there
 
@@ -139,11 +140,11 @@ none-left C (suc n) t c u v = ap (behindNumber 1) (none-left C n t c u v)
 
 redo-none : (C n : ℕ) (s : State) → s .log .redo ≡ [] → redoOut C n s ≡ answered 1 0 0 s
 redo-none C n s e =
-    let f : s ≡ emptied = ap (λ (r : List Change). stateAt (trailOf s) (record { undo = s .log .undo; redo = r; level = s .log .level })) e in
+    let f : s ≡ emptied = ap (λ (r : List Change). stateAt (stepStateOf s) (record { undo = s .log .undo; redo = r; level = s .log .level })) e in
     ap (redoOut C n) f ∙ none-left C n (s .text) (s .cursor) (s .log .undo) (s .log .level) ∙ ap (answered 1 0 0) (sym f)
   where
     emptied : State
-    emptied = stateAt (trailOf s) (record { undo = s .log .undo; redo = []; level = s .log .level })
+    emptied = stateAt (stepStateOf s) (record { undo = s .log .undo; redo = []; level = s .log .level })
 
 -- no unit is left
 redo-zero : (C : ℕ) (s : State) → redoOut C 0 s ≡ answered 1 0 0 s

@@ -13,15 +13,15 @@ use Rattle.formats.specs.declared.Format.{Format}
 use Rattle.edit.specs.Plan.{State}
 use Rattle.edit.specs.declared.EditAnswer.{EditAnswer}
 use Rattle.edit.specs.Calls.{Lent, lent, checked, stateOf, Ready}
-use Rattle.undo.specs.Undo.{owed, Walked, walk, numberOf, trailOf}
+use Rattle.undo.specs.Undo.{owed, Walked, walk, numberOf, stepStateOf}
 use Rattle.undo.specs.Steps.{Unmoved}
 
 -- ---- n times one unit; 0 where any of them gives 0, else 1; a stop ends them
 abbrev pub redoWalk : ℕ → State → Walked
-redoWalk C s = walk C 0 (owed 0) (s .log .redo) (s .log .undo) (trailOf s)
+redoWalk C s = walk C 0 (owed 0) (s .log .redo) (s .log .undo) (stepStateOf s)
 
 abbrev pub redoneState : Walked → ℕ → State
-redoneState w level = record { text = w .trail .text; cursor = w .trail .cursor; log = record { undo = w .to; redo = w .from; level = level } }
+redoneState w level = record { text = w .reached .text; cursor = w .reached .cursor; log = record { undo = w .to; redo = w .from; level = level } }
 
 -- a 1 behind a 0 is a 0
 abbrev pub behindNumber : ℕ → Outcome State → Outcome State
@@ -29,7 +29,7 @@ behindNumber n (refused k) = refused k
 behindNumber n (answered k a b s) = answered (cond (eqb n 0 && eqb k 1) 0 k) a b s
 
 abbrev pub orStopped : Walked → ℕ → (State → Outcome State) → Outcome State
-orStopped w level go = cond (eqb (w .stopped) 0) (behindNumber (numberOf 0 (w .trail .undone)) (go (redoneState w level))) (answered (w .stopped) 0 0 (redoneState w level))
+orStopped w level go = cond (eqb (w .stopped) 0) (behindNumber (numberOf 0 (w .reached .undone)) (go (redoneState w level))) (answered (w .stopped) 0 0 (redoneState w level))
 
 unfoldable pub redoOut : ℕ → ℕ → State → Outcome State
 redoOut C zero s = answered 1 0 0 s

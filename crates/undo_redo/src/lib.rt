@@ -25,7 +25,7 @@ use undo::Taken;
 use undo::answer;
 use undo::one_if;
 use undo_step::Step;
-use undo_step::retrace;
+use undo_step::undo_or_redo;
 
 // The next record redone. A stop changes nothing.
 fn redo_record(f: Format, text: &mut [u8], records: &[u8], texts: &[u8], s: Step, log: Log) -> Taken
@@ -38,7 +38,7 @@ fn redo_record(f: Format, text: &mut [u8], records: &[u8], texts: &[u8], s: Step
     let at = u.records;
     let t = u.texts;
     let r = read_record(f, records, at);
-    let step = retrace(text, texts, s, r, t, false);
+    let step = undo_or_redo(text, texts, s, r, t, false);
     let kind = r.kind;
     if step.number != 0 {
         return Taken { step, log, kind };

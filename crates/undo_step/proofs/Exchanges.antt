@@ -13,10 +13,10 @@ use Rattle.utf8.specs.Chars.{boundary}
 use Rattle.buffer.specs.Edit.{inserted, cut}
 use Rattle.edit.specs.Plan.{splice}
 use Rattle.edit.proofs.Splice.{splice-length, cut-put}
-use Rattle.undo_step.specs.Retrace.{Trail, Tried, done, stops, misfit, exchanging, Exchanged}
+use Rattle.undo_step.specs.UndoStep.{StepState, StepOutcome, done, stops, misfit, exchanging, Exchanged}
 
 -- the text with s in the place of the n bytes at p, and the cursor behind s
-abbrev pub swapped : ℕ → ℕ → List ℕ → List ℕ → Trail
+abbrev pub swapped : ℕ → ℕ → List ℕ → List ℕ → StepState
 swapped p n s t = record { text = splice t p (p + n) s; cursor = p + length s; undone = true }
 
 module _ (C p n : ℕ) (s t : List ℕ) where
@@ -62,7 +62,7 @@ module _ (C p n : ℕ) (s t : List ℕ) where
   -- a stop is not answered by 0
   not-stopped : (k : ℕ) (b b' : List ℕ) → exchanging C p n s t ≡ stops k → 0 < k → Exchanged (exchanging C p n s t) 0 b b' → ⊥
   not-stopped k b b' e h x =
-      let z = subst (λ (y : Tried). Exchanged y 0 b b') e x .0 in
+      let z = subst (λ (y : StepOutcome). Exchanged y 0 b b') e x .0 in
       omega arith
 
   -- it is 0 only where neither is met
@@ -79,7 +79,7 @@ module _ (C p n : ℕ) (s t : List ℕ) where
   -- ---- the bytes
   -- a stop changes none
   pub stopped : (k : ℕ) (b : List ℕ) → exchanging C p n s t ≡ stops k → Exchanged (exchanging C p n s t) k b b
-  stopped k b e = subst (λ (x : Tried). Exchanged x k b b) (sym e) (refl, refl)
+  stopped k b e = subst (λ (x : StepOutcome). Exchanged x k b b) (sym e) (refl, refl)
 
   -- cut out, which leaves m, and then put in
   pub exchanged : (len : ℕ) (b m b' : List ℕ) → length t ≡ len → Fits → take (len - (p + n - p)) m ≡ cut t p (p + n)
@@ -89,5 +89,5 @@ module _ (C p n : ℕ) (s t : List ℕ) where
       let j : take (len - n) m ≡ cut t p (p + n) = ap (λ (x : ℕ). take x m) (sym i) ∙ f in
       let k : length (splice t p (p + n) s) ≡ len - n + length s = swapped-length (h .ends) ∙ ap (λ (x : ℕ). x - n + length s) e in
       let z = h .ends in
-      subst (λ (x : Tried). Exchanged x 0 b b') (sym (swaps h))
+      subst (λ (x : StepOutcome). Exchanged x 0 b b') (sym (swaps h))
       (refl, ap (λ (x : ℕ). take x b') k ∙ g ∙ ap (λ (x : List ℕ). inserted x p s) j ∙ cut-put t p (p + n) s (omega arith))

@@ -1,2 +1,2 @@
 pub mod Exchanges
-pub mod Faces
+pub mod TakesAndPuts

@@ -8,7 +8,7 @@ ghost use Rattle.unicode.specs.Text.{isText};
 ghost use Rattle.log_model.specs.Change.{Change};
 ghost use Rattle.formats.specs.declared.Format.{Format};
 ghost use Rattle.log_records.specs.Records.{Carries};
-ghost use Rattle.undo_step.specs.Retrace.{exchanging, undoing, facing, Exchanged, Retraced};
+ghost use Rattle.undo_step.specs.UndoStep.{exchanging, undoing, toUndo, Exchanged, UndoneOrRedone};
 use buffer::cut_bytes;
 use buffer::insert_bytes;
 use log_records::Record;
@@ -48,11 +48,11 @@ pub struct Step {
 }
 
 // A record undone (back) or redone, whose texts begin at t.
-pub fn retrace(text: &mut [u8], texts: &[u8], s: Step, r: Record, t: usize, back: bool) -> Step
+pub fn undo_or_redo(text: &mut [u8], texts: &[u8], s: Step, r: Record, t: usize, back: bool) -> Step
     requires { ⌜ (s .number ≡ 0) × (s .len ≤ length (now text)) × (r .place < 4294967296) × (t + (r .old + r .new) ≤ length (now texts)) × (length (now texts) < 4294967296) ⌝ }
     requires { ⌜ isText catalogue (take (s .len) (now text)) ≡ true ⌝ }
-    ensures { λ q. ⌜ ((F : Format) (c : Change) → Carries F c r (now (texts .entry)) t → Retraced
-        (undoing (length (now (text .entry))) (facing back c) (record
+    ensures { λ q. ⌜ ((F : Format) (c : Change) → Carries F c r (now (texts .entry)) t → UndoneOrRedone
+        (undoing (length (now (text .entry))) (toUndo back c) (record
         { text = take (s .len) (now (text .entry)); cursor = s .cursor; undone = s .undone })) s q (now (text .entry)) (now (text .exit))) ⌝ }
 {
     if r.kind <= 2 {

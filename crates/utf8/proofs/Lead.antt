@@ -11,7 +11,7 @@ use lib.Dec.{T, eqb, eqb→eq, leb, leb→le}
 use lib.ListN.{getD}
 use borrow.Author.Tests.{eq-eqb, ne-eqb, le-leb, leb-true}
 use Rattle.lists.proofs.Bools.{and-both}
-use Rattle.lists.proofs.Tables.{allBelow, at-each, split}
+use Rattle.lists.proofs.Tables.{allBelow, at-each, and-parts}
 use Rattle.utf8.specs.Utf8.{char, within, tail, one, two, lead3, three, lead4, four, orElse, firstOf, first, onesFrom, leadLen}
 use Rattle.utf8.proofs.Chars.{within-true, cond-char, or-split, lead3-in, lead4-in}
 
@@ -37,7 +37,7 @@ lead-in :
 unfolding in-test
 lead-in n lo hi t a h e =
     let r : T (cond (eqb (leadLen a) n) (leb lo a && leb a hi) true) = at-each (in-test n lo hi) 256 t a h in
-    let p : T (leb lo a) × T (leb a hi) = split (leb lo a) (leb a hi) (rw (eq-eqb (leadLen a) n e) at r) in
+    let p : T (leb lo a) × T (leb a hi) = and-parts (leb lo a) (leb a hi) (rw (eq-eqb (leadLen a) n e) at r) in
     (leb→le lo a (p .0), leb→le a hi (p .1))
 
 pub lead-1 : (a : ℕ) → a < 256 → leadLen a ≡ 1 → a ≤ 0xBF

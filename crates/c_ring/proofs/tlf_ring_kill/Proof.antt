@@ -49,15 +49,15 @@ use denote.Exit.{yes}
 use Rattle.unicode.specs.Repertoire.{catalogue}
 use Rattle.checks.specs.Outcome.{Outcome}
 use Rattle.kill_ring.specs.declared.Ring.{Ring}
-use Rattle.kill_ring.specs.declared.Left.{Left}
+use Rattle.kill_ring.specs.declared.AnswerAndRing.{AnswerAndRing}
 use Rattle.kill_ring.specs.Ring.{KillRing}
 use Rattle.kill_ring.specs.Calls.{Lent, lent, killCall, Ringed}
 use Rattle.kill_ring.proofs.Ring as T
 use Rattle.kill_ring.proofs.Ring.Laws as T′
 use Rattle.kill_ring.proofs.RingAnswer as S
 use Rattle.kill_ring.proofs.RingAnswer.Laws as S′
-use Rattle.kill_ring.proofs.Left as U
-use Rattle.kill_ring.proofs.Left.Laws as U′
+use Rattle.kill_ring.proofs.AnswerAndRing as U
+use Rattle.kill_ring.proofs.AnswerAndRing.Laws as U′
 use Rattle.kill_ring.proofs.kill as core
 use Rattle.kill_ring.proofs.kill.Symbol as core-def
 use Rattle.kill_ring.proofs.kill.Symbol.{name as #kill-ring·kill}
@@ -152,10 +152,11 @@ module _ {M : Type 1} (𝓤 : URA M) (H : Heap 𝓤) (A : Atoms 𝓤) (W : Given
       args argvals) ∷ []) ∵ join ! $ frame ! $ done !
 
   -- the answer's machine value
-  abbrev answer : Left → Val
+  abbrev answer : AnswerAndRing → Val
   answer r = only (LL.vals S.the-type S′.the-laws (r .answer))
 
-  exits : (r : Left) (ys′ zs′ : List ℕ) → Ringed l out r ys′ zs′ → length ys′ ≡ length ys → length zs′ ≡ length zs
+  exits : (r : AnswerAndRing) (ys′ zs′ : List ℕ) → Ringed l out r ys′ zs′ → length ys′ ≡ length ys
+      → length zs′ ≡ length zs
       → Is S.the-row (r .answer) (answer r ∷ []) → n < 2 ^ 32
       → ent 𝓤 (⋆ 𝓤 H A (‵ (fobs γ (T.the-row .coded .code (r .ring))) ∷ ‵ (fbor κ″ (Body (mem T.the-row) b o γ))
       ∷ ‵ (flft κ″ q″) ∷ (‵ (flft κ q) ⊛ ‵ (flft κ′ q′) ⊛ ‵ (flft κ‴ q‴) ⊛ ‵ ftrue)
@@ -168,7 +169,7 @@ module _ {M : Type 1} (𝓤 : URA M) (H : Heap 𝓤) (A : Atoms 𝓤) (W : Given
       suffices ! _ (ends-at 𝓤 H A f.ended stayed (f.clauses 𝓤 H A at-mem run) W
       (((κ, (κ′, (κ″, (κ‴, tt)))), (q, (q′, (q″, (q‴, tt)))), tt, x, at), tt) (answer r) (r .answer)
       (ys′, (zs′, (r .ring, (tt, (tt, tt))))) (ly, (lz, (tt, (tt, (tt, tt)))))) $
-      says ! (ap (λ (k : Left). k .answer) (e .left), ap (λ (k : Left). k .ring) (e .left), e .bytes) $
+      says ! (ap (λ (k : AnswerAndRing). k .answer) (e .whole), ap (λ (k : AnswerAndRing). k .ring) (e .whole), e .bytes) $
       move ! (3 ∷ []) $ split ! $ move ! (1 ∷ []) $ split ! $ move ! (5 ∷ 1 ∷ []) $ join ! $ move ! (1 ∷ 0 ∷ []) $ join ! $
       move ! (1 ∷ 0 ∷ []) $ join ! $ frame ! $
       feqI ! (List Val) (vptr b o ∷ []) (vptr b o ∷ []) refl $ fjoin3 ! $ nothing ! $
@@ -232,7 +233,7 @@ module _ {M : Type 1} (𝓤 : URA M) (H : Heap 𝓤) (A : Atoms 𝓤) (W : Given
         (and-then ! (load ! (from ! (stop !)) (look ! 6 refl))
         (and-then ! (load ! (from ! (stop !)) (look ! 20 refl)) (and-then ! (load ! (from ! (stop !)) (look ! 18 refl)) (no-more !))))))
         (λ v.
-        use1 W (later (some (λ (r : Left). ((‵ (flft κ q) ⊛ ‵ (flft κ′ q′) ⊛ ‵ (flft κ‴ q‴) ⊛ ‵ ftrue)
+        use1 W (later (some (λ (r : AnswerAndRing). ((‵ (flft κ q) ⊛ ‵ (flft κ′ q′) ⊛ ‵ (flft κ‴ q‴) ⊛ ‵ ftrue)
         ⊛ ‵ (U.the-row .own r (v ∷ [])))
         ⊛ raw (ensured 𝓤 H A core.ended (core.clauses 𝓤 H A at-mem run) (κ, (κ′, (κ‴, tt))) args tt r)))) (id⊢ 𝓤 _) $
         await ! tt $ pick ! (λ r.

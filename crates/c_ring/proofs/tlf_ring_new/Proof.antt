@@ -41,10 +41,10 @@ use denote.Triple.Spec.{Meets, tripleOf}
 use denote.Triple.Table.{entered, cited}
 use denote.Triple.Walked.{says, Stays, stay-ref, stay-none, walkOf, AllGo, goes-ref, goes-none, Walks, ends-at, walked, walk-meets}
 use denote.Exit.{yes}
-use Rattle.kill_ring.specs.Calls.{newCall, leftOf}
-use Rattle.kill_ring.specs.declared.Left.{Left}
-use Rattle.kill_ring.proofs.Left as U
-use Rattle.kill_ring.proofs.Left.Laws as U′
+use Rattle.kill_ring.specs.Calls.{newCall, answerAndRing}
+use Rattle.kill_ring.specs.declared.AnswerAndRing.{AnswerAndRing}
+use Rattle.kill_ring.proofs.AnswerAndRing as U
+use Rattle.kill_ring.proofs.AnswerAndRing.Laws as U′
 use Rattle.kill_ring.specs.declared.Ring.{Ring}
 use Rattle.kill_ring.proofs.RingAnswer as S
 use Rattle.kill_ring.proofs.RingAnswer.Laws as S′
@@ -85,9 +85,10 @@ module _ {M : Type 1} (𝓤 : URA M) (H : Heap 𝓤) (A : Atoms 𝓤) (W : Given
   Post = walkOf 𝓤 H A f.ended stayed (f.clauses 𝓤 H A at-mem run) .post (((κ, tt), (q, tt), tt, x, at), tt)
 
   -- of the callee's `ensured`, the clause alone
-  said : (r : Left) → ent 𝓤 (ensured 𝓤 H A core.ended (core.clauses 𝓤 H A at-mem run) tt (h, (n, tt)) tt r)
-      (fact 𝓤 (r ≡ leftOf h (newCall n)))
-  said r = exE 𝓤 _ (λ ws. snd∗ 𝓤 (sem 𝓤 H A (lasts core.ended tt (h, (n, tt)) ws)) (fact 𝓤 (r ≡ leftOf h (newCall n))))
+  said : (r : AnswerAndRing) → ent 𝓤 (ensured 𝓤 H A core.ended (core.clauses 𝓤 H A at-mem run) tt (h, (n, tt)) tt r)
+      (fact 𝓤 (r ≡ answerAndRing h (newCall n)))
+  said r =
+      exE 𝓤 _ (λ ws. snd∗ 𝓤 (sem 𝓤 H A (lasts core.ended tt (h, (n, tt)) ws)) (fact 𝓤 (r ≡ answerAndRing h (newCall n))))
 
   abbrev to-core : Core 𝓤 H A at-mem run .Ghost
   to-core = ((tt, tt, tt, (h, (n, tt)), (vals h, (vint w64 n ∷ [], tt))), tt)
@@ -98,7 +99,7 @@ module _ {M : Type 1} (𝓤 : URA M) (H : Heap 𝓤) (A : Atoms 𝓤) (W : Given
       owned ! usize (Is usize) (uint-makes 𝓤 H A W w64) n _ (refl, fits) $ fjoin ! $ move ! (1 ∷ 0 ∷ []) $ fjoin ! $ nothing ! $
       join ! $ frame ! $ done !
 
-  exits : (r : Left) → r ≡ leftOf h (newCall n) → r .answer .number < 2 ^ 32 → n < 2 ^ 64
+  exits : (r : AnswerAndRing) → r ≡ answerAndRing h (newCall n) → r .answer .number < 2 ^ 32 → n < 2 ^ 64
       → ent 𝓤 (sep 𝓤 (A .obs γ (T.the-row .coded .code (r .ring)))
       (sep 𝓤 (A .bor κ (Body (mem T.the-row) b o γ)) (A .lft κ q))) (Post (vint w32 (r .answer .number)))
   exits r e small fits =
@@ -106,7 +107,8 @@ module _ {M : Type 1} (𝓤 : URA M) (H : Heap 𝓤) (A : Atoms 𝓤) (W : Given
       ∷ []) ∵
       suffices ! _ (ends-at 𝓤 H A f.ended stayed (f.clauses 𝓤 H A at-mem run) W (((κ, tt), (q, tt), tt, x, at), tt)
       (vint w32 (r .answer .number)) (r .answer .number) (r .ring, (tt, tt)) (tt, (tt, tt))) $
-      says ! (ap (λ (k : Left). k .answer .number) e, ap (λ (k : Left). k .ring) e) $ nothing ! $ move ! (3 ∷ 0 ∷ []) $ join ! $
+      says ! (ap (λ (k : AnswerAndRing). k .answer .number) e, ap (λ (k : AnswerAndRing). k .ring) e) $
+      nothing ! $ move ! (3 ∷ 0 ∷ []) $ join ! $
       frame ! $ feqI ! (List Val) (vptr b o ∷ []) (vptr b o ∷ []) refl $ fjoin3 ! $ nothing ! $
       owned ! usize (Is usize) (uint-makes 𝓤 H A W w64) n _ (refl, fits) $ fjoin ! $ move ! (1 ∷ 0 ∷ []) $ fjoin ! $
       owned ! u32 (Is u32) (uint-makes 𝓤 H A W w32) (r .answer .number) _ (refl, small) $ move ! (1 ∷ 0 ∷ []) $ done !
@@ -134,11 +136,11 @@ module _ {M : Type 1} (𝓤 : URA M) (H : Heap 𝓤) (A : Atoms 𝓤) (W : Given
         move ! (1 ∷ []) $ use1 W (raw (Core 𝓤 H A at-mem run .pre to-core)) (goes-core (gn .1)) $
         calls-at ! fm (Core 𝓤 H A at-mem run) known to-core
         (and-then ! (load ! (from ! (stop !)) (look ! 5 refl)) (and-then ! (load ! (from ! (stop !)) (look ! 9 refl)) (no-more !))) (λ v.
-        use1 W (later (some (λ (r : Left). (‵ ftrue ⊛ ‵ (U.the-row .own r (v ∷ [])))
+        use1 W (later (some (λ (r : AnswerAndRing). (‵ ftrue ⊛ ‵ (U.the-row .own r (v ∷ [])))
         ⊛ raw (ensured 𝓤 H A core.ended (core.clauses 𝓤 H A at-mem run) tt (h, (n, tt)) tt r)))) (id⊢ 𝓤 _) $ await ! tt $
         pick ! (λ r.
-        split ! $ move ! (1 ∷ []) $ use1 W (raw (fact 𝓤 (r ≡ leftOf h (newCall n)))) (said r) $
-        heard ! (r ≡ leftOf h (newCall n)) (λ e. split ! $ drop ! $
+        split ! $ move ! (1 ∷ []) $ use1 W (raw (fact 𝓤 (r ≡ answerAndRing h (newCall n)))) (said r) $
+        heard ! (r ≡ answerAndRing h (newCall n)) (λ e. split ! $ drop ! $
         peeks ! U.the-row (Is U.the-row) (shows 𝓤 H A U.the-row) r (v ∷ []) (λ is.
         -- [what the answer owns; the record's cell; the open borrow; obs; auth; _4; …; _3; …; _2; …; _1; …; room for _0; …]
         land ! (from ! (stop !)) (init ! 7 refl (LL.lawful U.the-type U′.the-laws 𝓤 H A W .typed r _ is .0)) $

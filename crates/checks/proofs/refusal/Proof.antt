@@ -1,6 +1,5 @@
 use mathlib.Core.Path.{ap, _∙_}
 use denote.Ref.{now}
-use Prim.Native.Nat.{ℕ}
 use Rattle.formats.specs.declared.Format.{Format}
 use Rattle.unicode.specs.Repertoire.{catalogue}
 use Rattle.checks.specs.Checks as Checks

@@ -136,7 +136,7 @@ add-t19 c =
     let else1 = c .before .before .before .before .before .before .before .before .before .before .before .before .before .before
     .before .before .before .before .before .before in
     let entry = else1.before.before.before.before.before in
-    omega (arith, else1.if1.left, entry.pre.1.0.small, entry.pre.1.0.log.fit.text, entry.pre.1.0.used, entry.pre.1.1.0.0, entry.pre.1.1.0.1)
+    omega (arith, else1.if1.left, entry.pre.1.0.limit, entry.pre.1.0.log.fit.text, entry.pre.1.0.used, entry.pre.1.1.0.0, entry.pre.1.1.0.1)
 
 returns-4 : tie.Need-returns-4
 returns-4 c =

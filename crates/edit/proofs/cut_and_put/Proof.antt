@@ -8,7 +8,7 @@ use Rattle.edit.specs.Plan.{cutting, pasted}
 use Rattle.edit.specs.Calls.{lent}
 use Rattle.edit.proofs.Answers.{length-kept, nine, ten}
 use Rattle.edit.proofs.Pair.{cut-suits, pair-long, pair-short, pair-mid, pair-made}
-use Rattle.edit.proofs.Left.{next-suits}
+use Rattle.edit.proofs.Underway.{next-suits}
 use borrow.Author.Needs.{needs}
 use Rattle.edit.proofs.cut_and_put.Statement.{statement}
 use Rattle.edit.proofs.cut_and_put.Tie as tie
@@ -34,14 +34,14 @@ returns c =
     let a = entry.args in
     let l = lent (now a.text) (now a.records) (now a.texts) a.line a.log in
     nine a.f l
-    (record { pieces = cutting a.from a.to ∷ pasted a.at (now a.new) ∷ []; cursor = a.cursor; number = a.number; from = 0; to = 0 }) _
+    (record { changes = cutting a.from a.to ∷ pasted a.at (now a.new) ∷ []; cursor = a.cursor; number = a.number; from = 0; to = 0 }) _
     (pair-long a.f l entry.pre.1.0 a.from a.to a.at (now a.new) entry.pre.1.1.1 c.before.if1.taken) c.says.ensures
 
 pair-fits-requires : tie.Need-pair-fits-requires
 pair-fits-requires c κs =
     let else1 = c.before.before.before in
     let entry = else1.before.before.before.before.before.before in
-    (entry.pre.0, (entry.pre.1.0, (entry.pre.1.1.0, (entry.pre.1.1.1, omega (arith, else1.if1.left, entry.pre.1.0.small)))))
+    (entry.pre.0, (entry.pre.1.0, (entry.pre.1.1.0, (entry.pre.1.1.1, omega (arith, else1.if1.left, entry.pre.1.0.limit)))))
 
 returns-2 : tie.Need-returns-2
 returns-2 c =
@@ -50,7 +50,7 @@ returns-2 c =
     let a = entry.args in
     let l = lent (now a.text) (now a.records) (now a.texts) a.line a.log in
     ten a.f l
-    (record { pieces = cutting a.from a.to ∷ pasted a.at (now a.new) ∷ []; cursor = a.cursor; number = a.number; from = 0; to = 0 }) _
+    (record { changes = cutting a.from a.to ∷ pasted a.at (now a.new) ∷ []; cursor = a.cursor; number = a.number; from = 0; to = 0 }) _
     (pair-short a.f l entry.pre.1.0 a.from a.to a.at (now a.new) entry.pre.1.1.1 else1.if1.left)
     (sym c.before.before.pair-fits.ensures ∙ not-true _ c.before.if2.taken) c.says2.ensures
 
@@ -83,7 +83,7 @@ put-in-requires c κs =
     (sym after-pair-fits.pair-fits.ensures ∙ not-false _ else2.if2.left) _ _ _ _ after-cut-out.cut-out.ensures
     after-cut-out.cut-out.kept.1.0 after-cut-out.cut-out.kept.1.1.0 after-cut-out.cut-out.kept.1.1.1.0 in
     let next-suits1 = next-suits a.f l
-    (record { pieces = cutting a.from a.to ∷ pasted a.at (now a.new) ∷ []; cursor = a.cursor; number = a.number; from = 0; to = 0 })
+    (record { changes = cutting a.from a.to ∷ pasted a.at (now a.new) ∷ []; cursor = a.cursor; number = a.number; from = 0; to = 0 })
     (pasted a.at (now a.new)) [] _ pair-mid1 in
     (entry.pre.0, (pair-mid1.ready, (next-suits1.0, next-suits1.1)))
 

@@ -8,7 +8,7 @@ use Rattle.unicode.specs.Repertoire.{catalogue}
 use Rattle.edit.specs.Calls.{lent}
 use Rattle.edit.proofs.Answers.{length-kept}
 use Rattle.edit.proofs.Parts.{part-length, raw-part}
-use Rattle.edit.proofs.Held.{take-within}
+use Rattle.edit.proofs.Stored.{take-within}
 use Rattle.edit_case.specs.EditWord.{inCase}
 use Rattle.edit_case.proofs.Recased.{word-in, recased-suits, recased}
 use borrow.Author.Needs.{needs}
@@ -67,7 +67,7 @@ write-case-requires c κs =
             ∙ part-length catalogue (take a.line.len (now a.text)) a.from after-words-on.words-on.result word-in1),
         (let w : after-words-on.words-on.result ≤ a.line.len = omega (arith, word-in1.1, length-kept1) in w),
         entry.pre.0.used,
-        entry.pre.0.small,
+        entry.pre.0.limit,
         entry.pre.0.log.fit.text,
       ),
       omega arith,
@@ -88,7 +88,7 @@ add-behind c =
       (let w : after-words-on.words-on.result ≤ a.line.len = omega (arith, word-in1.1, (length-kept a.f l entry.pre.0)) in w),
       word-in1.0,
       entry.pre.0.used,
-      entry.pre.0.small,
+      entry.pre.0.limit,
       entry.pre.0.log.fit.text,
     )
 

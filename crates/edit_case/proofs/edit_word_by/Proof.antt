@@ -1,84 +1,76 @@
-use mathlib.Core.Path.{sym, ap, _∙_}
+use mathlib.Core.Path.{_≡_, sym, ap, _∙_}
 use mathlib.Core.Bool.{false}
-use lib.ListN.{length, take}
 use lib.Seq.{length-take-le}
 use denote.Ref.{now}
+use Rattle.utf8.specs.Chars.{In}
 use Rattle.unicode.specs.Repertoire.{catalogue}
 use Rattle.checks.specs.Checks.{ownTests}
 use Rattle.log_records.proofs.Walks.{newest-last}
 use Rattle.formats.specs.declared.Format.{Format}
 use Rattle.formats.proofs.Formats.{fit-for}
 use Rattle.edit.specs.declared.Own.{Own}
-use Rattle.edit.specs.Plan.{Plan, edited}
-use Rattle.edit.specs.Calls.{lent, sizesOf, stateOf, own, checked}
-use Rattle.edit.proofs.Answers.{cursor-in, refused-by, passed-by, stays}
-use Rattle.edit.proofs.Made.{outcome-as}
-use Rattle.edit.proofs.Formats.{in-format}
-use Rattle.edit_case.specs.EditWord.{editWordPlan, actionIs, editWordBy}
-use Rattle.edit_case.proofs.Begins.{case-at, case-none, skip-in}
+use Rattle.edit.specs.Plan.{Plan}
+use Rattle.edit.specs.Calls.{Lent, lent, textOf, own, checked, Ready}
+use Rattle.edit.proofs.Answers.{cursor-in, stays}
+use Rattle.edit.proofs.Called.{call-refused, call-made}
+use Rattle.edit_case.specs.EditWord.{editWordPlan}
+use Rattle.edit_case.proofs.Begins.{skip-in, case-at, case-none}
 use borrow.Author.Needs.{needs}
 use Rattle.edit_case.proofs.edit_word_by.Statement.{statement}
 use Rattle.edit_case.proofs.edit_word_by.Tie as tie
 
+-- ---- where the check is made: the format, what is lent, the plan, and the number
+abbrev format : tie.After-check → Format
+format c = c.before.before.before.before.before.format-for.result
+
+abbrev start : tie.After-check → tie.Start
+start c = c.before.before.before.before.before.before.before.before.before
+
+abbrev lending : tie.After-check → Lent
+lending c = let a = start c .args in lent (now a.text) (now a.records) (now a.texts) a.line a.log
+
+abbrev plan : tie.After-check → Plan
+plan c = let a = start c .args in editWordPlan catalogue (textOf (lending c)) a.action a.line.cursor
+
+number : (c : tie.After-check) → checked catalogue (format c) (lending c) (ownTests false false false) ≡ c.check.result.number
+number c = sym (c.check.ensures.0 ∙ ap (λ (o : Own). checked catalogue (format c) (lending c) (own o)) c.before.none.ensures)
+
+-- ---- where it has passed
+ready : (c : tie.Else1) → Ready (format c.before.before) (lending c.before.before)
+ready c = c.before.before.check.ensures.1.0 c.if1.left
+
+inside : (c : tie.Else1) → let l = lending c.before.before in In (textOf l) (l .line .cursor) (l .line .cursor)
+inside c = cursor-in (format c.before.before) (lending c.before.before) (ready c)
+
 check-requires : tie.Need-check-requires
-check-requires c κs =
-    let after-format-for = c.before.before.before.before in
-    fit-for _ after-format-for.format-for.ensures
+check-requires c κs = fit-for _ c.before.before.before.before.format-for.ensures
 
 returns : tie.Need-returns
 returns c =
-    let after-check = c.before.before.before in
-    let after-none = c.before.before.before.before in
-    let after-format-for = after-none.before.before.before.before in
-    let entry = after-format-for.before.before.before.before in
-    let a = entry.args in
-    let l = lent (now a.text) (now a.records) (now a.texts) a.line a.log in
-    in-format l (λ (F : Format). editWordBy catalogue F l (actionIs a.action)) after-format-for.format-for.ensures
-    (refused-by after-format-for.format-for.result l after-check.check.result.number
-    (checked catalogue after-format-for.format-for.result l (ownTests false false false))
-    (edited catalogue after-format-for.format-for.result (sizesOf l) (length (now a.text))
-    (editWordPlan catalogue (take a.line.len (now a.text)) a.action a.line.cursor) (stateOf catalogue after-format-for.format-for.result l))
-    _
-    (sym
-    (after-check.check.ensures.0
-    ∙ ap (λ (o : Own). checked catalogue after-format-for.format-for.result l (own o)) after-none.none.ensures)) c.before.if1.taken
-    c.says.ensures)
+    let k = c.before.before.before in
+    call-refused (lending k) _ (plan k) k.before.before.before.before.before.format-for.ensures (number k) c.before.if1.taken c.says.ensures
 
 slice-reshare-prefix-skip-whitespace : tie.Need-slice-reshare-prefix-skip-whitespace
-slice-reshare-prefix-skip-whitespace c =
-    let after-check = c.before.before.before in
-    (after-check.check.ensures.1.0 c.before.if1.left) .used
+slice-reshare-prefix-skip-whitespace c = ready c.before .used
 
 slice-aggregate-skip-whitespace : tie.Need-slice-aggregate-skip-whitespace
-slice-aggregate-skip-whitespace c =
-    let else1 = c.before.before in
-    sym (length-take-le _ _ ((else1.before.before.check.ensures.1.0 else1.if1.left) .used))
+slice-aggregate-skip-whitespace c = sym (length-take-le _ _ (ready c.before.before .used))
 
 skip-whitespace-requires : tie.Need-skip-whitespace-requires
-skip-whitespace-requires c κs =
-    let after-check = c.before.before.before.before in
-    let after-format-for = c.before.before.before.before.before.before.before.before.before in
-    let entry = after-format-for.before.before.before.before in
-    let a = entry.args in
-    (cursor-in after-format-for.format-for.result (lent (now a.text) (now a.records) (now a.texts) a.line a.log)
-    (after-check.check.ensures.1.0 c.before.before.if1.left)) .1
+skip-whitespace-requires c κs = inside c.before.before .1
 
 case-from-requires : tie.Need-case-from-requires
 case-from-requires c κs =
     let after-found = c.before.before.before.before in
     let after-skip-whitespace = after-found.before.before in
     let else1 = after-skip-whitespace.before.before.before in
-    let after-check = else1.before.before in
-    let after-format-for = after-check.before.before.before.before.before in
-    let entry = after-format-for.before.before.before.before in
-    let a = entry.args in (
-      (after-check.check.ensures.1.0 else1.if1.left),
+    let k = else1.before.before in
+    let a = start k .args in (
+      ready else1,
       (
-        newest-last catalogue after-format-for.format-for.result _ _ (after-check.check.ensures.1.1 else1.if1.left),
-        skip-in catalogue (take a.line.len (now a.text)) a.action a.line.cursor _ after-skip-whitespace.skip-whitespace.ensures
-            ((after-check.check.ensures.1.0 else1.if1.left) .text)
-            (cursor-in after-format-for.format-for.result (lent (now a.text) (now a.records) (now a.texts) a.line a.log)
-            (after-check.check.ensures.1.0 else1.if1.left)) _ after-found.found.given.1,
+        newest-last catalogue (format k) _ _ (k.check.ensures.1.1 else1.if1.left),
+        skip-in catalogue (textOf (lending k)) a.action a.line.cursor _ after-skip-whitespace.skip-whitespace.ensures (ready else1 .text)
+            (inside else1) _ after-found.found.given.1,
       ),
     )
 
@@ -88,52 +80,22 @@ returns-2 c =
     let after-found = after-case-from.before.before.before.before.before in
     let after-skip-whitespace = after-found.before.before in
     let else1 = after-skip-whitespace.before.before.before in
-    let after-check = else1.before.before in
-    let after-none = after-check.before in
-    let after-format-for = after-none.before.before.before.before in
-    let entry = after-format-for.before.before.before.before in
-    let a = entry.args in
-    let l = lent (now a.text) (now a.records) (now a.texts) a.line a.log in
-    let stateOf1 = stateOf catalogue after-format-for.format-for.result l in
-    let sizesOf1 = sizesOf l in
-    in-format l (λ (F : Format). editWordBy catalogue F l (actionIs a.action)) after-format-for.format-for.ensures
-    (passed-by after-format-for.format-for.result l after-check.check.result.number
-    (checked catalogue after-format-for.format-for.result l (ownTests false false false))
-    (edited catalogue after-format-for.format-for.result sizesOf1 (length (now a.text))
-    (editWordPlan catalogue (take a.line.len (now a.text)) a.action a.line.cursor) stateOf1) _ _ _ _
-    (sym
-    (after-check.check.ensures.0
-    ∙ ap (λ (o : Own). checked catalogue after-format-for.format-for.result l (own o)) after-none.none.ensures)) else1.if1.left
-    (outcome-as after-format-for.format-for.result l _ _ _ _ _ _
-    (ap (λ (p : Plan). edited catalogue after-format-for.format-for.result sizesOf1 (length (now a.text)) p stateOf1)
-    (case-at catalogue (take a.line.len (now a.text)) a.action a.line.cursor _ after-skip-whitespace.skip-whitespace.ensures _
-    after-found.found.given.1)) after-case-from.case-from.ensures))
+    let k = else1.before.before in
+    let a = start k .args in
+    call-made (lending k) _ (plan k) k.before.before.before.before.before.format-for.ensures (number k) else1.if1.left
+    (case-at catalogue (textOf (lending k)) a.action a.line.cursor _ after-skip-whitespace.skip-whitespace.ensures _
+    after-found.found.given.1) after-case-from.case-from.ensures
 
 returns-3 : tie.Need-returns-3
 returns-3 c =
     let after-skip-whitespace = c.before.before.before in
     let else1 = after-skip-whitespace.before.before.before in
-    let after-check = else1.before.before in
-    let after-none = after-check.before in
-    let after-format-for = after-none.before.before.before.before in
-    let entry = after-format-for.before.before.before.before in
-    let a = entry.args in
-    let l = lent (now a.text) (now a.records) (now a.texts) a.line a.log in
-    let stateOf1 = stateOf catalogue after-format-for.format-for.result l in
-    let sizesOf1 = sizesOf l in
-    in-format l (λ (F : Format). editWordBy catalogue F l (actionIs a.action)) after-format-for.format-for.ensures
-    (passed-by after-format-for.format-for.result l after-check.check.result.number
-    (checked catalogue after-format-for.format-for.result l (ownTests false false false))
-    (edited catalogue after-format-for.format-for.result sizesOf1 (length (now a.text))
-    (editWordPlan catalogue (take a.line.len (now a.text)) a.action a.line.cursor) stateOf1) _ _ _ _
-    (sym
-    (after-check.check.ensures.0
-    ∙ ap (λ (o : Own). checked catalogue after-format-for.format-for.result l (own o)) after-none.none.ensures)) else1.if1.left
-    (outcome-as after-format-for.format-for.result l _ _ _ _ _ _
-    (ap (λ (p : Plan). edited catalogue after-format-for.format-for.result sizesOf1 (length (now a.text)) p stateOf1)
-    (case-none catalogue (take a.line.len (now a.text)) a.action a.line.cursor _ after-skip-whitespace.skip-whitespace.ensures
-    c.before.enum-told.given.1))
-    (stays after-format-for.format-for.result l (after-check.check.ensures.1.0 else1.if1.left) _ c.says2.ensures)))
+    let k = else1.before.before in
+    let a = start k .args in
+    call-made (lending k) _ (plan k) k.before.before.before.before.before.format-for.ensures (number k) else1.if1.left
+    (case-none catalogue (textOf (lending k)) a.action a.line.cursor _ after-skip-whitespace.skip-whitespace.ensures
+    c.before.enum-told.given.1)
+    (stays (format k) (lending k) (ready else1) _ c.says2.ensures)
 
 pub edit-word-by-spec : {M : Type 1} → statement M
 edit-word-by-spec =

@@ -3,7 +3,7 @@ use denote.Ref.{now}
 use borrow.Author.Tests.{not-true, not-false}
 use borrow.Author.Needs.{needs}
 use Rattle.edit.specs.Calls.{lent}
-use Rattle.edit_indent_plans.proofs.Rooms.{Part, asks, Tried, log-within, to-within, cuts-few, dedent-tried, full, begin}
+use Rattle.edit_indent_plans.proofs.Rooms.{Part, asks, RoomTested, log-within, to-within, cuts-few, dedent-tested, full, begin}
 use Rattle.edit_indent.proofs.dedent_range.Statement.{statement}
 use Rattle.edit_indent.proofs.dedent_range.Tie as tie
 
@@ -12,12 +12,12 @@ asked s =
     asks (lent (now s.args.text) (now s.args.records) (now s.args.texts) s.args.line s.args.log) s.pre.0 s.args.m s.args.from s.args.to
     s.pre.1.0
 
-tried : (c : tie.After-has-room) → Tried (asked (c .before .before .before .before .before .before .before .before .before)) true
+tested : (c : tie.After-has-room) → RoomTested (asked (c .before .before .before .before .before .before .before .before .before)) true
     c.has-room.result
-tried c =
+tested c =
     let count = c.before.before.before in
     let entry = count.before.before.before.before.before.before in
-    dedent-tried (asked entry) entry.pre.1.1 count.count-cuts.ensures.0 count.count-cuts.ensures.1 c.has-room.ensures
+    dedent-tested (asked entry) entry.pre.1.1 count.count-cuts.ensures.0 count.count-cuts.ensures.1 c.has-room.ensures
 
 part-count-cuts-end : tie.Need-part-count-cuts-end
 part-count-cuts-end c =
@@ -31,13 +31,13 @@ has-room-requires c κs =
     (x.ready.log.fit, ((log-within x) .0, (log-within x) .1, cuts-few x c.before.before.count-cuts.ensures.0))
 
 returns : tie.Need-returns
-returns c = full _ (tried c.before.before) (not-true _ c.before.if1.taken) c.says.ensures
+returns c = full _ (tested c.before.before) (not-true _ c.before.if1.taken) c.says.ensures
 
 dedent-lines-requires : tie.Need-dedent-lines-requires
 dedent-lines-requires c κs =
     let else1 = c.before.before.before in
     let after-has-room = else1.before in
-    begin _ (tried after-has-room) (not-false _ else1.if1.left)
+    begin _ (tested after-has-room) (not-false _ else1.if1.left)
 
 pub dedent-range-spec : {M : Type 1} → statement M
 dedent-range-spec =

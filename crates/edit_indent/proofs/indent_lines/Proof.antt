@@ -41,7 +41,7 @@ abbrev μ-loop : tie.MeasureT-loop
 indented-requires : tie.Need-indented-requires Inv-loop μ-loop
 indented-requires c κs =
     let p = c.before.before.before.pre in
-    omega (arith, p.0, p.1.0.within, p.1.0.used, p.1.0.small, p.1.0.log.fit.text)
+    omega (arith, p.0, p.1.0.within, p.1.0.used, p.1.0.limit, p.1.0.log.fit.text)
 
 loop-holds : tie.Need-loop-holds Inv-loop μ-loop
 loop-holds c =
@@ -99,7 +99,7 @@ indented-requires-2 c κs =
     let k = e.before.before.before.loop.inv in
     let p = e.before.before.before.before.before.before.before.before.pre in
     let w = done-in k e.before.before.if1.taken e.end-of-line.ensures.0 in
-    omega (arith, w, k.low, p.0, p.1.0.within, p.1.0.used, p.1.0.small, p.1.0.log.fit.text)
+    omega (arith, w, k.low, p.0, p.1.0.within, p.1.0.used, p.1.0.limit, p.1.0.log.fit.text)
 
 loop-less : tie.Need-loop-less Inv-loop μ-loop
 loop-less c =

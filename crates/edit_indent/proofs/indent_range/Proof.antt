@@ -4,7 +4,8 @@ use denote.Ref.{now}
 use borrow.Author.Tests.{not-true, not-false}
 use borrow.Author.Needs.{needs}
 use Rattle.edit.specs.Calls.{lent}
-use Rattle.edit_indent_plans.proofs.Rooms.{Part, asks, Tried, log-within, to-within, lines-few, indent-long, indent-tried, full, begin}
+use Rattle.edit_indent_plans.proofs.Rooms.{Part, asks, RoomTested, log-within, to-within}
+use Rattle.edit_indent_plans.proofs.Rooms.{lines-few, indent-long, indent-tested, full, begin}
 use Rattle.edit_indent.proofs.indent_range.Statement.{statement}
 use Rattle.edit_indent.proofs.indent_range.Tie as tie
 
@@ -13,14 +14,14 @@ asked s =
     asks (lent (now s.args.text) (now s.args.records) (now s.args.texts) s.args.line s.args.log) s.pre.1.0 s.args.m s.args.from s.args.to
     s.pre.1.1
 
-tried : (c : tie.After-has-room) → Tried (asked (c .before .before .before .before .before .before .before .before .before .before
+tested : (c : tie.After-has-room) → RoomTested (asked (c .before .before .before .before .before .before .before .before .before .before
     .before))
     false c.has-room.result
-tried c =
+tested c =
     let else1 = c.before.before.before in
     let count = c.before.before.before.before.before in
     let entry = count.before.before.before.before.before.before in
-    indent-tried (asked entry) entry.pre.0 count.count-lines.ensures else1.if1.left c.has-room.ensures
+    indent-tested (asked entry) entry.pre.0 count.count-lines.ensures else1.if1.left c.has-room.ensures
 
 part-count-lines-end : tie.Need-part-count-lines-end
 part-count-lines-end c =
@@ -52,14 +53,14 @@ has-room-requires c κs =
     (x.ready.log.fit, ((log-within x) .0, (log-within x) .1, omega (arith, (lines-few x entry.pre.0 count.count-lines.ensures) .2)))
 
 returns-2 : tie.Need-returns-2
-returns-2 c = full _ (tried c.before.before) (not-true _ c.before.if2.taken) c.says2.ensures
+returns-2 c = full _ (tested c.before.before) (not-true _ c.before.if2.taken) c.says2.ensures
 
 indent-lines-requires : tie.Need-indent-lines-requires
 indent-lines-requires c κs =
     let else2 = c.before.before.before in
     let after-has-room = else2.before in
     let entry = after-has-room.before.before.before.before.before.before.before.before.before.before.before in
-    (entry.pre.0, begin _ (tried after-has-room) (not-false _ else2.if2.left))
+    (entry.pre.0, begin _ (tested after-has-room) (not-false _ else2.if2.left))
 
 pub indent-range-spec : {M : Type 1} → statement M
 indent-range-spec =

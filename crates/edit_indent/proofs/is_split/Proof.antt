@@ -2,7 +2,7 @@ use mathlib.Core.Path.{sym, _∙_}
 use denote.Ref.{now}
 use lib.Seq.{length-take-le}
 use borrow.Author.Tests.{not-true, not-false}
-use Rattle.edit_indent.proofs.Calls.{text-used, text-fit, lines-in, lines-end, raw-valid, tried, untried}
+use Rattle.edit_indent.proofs.Calls.{text-used, text-fit, lines-in, lines-end, raw-valid, tested, untried}
 use borrow.Author.Needs.{needs}
 use Rattle.edit_indent.proofs.is_split.Statement.{statement}
 use Rattle.edit_indent.proofs.is_split.Tie as tie
@@ -68,7 +68,7 @@ returns-3 c =
     let else1 = after-refusal-in.before in
     let entry = else1.before.before in
     let a = entry.args in
-    λ z. tried a.f (now a.text) a.line a.m a.amount after-refusal-in.refusal-in.ensures else2.if2.left c.before.before.touched.result
+    λ z. tested a.f (now a.text) a.line a.m a.amount after-refusal-in.refusal-in.ensures else2.if2.left c.before.before.touched.result
     c.before.before.touched.ensures c.splits.result a.dedent (not-false a.dedent else1.if1.left) c.splits.ensures
 
 pub is-split-spec : {M : Type 1} → statement M

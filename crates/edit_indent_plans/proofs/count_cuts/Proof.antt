@@ -4,7 +4,7 @@ use mathlib.Core.Logic.{⊎-elim}
 use native.Mathlib.Omega.{arith}
 use lib.ListN.{length, drop}
 use Rattle.unicode.specs.Repertoire.{catalogue}
-use Rattle.edit_indent_plans.specs.Touched.{split}
+use Rattle.edit_indent_plans.specs.Touched.{splitLines}
 use Rattle.edit_indent_plans.specs.Counts.{cutsIn, bytesIn}
 use Rattle.edit_indent_plans.proofs.Walks.{line-in, line-width, one-some, one-none, cuts-last, cuts-more}
 use borrow.Author.Needs.{needs}
@@ -14,8 +14,8 @@ use Rattle.edit_indent_plans.proofs.count_cuts.Tie as tie
 abbrev Inv-loop : tie.InvT-loop
 Inv-loop p m records₀ bytes₀ i₀ records bytes i =
     (i ≤ length p) × (records ≤ i) × (bytes ≤ i)
-    × (records + cutsIn catalogue m (split (drop i p)) ≡ cutsIn catalogue m (split p)) ×
-    (bytes + bytesIn catalogue m (split (drop i p)) ≡ bytesIn catalogue m (split p))
+    × (records + cutsIn catalogue m (splitLines (drop i p)) ≡ cutsIn catalogue m (splitLines p)) ×
+    (bytes + bytesIn catalogue m (splitLines (drop i p)) ≡ bytesIn catalogue m (splitLines p))
 
 abbrev μ-loop : tie.MeasureT-loop
 μ-loop p m records₀ bytes₀ i₀ records bytes i = length p + 1 - i

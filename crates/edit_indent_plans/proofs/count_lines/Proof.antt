@@ -4,14 +4,14 @@ use mathlib.Core.Logic.{⊎-elim}
 use native.Mathlib.Omega.{arith}
 use lib.ListN.{length, drop}
 use Rattle.lists.proofs.Parts.{getD-any}
-use Rattle.edit_indent_plans.specs.Touched.{split}
+use Rattle.edit_indent_plans.specs.Touched.{splitLines}
 use Rattle.edit_indent_plans.proofs.Newlines.{count-newline, count-other, count-end}
 use borrow.Author.Needs.{needs}
 use Rattle.edit_indent_plans.proofs.count_lines.Statement.{statement}
 use Rattle.edit_indent_plans.proofs.count_lines.Tie as tie
 
 abbrev Inv-loop : tie.InvT-loop
-Inv-loop p n₀ i₀ n i = (i ≤ length p) × (n ≤ i + 1) × (n + length (split (drop i p)) ≡ 1 + length (split p))
+Inv-loop p n₀ i₀ n i = (i ≤ length p) × (n ≤ i + 1) × (n + length (splitLines (drop i p)) ≡ 1 + length (splitLines p))
 
 abbrev μ-loop : tie.MeasureT-loop
 μ-loop p n₀ i₀ n i = length p - i

@@ -6,7 +6,7 @@ use lib.ListN.{length, drop}
 use borrow.Author.Tests.{not-true, not-false}
 use Rattle.utf8.specs.Chars.{valid}
 use Rattle.unicode.specs.Repertoire.{catalogue}
-use Rattle.edit_indent_plans.specs.Touched.{split, splits}
+use Rattle.edit_indent_plans.specs.Touched.{splitLines, splits}
 use Rattle.edit_indent_plans.proofs.Walks.{line-in, line-valid, rest-valid, splits-here, splits-last, splits-more}
 use borrow.Author.Needs.{needs}
 use Rattle.edit_indent_plans.proofs.splits.Statement.{statement}
@@ -14,7 +14,7 @@ use Rattle.edit_indent_plans.proofs.splits.Tie as tie
 
 abbrev Inv-loop : tie.InvT-loop
 Inv-loop p m i₀ i = (i ≤ length p) × (valid (drop i p) ≡ true)
-    × (splits catalogue m (split p) ≡ splits catalogue m (split (drop i p)))
+    × (splits catalogue m (splitLines p) ≡ splits catalogue m (splitLines (drop i p)))
 
 abbrev μ-loop : tie.MeasureT-loop
 μ-loop p m i₀ i = length p + 1 - i

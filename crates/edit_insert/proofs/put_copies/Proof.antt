@@ -111,7 +111,7 @@ add-t21 c =
     let else1 = c .before .before .before .before .before .before .before .before .before .before .before .before .before .before
     .before .before .before .before .before .before .before .before .before .before in
     let entry = else1.before.before.before.before.before in
-    omega (arith, else1.if1.left, entry.pre.0.used, entry.pre.0.small, entry.pre.0.log.fit.text)
+    omega (arith, else1.if1.left, entry.pre.0.used, entry.pre.0.limit, entry.pre.0.log.fit.text)
 
 returns-4 : tie.Need-returns-4
 returns-4 c =

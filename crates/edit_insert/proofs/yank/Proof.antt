@@ -66,7 +66,7 @@ put-copies-requires c κs =
             omega (
               arith,
               text-passed1.1,
-              after-check.check.ensures.1.0 else1.if1.left .small,
+              after-check.check.ensures.1.0 else1.if1.left .limit,
               after-check.check.ensures.1.0 else1.if1.left .log .fit .text,
             ),
             omega arith,

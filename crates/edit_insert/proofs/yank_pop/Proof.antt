@@ -49,7 +49,7 @@ add-cut-and-put c =
           after-back.back.result after-check.check.result.number after-check-text.check-text.result after-is-split.is-split.result
           after-back.back.ensures after-check.check.ensures.0 after-check-text.check-text.ensures after-is-split.is-split.ensures
           else1.if1.left,
-      (after-check.check.ensures.1.0 else1.if1.left) .small,
+      (after-check.check.ensures.1.0 else1.if1.left) .limit,
       (after-check.check.ensures.1.0 else1.if1.left) .log .fit .text,
       (after-check.check.ensures.1.0 else1.if1.left) .used,
       (after-check.check.ensures.1.0 else1.if1.left) .within,

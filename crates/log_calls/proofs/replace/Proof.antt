@@ -1,79 +1,67 @@
-use mathlib.Core.Path.{sym, _∙_}
+use mathlib.Core.Path.{_≡_, sym, ap₂, _∙_}
 use denote.Ref.{now}
+use mathlib.Core.Bool.{Bool, not, _||_}
+use mathlib.Core.List.{List}
 use Rattle.unicode.specs.Repertoire.{catalogue}
-use Rattle.checks.specs.Outcome.{called}
-use Rattle.formats.specs.declared.Format.{Format}
-use Rattle.log_state.specs.Calls.{lent, sizesOf, valueOf, checked, replaceCall}
-use Rattle.log_state.proofs.Answers.{refused-by, passed-by, answered-as}
-use Rattle.formats.proofs.Formats.{fit-for}
-use Rattle.log_state.proofs.Formats.{in-format}
-use mathlib.Core.Bool.{Bool, not}
-use Rattle.log_state.specs.Outcomes.{recordOut}
-use Rattle.log_state.proofs.Answers.{recorded-as}
-use Rattle.log_state.proofs.Passed.{own-passed}
-use mathlib.Core.Path.{ap₂}
-use mathlib.Core.Bool.{true, _||_}
 use Rattle.unicode.specs.Text.{isText}
-use Rattle.log_model.specs.Change.{replace}
-use Rattle.log_model.specs.Recording.{note, recordReplace}
-use Rattle.log_calls.proofs.Recorded.{a-replace, neither, replace-is}
+use Rattle.formats.specs.declared.Format.{Format}
+use Rattle.formats.proofs.Formats.{fit-for}
+use Rattle.log_model.specs.Change.{Change}
+use Rattle.log_model.specs.Recording.{recordReplace}
 use Rattle.log_records.proofs.Walks.{newest-last}
+use Rattle.log_state.specs.Calls.{Lent, lent, checked}
+use Rattle.log_state.proofs.Passed.{own-passed}
+use Rattle.log_calls.proofs.Recorded.{a-replace, neither, replace-is, call-refused, call-recorded}
 use borrow.Author.Needs.{needs}
 use Rattle.log_calls.proofs.replace.Statement.{statement}
 use Rattle.log_calls.proofs.replace.Tie as tie
 
+-- ---- where the check is made: the format, what is lent, what is recorded, and the number
+abbrev format : tie.After-check → Format
+format c = c.before.before.before.before.before.format-for.result
+
+abbrev start : tie.After-check → tie.Start
+start c = c.before.before.before.before.before.before.before.before.before.before
+
+abbrev lending : tie.After-check → Lent
+lending c = lent (now (start c .args .records)) (now (start c .args .texts)) (start c .args .log)
+
+abbrev recorded : tie.After-check → List Change → List Change
+recorded c = recordReplace (start c .args .idx) (now (start c .args .old)) (now (start c .args .new))
+
+abbrev foreign : tie.After-check → Bool
+foreign c = not (isText catalogue (now (start c .args .old))) || not (isText catalogue (now (start c .args .new)))
+
+number : (c : tie.After-check) → checked catalogue (format c) (lending c) (foreign c) ≡ c.check.result.number
+number c =
+    sym
+    (c.check.ensures.0
+    ∙ ap₂ (λ (a b : Bool). checked catalogue (format c) (lending c) (not a || not b)) c.before.before.check-text.ensures
+    c.before.check-text2.ensures)
+
 check-requires : tie.Need-check-requires
-check-requires c κs =
-    let after-format-for = c.before.before.before.before in
-    fit-for _ after-format-for.format-for.ensures
+check-requires c κs = fit-for _ c.before.before.before.before.format-for.ensures
 
 returns : tie.Need-returns
 returns c =
-    let after-check = c.before.before.before in
-    let after-check-text2 = after-check.before in
-    let after-check-text = after-check-text2.before in
-    let after-format-for = after-check-text.before.before.before in
-    let entry = after-format-for.before.before.before.before.before in
-    let l = lent (now entry.args.records) (now entry.args.texts) entry.args.log in
-    let valueOf1 = valueOf catalogue after-format-for.format-for.result l in
-    let recordOut1 = recordOut after-format-for.format-for.result (sizesOf l)
-    (recordReplace entry.args.idx (now entry.args.old) (now entry.args.new) valueOf1.undo) valueOf1 in
-    let checked1 = checked catalogue after-format-for.format-for.result l in
-    let checked11 = checked1 (not (isText catalogue (now entry.args.old)) || not (isText catalogue (now entry.args.new))) in
-    in-format l (λ (F : Format). replaceCall catalogue F l entry.args.idx (now entry.args.old) (now entry.args.new))
-    after-format-for.format-for.ensures
-    (answered-as after-format-for.format-for.result l (called checked11 recordOut1) _ _ _ _ c.says.ensures
-    (refused-by after-format-for.format-for.result l after-check.check.result.number checked11 recordOut1
-    (sym
-    (after-check.check.ensures.0
-    ∙ ap₂ (λ (a b : Bool). checked1 (not a || not b)) after-check-text.check-text.ensures after-check-text2.check-text2.ensures))
-    c.before.if1.taken))
+    let k = c.before.before.before in
+    call-refused (lending k) _ (recorded k) k.before.before.before.before.before.format-for.ensures (number k)
+    c.before.if1.taken c.says.ensures
 
 record-requires : tie.Need-record-requires
 record-requires c κs =
     let else1 = c.before.before.before in
-    let after-check = else1.before.before in
-    let after-check-text2 = after-check.before in
-    let after-check-text = after-check-text2.before in
-    let after-format-for = after-check-text.before.before.before in
-    let entry = after-format-for.before.before.before.before.before in
-    let l = lent (now entry.args.records) (now entry.args.texts) entry.args.log in (
-      fit-for _ after-format-for.format-for.ensures,
+    let k = else1.before.before in
+    let a = start k .args in (
+      fit-for _ k.before.before.before.before.before.format-for.ensures,
       (
-        after-check.check.ensures.1.0 else1.if1.left,
+        k.check.ensures.1.0 else1.if1.left,
         (
-          (λ e. newest-last catalogue after-format-for.format-for.result _ _ (after-check.check.ensures.1.1 else1.if1.left)),
+          (λ e. newest-last catalogue (format k) _ _ (k.check.ensures.1.1 else1.if1.left)),
           (
-            a-replace entry.args.idx (now entry.args.old) (now entry.args.new),
-            (neither (isText catalogue (now entry.args.old)) (isText catalogue (now entry.args.new))
-                (own-passed after-format-for.format-for.result l
-                (not (isText catalogue (now entry.args.old)) || not (isText catalogue (now entry.args.new)))
-                (
-                (sym
-                (after-check.check.ensures.0
-                ∙ ap₂ (λ (a b : Bool). (checked catalogue after-format-for.format-for.result l) (not a || not b))
-                after-check-text.check-text.ensures after-check-text2.check-text2.ensures))
-                ∙ else1.if1.left))),
+            a-replace a.idx (now a.old) (now a.new),
+            neither (isText catalogue (now a.old)) (isText catalogue (now a.new))
+                (own-passed (format k) (lending k) (foreign k) (number k ∙ else1.if1.left)),
           ),
         ),
       ),
@@ -83,27 +71,10 @@ returns-2 : tie.Need-returns-2
 returns-2 c =
     let after-record = c.before.before.before.before in
     let else1 = after-record.before.before.before.before in
-    let after-check = else1.before.before in
-    let after-check-text2 = after-check.before in
-    let after-check-text = after-check-text2.before in
-    let after-format-for = after-check-text.before.before.before in
-    let entry = after-format-for.before.before.before.before.before in
-    let l = lent (now entry.args.records) (now entry.args.texts) entry.args.log in
-    let valueOf1 = valueOf catalogue after-format-for.format-for.result l in
-    let recordReplace1 = recordReplace entry.args.idx (now entry.args.old) (now entry.args.new) valueOf1.undo in
-    let checked1 = checked catalogue after-format-for.format-for.result l in
-    in-format l (λ (F : Format). replaceCall catalogue F l entry.args.idx (now entry.args.old) (now entry.args.new))
-    after-format-for.format-for.ensures
-    (passed-by after-format-for.format-for.result l after-check.check.result.number
-    (checked1 (not (isText catalogue (now entry.args.old)) || not (isText catalogue (now entry.args.new))))
-    (recordOut after-format-for.format-for.result (sizesOf l) recordReplace1 valueOf1) _ _ _
-    (sym
-    (after-check.check.ensures.0
-    ∙ ap₂ (λ (a b : Bool). checked1 (not a || not b)) after-check-text.check-text.ensures after-check-text2.check-text2.ensures))
-    else1.if1.left
-    (recorded-as catalogue after-format-for.format-for.result l
-    (note true (replace entry.args.idx (now entry.args.old) (now entry.args.new)) valueOf1.undo) valueOf1 recordReplace1 _ _ _
-    (replace-is entry.args.idx (now entry.args.old) (now entry.args.new) valueOf1.undo) after-record.«record».ensures))
+    let k = else1.before.before in
+    let a = start k .args in
+    call-recorded (lending k) _ (recorded k) k.before.before.before.before.before.format-for.ensures (number k) else1.if1.left
+    (replace-is a.idx (now a.old) (now a.new) _) after-record.«record».ensures
 
 pub replace-spec : {M : Type 1} → statement M
 replace-spec =

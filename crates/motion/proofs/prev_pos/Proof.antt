@@ -74,7 +74,7 @@ loop-again c =
     (omega (arith, length-take at-loop.loop.at entry.args.s.now, c.before.prev-cluster.ensures.1, c.if3.left))
     c.before.prev-cluster.ensures.0) in (
       omega (arith, at-loop.loop.inv.0),
-      b.edge,
+      b.at-boundary,
       at-loop.loop.inv.2 ∙ backward-more catalogue entry.args.s.now at-loop.loop.at _ at-loop.loop.left _ b in-loop.loop-test.taken,
     )
 

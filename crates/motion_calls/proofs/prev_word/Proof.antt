@@ -26,7 +26,7 @@ prev-word-pos-requires c κs =
     let entry = c.before.before.before.before in
     let a = entry.args in
     let fit-of1 = fit-of catalogue a.text.now a.line noTests _ c.before.before.refusal.ensures c.before.if1.left in
-    ((fit-valid catalogue _ a.text.now a.line fit-of1), fit-of1.edge, (fit-within catalogue _ a.text.now a.line fit-of1))
+    ((fit-valid catalogue _ a.text.now a.line fit-of1), fit-of1.at-boundary, (fit-within catalogue _ a.text.now a.line fit-of1))
 
 returns-2 : tie.Need-returns-2
 returns-2 c =

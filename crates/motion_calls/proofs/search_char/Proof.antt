@@ -43,7 +43,7 @@ search-char-pos-requires c κs =
     (c.before.before.refusal.ensures
     ∙ ap (λ (b : Bool). refusal (both (lent catalogue a.text.now a.line) (ownTests false (not b) false)))
     after-check-char.check-char.ensures) c.before.if1.left in
-    ((fit-valid catalogue _ a.text.now a.line fit-of1), fit-of1.edge, (fit-within catalogue _ a.text.now a.line fit-of1))
+    ((fit-valid catalogue _ a.text.now a.line fit-of1), fit-of1.at-boundary, (fit-within catalogue _ a.text.now a.line fit-of1))
 
 returns-2 : tie.Need-returns-2
 returns-2 c =

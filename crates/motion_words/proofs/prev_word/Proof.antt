@@ -62,7 +62,7 @@ inner-holds c =
     let s = back-step catalogue a.t.now o.rest _ o.inv.0 o.inv.1 c.before.prev-cluster.ensures.0 c.if1.left in
     let h : 0 < o.left = omega arith in (
       omega arith,
-      s.edge,
+      s.at-boundary,
       h,
       refl,
       o.inv.2
@@ -101,7 +101,7 @@ inner-again c =
     let i = after-prev-cluster2.before.before.inner in
     let s = back-step catalogue a.t.now i.rest _ i.inv.0 i.inv.1 after-prev-cluster2.prev-cluster2.ensures.0 c.before.before.if2.left in (
       omega arith,
-      s.edge,
+      s.at-boundary,
       i.inv.2,
       i.inv.3,
       i.inv.4
@@ -121,7 +121,7 @@ outer-again c =
     let i = after-prev-cluster2.before.before.inner in
     let s = back-step catalogue a.t.now i.rest _ i.inv.0 i.inv.1 after-prev-cluster2.prev-cluster2.ensures.0 c.before.before.if2.left in (
       omega arith,
-      s.edge,
+      s.at-boundary,
       i.inv.4
           ∙ ap (λ z. z.found)
           (in-back-hit catalogue a.t.now a.word i.rest _ i.inv.0 i.inv.1 after-prev-cluster2.prev-cluster2.ensures.0 at-outer.outer.left i.j

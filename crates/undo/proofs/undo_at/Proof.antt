@@ -16,8 +16,8 @@ sub-first c =
     let h = s.pre.1.0 in
     texts-within h s.pre.1.1.1 ((some-newest h s.pre.1.1.0.1) .2) r.ensures.same
 
-retrace-requires : tie.Need-retrace-requires
-retrace-requires c κs =
+undo-or-redo-requires : tie.Need-undo-or-redo-requires
+undo-or-redo-requires c κs =
     let r = c.before.before.before.read-record in
     let s = c.before.before.before.before.before.before.before.before in
     let h = s.pre.1.0 in
@@ -27,7 +27,7 @@ retrace-requires c κs =
 
 returns : tie.Need-returns
 returns c =
-    let q = c.before.before.before.before.retrace in
+    let q = c.before.before.before.before.undo-or-redo in
     let r = c.before.before.before.before.before.before.before.before.read-record in
     let s = c.before.before.before.before.before.before.before.before.before.before.before.before.before in
     let a = s.args in
@@ -48,7 +48,7 @@ move-seam-requires c κs =
 
 returns-2 : tie.Need-returns-2
 returns-2 c =
-    let q = c.before.before.before.before.before.retrace in
+    let q = c.before.before.before.before.before.undo-or-redo in
     let r = c.before.before.before.before.before.before.before.before.before.read-record in
     let s = c.before.before.before.before.before.before.before.before.before.before.before.before.before.before in
     let a = s.args in
@@ -65,7 +65,7 @@ undo-at-spec =
     (λ read-record-requires κs. search needs)
     (λ add-first. search needs)
     sub-first
-    retrace-requires
+    undo-or-redo-requires
     (λ same-length. search needs)
     returns
     move-seam-requires

@@ -1,8 +1,6 @@
 use borrow.Author.Needs.{needs}
 use mathlib.Core.Path.{refl, sym, ap, _∙_}
-use denote.Ref.{now}
 use Rattle.log_records.specs.declared.Record.{Record}
-use Rattle.edit.specs.Calls.{lent}
 use Rattle.undo.specs.Undo.{undoOut}
 use Rattle.undo.proofs.Seams.{some-newest}
 use Rattle.undo.proofs.Steps.{at-start}

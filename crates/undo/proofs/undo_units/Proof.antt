@@ -23,14 +23,14 @@ undo-newest-requires c κs =
       (s.pre.1.0, ((leb-true _ _ few.0, ltb-true _ _ few.1), (s.pre.1.1, λ e. then2.if2.taken (ap (λ (x : Record). x.kind) r ∙ e)))),
     )
 
-slice-aggregate-note-sizes : tie.Need-slice-aggregate-note-sizes
-slice-aggregate-note-sizes c =
+slice-aggregate-write-sizes : tie.Need-slice-aggregate-write-sizes
+slice-aggregate-write-sizes c =
     let s = c.before.before.before.before.before.before.before in
     let a = s.args in
     sym (length-take-le a.log.undo.records (now a.records) (omega (arith, s.pre.1.0.log.hold.room)))
 
-note-sizes-requires : tie.Need-note-sizes-requires
-note-sizes-requires c κs =
+write-sizes-requires : tie.Need-write-sizes-requires
+write-sizes-requires c κs =
     let s = c.before.before.before.before.before.before.before.before in
     let a = s.args in
     let h = s.pre.1.0 in
@@ -38,24 +38,24 @@ note-sizes-requires c κs =
     let e = length-take-le a.log.undo.records (now a.records) (omega (arith, h.log.hold.room)) in
     (s.pre.0, (listed a.f (logLent l) h.log, omega (arith, e, c.before.before.if3.taken)))
 
-undo-noted-requires : tie.Need-undo-noted-requires
-undo-noted-requires c κs =
+undo-by-sizes-requires : tie.Need-undo-by-sizes-requires
+undo-by-sizes-requires c κs =
     let then3 = c.before.before.before.before.before.before in
     let s = c.before.before.before.before.before.before.before.before.before.before.before.before in
     let a = s.args in
     let h = s.pre.1.0 in
     let l = lent (now a.text) (now a.records) (now a.texts) a.line a.log in
-    let n = c.before.before.before.note-sizes in
+    let n = c.before.before.before.write-sizes in
     (s.pre.0, (h, (omega (arith, n.kept.1.1.0, then3.if3.taken), n.ensures _ _ (lays a.f (logLent l) h.log) .1)))
 
-slice-aggregate-note-sizes-3 : tie.Need-slice-aggregate-note-sizes-3
-slice-aggregate-note-sizes-3 c =
+slice-aggregate-write-sizes-3 : tie.Need-slice-aggregate-write-sizes-3
+slice-aggregate-write-sizes-3 c =
     let s = c.before.before.before.before.before.before.before in
     let a = s.args in
     sym (length-take-le a.log.undo.records (now a.records) (omega (arith, s.pre.1.0.log.hold.room)))
 
-note-sizes-requires-2 : tie.Need-note-sizes-requires-2
-note-sizes-requires-2 c κs =
+write-sizes-requires-2 : tie.Need-write-sizes-requires-2
+write-sizes-requires-2 c κs =
     let s = c.before.before.before.before.before.before.before.before in
     let a = s.args in
     let h = s.pre.1.0 in
@@ -63,13 +63,13 @@ note-sizes-requires-2 c κs =
     let e = length-take-le a.log.undo.records (now a.records) (omega (arith, h.log.hold.room)) in
     (s.pre.0, (listed a.f (logLent l) h.log, omega (arith, e, h.log.hold.room, h.log.records, h.log.fit.records)))
 
-undo-noted-requires-2 : tie.Need-undo-noted-requires-2
-undo-noted-requires-2 c κs =
+undo-by-sizes-requires-2 : tie.Need-undo-by-sizes-requires-2
+undo-by-sizes-requires-2 c κs =
     let s = c.before.before.before.before.before.before.before.before.before.before.before.before in
     let a = s.args in
     let h = s.pre.1.0 in
     let l = lent (now a.text) (now a.records) (now a.texts) a.line a.log in
-    let n = c.before.before.before.note-sizes2 in (
+    let n = c.before.before.before.write-sizes2 in (
       s.pre.0,
       (h, (omega (arith, n.kept.1.1.0, h.log.hold.room, h.log.records, h.log.fit.records), n.ensures _ _ (lays a.f (logLent l) h.log) .1)),
     )
@@ -82,17 +82,17 @@ undo-units-spec =
     undo-newest-requires
     (λ same-length. search needs)
     (λ returns. search needs)
-    slice-aggregate-note-sizes
-    (λ slice-aggregate-note-sizes-2. search needs)
-    note-sizes-requires
-    (λ slice-aggregate-undo-noted. search needs)
-    undo-noted-requires
+    slice-aggregate-write-sizes
+    (λ slice-aggregate-write-sizes-2. search needs)
+    write-sizes-requires
+    (λ slice-aggregate-undo-by-sizes. search needs)
+    undo-by-sizes-requires
     (λ same-length-2. search needs)
     (λ returns-2. search needs)
-    slice-aggregate-note-sizes-3
-    (λ slice-aggregate-note-sizes-4. search needs)
-    note-sizes-requires-2
-    (λ slice-aggregate-undo-noted-2. search needs)
-    undo-noted-requires-2
+    slice-aggregate-write-sizes-3
+    (λ slice-aggregate-write-sizes-4. search needs)
+    write-sizes-requires-2
+    (λ slice-aggregate-undo-by-sizes-2. search needs)
+    undo-by-sizes-requires-2
     (λ same-length-3. search needs)
     (λ returns-3. search needs))

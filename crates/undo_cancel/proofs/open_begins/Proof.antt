@@ -19,7 +19,7 @@ loop-holds : tie.Need-loop-holds Inv-loop μ-loop
 loop-holds c =
     let s = c.before.before in
     let a = s.args in
-    (omega (arith, s.pre.1.1.1), down-first catalogue a.f (now a.records) (now a.sizes) a.mark a.count s.pre.1.0.noted)
+    (omega (arith, s.pre.1.1.1), down-first catalogue a.f (now a.records) (now a.sizes) a.mark a.count s.pre.1.0.written)
 
 shared-slice-read-at : tie.Need-shared-slice-read-at Inv-loop μ-loop
 shared-slice-read-at c =

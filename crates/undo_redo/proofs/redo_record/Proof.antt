@@ -9,8 +9,8 @@ use Rattle.undo.proofs.Steps.{next-space, next-seam-there, record-stops, record
 use Rattle.undo_redo.proofs.redo_record.Statement.{statement}
 use Rattle.undo_redo.proofs.redo_record.Tie as tie
 
-retrace-requires : tie.Need-retrace-requires
-retrace-requires c κs =
+undo-or-redo-requires : tie.Need-undo-or-redo-requires
+undo-or-redo-requires c κs =
     let s = c.before.before.before.before.before.before in
     let h = s.pre.1.0 in
     let n = (some-next h s.pre.1.1.1) .2 in
@@ -24,7 +24,7 @@ returns c =
     let h = s.pre.1.0 in
     let l = lentBy (now a.text) (now a.records) (now a.texts) a.s a.log in
     let r = c.before.before.before.before.before.before.read-record in
-    let q = c.before.before.before.before.retrace in
+    let q = c.before.before.before.before.undo-or-redo in
     λ x d e. record-stops a.f l false x d (next-stands h e) r.ensures.same a.s q.result q.last.0 q.ensures refl c.if1.taken
 
 add-move-seam : tie.Need-add-move-seam
@@ -59,9 +59,9 @@ move-seam-requires c κs =
 returns-2 : tie.Need-returns-2
 returns-2 c =
     let else1 = c.before.before.before in
-    let after-retrace = else1.before.before.before.before in
-    let after-read-record = after-retrace.before.before in
-    let q = after-retrace.retrace in
+    let after-undo-or-redo = else1.before.before.before.before in
+    let after-read-record = after-undo-or-redo.before.before in
+    let q = after-undo-or-redo.undo-or-redo in
     let r = after-read-record.read-record in
     let s = after-read-record.before.before.before.before.before in
     let a = s.args in
@@ -75,7 +75,7 @@ redo-record-spec =
     tie.close
     (tie.spec
     (λ read-record-requires κs. search needs)
-    retrace-requires
+    undo-or-redo-requires
     (λ same-length. search needs)
     returns
     add-move-seam

@@ -17,20 +17,20 @@ use borrow.Author.Needs.{needs}
 use Rattle.log_state.proofs.Log.end.Statement.{statement}
 use Rattle.log_state.proofs.Log.end.Tie as tie
 
-abbrev held : tie.Start → Lent
-held s = lent (now s.args.records) (now s.args.texts) s.args.self
+abbrev lending : tie.Start → Lent
+lending s = lent (now s.args.records) (now s.args.texts) s.args.self
 
 abbrev out : tie.Start → Outcome groups.Log
-out s = endOut s.args.f (sizesOf (held s)) (valueOf catalogue s.args.f (held s))
+out s = endOut s.args.f (sizesOf (lending s)) (valueOf catalogue s.args.f (lending s))
 
 -- the Begins that are dropped
 gone : (c : tie.After-least) → (c.least.result ≤ c.before.before.before.before.args.newest.begins) ×
     (c.least.result ≤ c.before.before.before.before.args.self.level) ×
-    Dropped c.before.before.before.before.args.f (held c.before.before.before.before) c.least.result
+    Dropped c.before.before.before.before.args.f (lending c.before.before.before.before) c.least.result
     (c.before.before.before.before.args.self.level - c.least.result)
 gone c =
     let entry = c.before.before.before.before in
-    dropped entry.args.f (held entry) entry.pre.1.0 entry.args.newest c.least.result entry.pre.1.1 c.least.ensures
+    dropped entry.args.f (lending entry) entry.pre.1.0 entry.args.newest c.least.result entry.pre.1.1 c.least.ensures
 
 sub-ends : tie.Need-sub-ends
 sub-ends c = (gone c) .1
@@ -47,7 +47,7 @@ end-of-requires c κs =
     let used = length-take-le entry.args.self.undo.records (now entry.args.records) (omega (arith, ready.hold.room)) in (
       entry.pre.0,
       (
-        listed entry.args.f (held entry) ready,
+        listed entry.args.f (lending entry) ready,
         (omega (arith, used, ready.hold.room, ready.records, ready.fit.records), (entry.pre.1.1, (gone c.before) .0)),
       ),
     )
@@ -59,7 +59,7 @@ sub-if1 c =
     let ready = entry.pre.1.0 in
     omega (
       arith,
-      stays-within entry.args.f (held entry) ready after-least.least.result _ ((gone after-least) .2) c.end-of.result c.end-of.ensures,
+      stays-within entry.args.f (lending entry) ready after-least.least.result _ ((gone after-least) .2) c.end-of.result c.end-of.ensures,
       ready.hold.room,
     )
 
@@ -69,8 +69,8 @@ returns c =
     let after-end-of = then1.before in
     let after-least = after-end-of.before.before in
     let entry = after-least.before.before.before.before in
-    answered-as entry.args.f (held entry) (out entry) _ _ _ _ c.says.ensures
-    (end-full entry.args.f (held entry) entry.pre.1.0 after-least.least.result _ ((gone after-least) .2) after-end-of.end-of.result
+    answered-as entry.args.f (lending entry) (out entry) _ _ _ _ c.says.ensures
+    (end-full entry.args.f (lending entry) entry.pre.1.0 after-least.least.result _ ((gone after-least) .2) after-end-of.end-of.result
     after-end-of.end-of.ensures then1.if1.taken)
 
 fill-requires : tie.Need-fill-requires
@@ -79,7 +79,7 @@ fill-requires c κs =
     let after-end-of = else1.before in
     let after-least = after-end-of.before.before in
     let entry = after-least.before.before.before.before in
-    room entry.args.f (held entry) entry.pre.1.0 after-least.least.result _ ((gone after-least) .2) after-end-of.end-of.result
+    room entry.args.f (lending entry) entry.pre.1.0 after-least.least.result _ ((gone after-least) .2) after-end-of.end-of.result
     after-end-of.end-of.ensures else1.if1.left
 
 returns-2 : tie.Need-returns-2
@@ -92,9 +92,9 @@ returns-2 c =
     let after-least = after-end-of.before.before in
     let entry = after-least.before.before.before.before in
     let k = entry.args.self.level - after-least.least.result in
-    ended-as entry.args.f (held entry) (out entry) _ _ _ _ _ (c.says2.ensures ∙ ap (says 1) after-only-undo.only-undo.ensures)
+    ended-as entry.args.f (lending entry) (out entry) _ _ _ _ _ (c.says2.ensures ∙ ap (says 1) after-only-undo.only-undo.ensures)
     after-fill.fill.ensures
-    (end-takes entry.args.f (held entry) entry.pre.1.0 after-least.least.result k ((gone after-least) .2) after-end-of.end-of.result
+    (end-takes entry.args.f (lending entry) entry.pre.1.0 after-least.least.result k ((gone after-least) .2) after-end-of.end-of.result
     after-end-of.end-of.ensures else1.if1.left 1 (sym (ap (λ (b : Bool). cond b 0 1) (le-ltb 0 k (omega (arith, then2.if2.taken))))))
 
 returns-3 : tie.Need-returns-3
@@ -107,9 +107,9 @@ returns-3 c =
     let after-least = after-end-of.before.before in
     let entry = after-least.before.before.before.before in
     let k = entry.args.self.level - after-least.least.result in
-    ended-as entry.args.f (held entry) (out entry) _ _ _ _ _ (c.says3.ensures ∙ ap (says 0) after-only-undo.only-undo.ensures)
+    ended-as entry.args.f (lending entry) (out entry) _ _ _ _ _ (c.says3.ensures ∙ ap (says 0) after-only-undo.only-undo.ensures)
     after-fill.fill.ensures
-    (end-takes entry.args.f (held entry) entry.pre.1.0 after-least.least.result k ((gone after-least) .2) after-end-of.end-of.result
+    (end-takes entry.args.f (lending entry) entry.pre.1.0 after-least.least.result k ((gone after-least) .2) after-end-of.end-of.result
     after-end-of.end-of.ensures else1.if1.left 0 (sym (ap (λ (b : Bool). cond b 0 1) (lt-ltb 0 k (omega (arith, else2.if2.left))))))
 
 pub end-spec : {M : Type 1} → statement M

@@ -8,8 +8,8 @@ use borrow.Author.Needs.{needs}
 use Rattle.log_state.proofs.Log.last_insert.Statement.{statement}
 use Rattle.log_state.proofs.Log.last_insert.Tie as tie
 
-abbrev held : tie.Start → Lent
-held s = lent (now s.args.records) (now s.args.texts) s.args.self
+abbrev lending : tie.Start → Lent
+lending s = lent (now s.args.records) (now s.args.texts) s.args.self
 
 slice-aggregate-read-record : tie.Need-slice-aggregate-read-record
 slice-aggregate-read-record c =
@@ -20,20 +20,21 @@ sub-t15 : tie.Need-sub-t15
 sub-t15 c =
     let read = c.before.before.before.before.read-record in
     let entry = c.before.before.before.before.before.before.before.before.before in
-    new-within entry.args.f (held entry) entry.pre.1.0 entry.args.newest entry.pre.1.1 read.result read.ensures.same
+    new-within entry.args.f (lending entry) entry.pre.1.0 entry.args.newest entry.pre.1.1 read.result read.ensures.same
 
 returns : tie.Need-returns
 returns c =
     let read = c.before.before.before.before.read-record in
     let entry = c.before.before.before.before.before.before.before.before.before in
-    finds entry.args.f (held entry) entry.pre.1.0 entry.args.newest entry.pre.1.1 read.result read.ensures.same c.before.if1.taken
+    finds entry.args.f (lending entry) entry.pre.1.0 entry.args.newest entry.pre.1.1 read.result read.ensures.same c.before.if1.taken
 
 returns-2 : tie.Need-returns-2
 returns-2 c =
     let read = c.before.before.before.before.read-record in
     let entry = c.before.before.before.before.before.before.before.before.before in
     c.says.ensures
-    ∙ finds-none entry.args.f (held entry) entry.pre.1.0 entry.args.newest entry.pre.1.1 read.result read.ensures.same c.before.if1.left
+    ∙ finds-none entry.args.f (lending entry) entry.pre.1.0 entry.args.newest entry.pre.1.1 read.result read.ensures.same
+    c.before.if1.left
 
 pub last-insert-spec : {M : Type 1} → statement M
 last-insert-spec =

@@ -8,7 +8,7 @@ use Rattle.numbers.proofs.Read.{top-max}
 use Rattle.log_state.specs.Outcomes.{recordOut}
 use Rattle.log_state.specs.Calls.{lent, sizesOf, says, valueOf, editOf}
 use Rattle.log_state.proofs.Answers.{answered-as}
-use Rattle.log_state.proofs.Recorded.{listed, full-texts, in-range, full-records, full-place, kind-fits, size-fits, at-fits, takes}
+use Rattle.log_state.proofs.Recorded.{full-texts, in-range, full-records, full-place, kind-fits, size-fits, at-fits, takes}
 use borrow.Author.Needs.{needs}
 use Rattle.log_state.proofs.Log.record.Statement.{statement}
 use Rattle.log_state.proofs.Log.record.Tie as tie

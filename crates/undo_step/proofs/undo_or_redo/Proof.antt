@@ -4,21 +4,21 @@ use mathlib.Core.Bool.{Bool}
 use mathlib.Core.Logic.{⊎-elim}
 use lib.ListN.{length}
 use denote.Ref.{now}
-use Rattle.undo_step.proofs.Faces.{Faces, Within, within, unmoved, stops-at, out-within, left-within, moves}
+use Rattle.undo_step.proofs.TakesAndPuts.{TakesAndPuts, Within, within, unmoved, stops-at, out-within, left-within, moves}
 use borrow.Author.Needs.{needs}
-use Rattle.undo_step.proofs.retrace.Statement.{statement}
-use Rattle.undo_step.proofs.retrace.Tie as tie
+use Rattle.undo_step.proofs.undo_or_redo.Statement.{statement}
+use Rattle.undo_step.proofs.undo_or_redo.Tie as tie
 
 -- what the record, undone or redone, takes out and puts in
-faces : (c : tie.Joined2) → Faces (c .before .before .before .before .before .before .before .args .back)
+takes-and-puts : (c : tie.Joined2) → TakesAndPuts (c .before .before .before .before .before .before .before .args .back)
     (c .before .before .before .before
     .before .before .before .args .r) (c .before .before .before .before .before .before .before .args .t) (c .if2 .out) (c .if2 .from) (c
     .if2 .to)
-faces c =
+takes-and-puts c =
     let entry = c.before.before.before.before.before.before.before in
     let a = entry.args in
-    ⊎-elim (λ w. subst (λ (b : Bool). Faces b a.r a.t c.if2.out c.if2.from c.if2.to) (sym w.0.taken) (w.1, w.2, w.3))
-    (λ w. subst (λ (b : Bool). Faces b a.r a.t c.if2.out c.if2.from c.if2.to) (sym w.0.left) (w.1, w.2, w.3)) c.if2.came
+    ⊎-elim (λ w. subst (λ (b : Bool). TakesAndPuts b a.r a.t c.if2.out c.if2.from c.if2.to) (sym w.0.taken) (w.1, w.2, w.3))
+    (λ w. subst (λ (b : Bool). TakesAndPuts b a.r a.t c.if2.out c.if2.from c.if2.to) (sym w.0.left) (w.1, w.2, w.3)) c.if2.came
 
 -- it lies in the texts
 inside : (c : tie.Joined2) → Within (c .if2 .out) (c .if2 .from) (c .if2 .to) (length (now (c .before .before .before .before .before
@@ -26,7 +26,7 @@ inside : (c : tie.Joined2) → Within (c .if2 .out) (c .if2 .from) (c .if2 .to) 
 inside c =
     let entry = c.before.before.before.before.before.before.before in
     let a = entry.args in
-    within a.back a.r a.t c.if2.out c.if2.from c.if2.to (length (now a.texts)) (faces c) entry.pre.0.3
+    within a.back a.r a.t c.if2.out c.if2.from c.if2.to (length (now a.texts)) (takes-and-puts c) entry.pre.0.3
 
 returns : tie.Need-returns
 returns c =
@@ -67,7 +67,7 @@ returns-2 c =
     let a = s.args in
     let j = c.before.before.before.before.before.before.before.before in
     λ F x h. stops-at a.r (now a.texts) a.t a.s (now a.text) s.pre.0.0 s.pre.0.1 j.if2.out j.if2.from j.if2.to
-    after-exchange.exchange.result _ (inside j) after-exchange.exchange.ensures a.back F x h else1.if1.left (faces j) c.if3.taken
+    after-exchange.exchange.result _ (inside j) after-exchange.exchange.ensures a.back F x h else1.if1.left (takes-and-puts j) c.if3.taken
 
 sub-t17 : tie.Need-sub-t17
 sub-t17 c =
@@ -107,10 +107,10 @@ returns-3 c =
     let a = s.args in
     let j = c.before.before.before.before.before.before.before.before.before.before.before in
     λ F x h. moves a.r (now a.texts) a.t a.s (now a.text) s.pre.0.0 s.pre.0.1 j.if2.out j.if2.from j.if2.to after-exchange.exchange.result
-    _ (inside j) after-exchange.exchange.ensures else3.if3.left a.back F x h else1.if1.left (faces j)
+    _ (inside j) after-exchange.exchange.ensures else3.if3.left a.back F x h else1.if1.left (takes-and-puts j)
 
-pub retrace-spec : {M : Type 1} → statement M
-retrace-spec =
+pub undo-or-redo-spec : {M : Type 1} → statement M
+undo-or-redo-spec =
     tie.close
     (tie.spec
     returns

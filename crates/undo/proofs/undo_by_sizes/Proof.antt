@@ -14,8 +14,8 @@ use Rattle.undo.proofs.Seams.{some-newest, none-newest}
 use Rattle.undo.proofs.Counts.{one-of, counts-back}
 use Rattle.undo.proofs.Walks.{edited, still, falls, sizes-next}
 use Rattle.undo.proofs.Units.{Walking, walking-first, walked-all, walked-stop, walking-on, walking-next, walked-last}
-use Rattle.undo.proofs.undo_noted.Statement.{statement}
-use Rattle.undo.proofs.undo_noted.Tie as tie
+use Rattle.undo.proofs.undo_by_sizes.Statement.{statement}
+use Rattle.undo.proofs.undo_by_sizes.Tie as tie
 
 abbrev Inv-loop : tie.InvT-loop
 Inv-loop f text₀ records texts sizes n s₀ g₀ left₀ ends₀ begins₀ text s g left ends begins =
@@ -170,8 +170,8 @@ loop-again-2 c =
       sizes-next k.come n.2 u.result u.last.1.0 u.ensures u.kept.1.0 z (now s.args.sizes) b.inv.1,
     )
 
-pub undo-noted-spec : {M : Type 1} → statement M
-undo-noted-spec =
+pub undo-by-sizes-spec : {M : Type 1} → statement M
+undo-by-sizes-spec =
     tie.close
     (tie.spec
     Inv-loop

@@ -1,4 +1,4 @@
--- A piece as a part of a text replaced by another text, and as the change that the log notes. Assumes nothing.
+-- A planned change as a part of a text replaced by another text, and as the change that the log notes. Assumes nothing.
 use Prim.Native.Nat.{ℕ, _+_, _≤_, _<_}
 use native.Mathlib.Omega.{arith}
 use mathlib.Core.Path.{_≡_, refl, sym, ap, subst, _∙_}
@@ -28,50 +28,50 @@ use Rattle.log_recording.specs.Tails.{tailOf, noted}
 use Rattle.log_recording.specs.declared.Tail.{Tail}
 use Rattle.log_recording.proofs.Numbers.{tail-records, tail-texts, tail-place}
 use Rattle.log_recording.proofs.Put.{put, put-records, put-texts, put-good}
-use Rattle.edit.specs.Plan.{Piece, typed, pasted, cutting, swapping, Suits, splice, made, recorded, blank, notedOr}
+use Rattle.edit.specs.Plan.{PlannedChange, typed, pasted, cutting, swapping, Suits, splice, made, recorded, blank, notedOr}
 use Rattle.edit.proofs.Parts.{part-text}
 use Rattle.edit.proofs.Once.{noted-insert, noted-delete}
 use Rattle.edit.proofs.Splice.{splice-text, splice-start}
 
--- ---- a piece puts a text in the place of the bytes from its start up to its end
-abbrev pub startOf : Piece → ℕ
+-- ---- a planned change puts a text in the place of the bytes from its start up to its end
+abbrev pub startOf : PlannedChange → ℕ
 startOf (typed p c) = p
 startOf (pasted p s) = p
 startOf (cutting a b) = a
 startOf (swapping a b s) = a
 
-abbrev pub endOf : Piece → ℕ
+abbrev pub endOf : PlannedChange → ℕ
 endOf (typed p c) = p
 endOf (pasted p s) = p
 endOf (cutting a b) = b
 endOf (swapping a b s) = b
 
-abbrev pub textIn : Piece → List ℕ
+abbrev pub textIn : PlannedChange → List ℕ
 textIn (typed p c) = encode c
 textIn (pasted p s) = s
 textIn (cutting a b) = []
 textIn (swapping a b s) = s
 
-pub made-is : (x : Piece) (t : List ℕ) → made x t ≡ splice t (startOf x) (endOf x) (textIn x)
+pub made-is : (x : PlannedChange) (t : List ℕ) → made x t ≡ splice t (startOf x) (endOf x) (textIn x)
 made-is (typed p c) t = refl
 made-is (pasted p s) t = refl
 made-is (cutting a b) t = refl
 made-is (swapping a b s) t = refl
 
 module _ (R : Repertoire) where
-  pub suits-in : (x : Piece) (t : List ℕ) → Suits R x t → In t (startOf x) (endOf x)
+  pub suits-in : (x : PlannedChange) (t : List ℕ) → Suits R x t → In t (startOf x) (endOf x)
   suits-in (typed p c) t h = h .0
   suits-in (pasted p s) t h = h .0
   suits-in (cutting a b) t h = h
   suits-in (swapping a b s) t h = h .0
 
-  pub suits-text : (x : Piece) (t : List ℕ) → Suits R x t → isText R (textIn x) ≡ true
+  pub suits-text : (x : PlannedChange) (t : List ℕ) → Suits R x t → isText R (textIn x) ≡ true
   suits-text (typed p c) t h = char-text R c (h .1)
   suits-text (pasted p s) t h = h .1
   suits-text (cutting a b) t h = text-nil R
   suits-text (swapping a b s) t h = h .1
 
-module _ (R : Repertoire) (x : Piece) (t : List ℕ) (h : Suits R x t) where
+module _ (R : Repertoire) (x : PlannedChange) (t : List ℕ) (h : Suits R x t) where
   pub made-text : isText R t ≡ true → isText R (made x t) ≡ true
   made-text v = ap (isText R) (made-is x t) ∙ splice-text t (startOf x) (endOf x) (textIn x) (suits-in R x t h) R v (suits-text R x t h)
 
@@ -80,19 +80,19 @@ module _ (R : Repertoire) (x : Piece) (t : List ℕ) (h : Suits R x t) where
   start-in = subst (λ (l : List ℕ). In l (startOf x) (startOf x)) (sym (made-is x t)) (splice-start t (startOf x) (endOf x) (textIn x) (suits-in R x t h))
 
 -- ---- the change that the log notes
-abbrev pub editAt : Piece → List ℕ → Edit
+abbrev pub editAt : PlannedChange → List ℕ → Edit
 editAt (typed p c) t = insert p (encode c)
 editAt (pasted p s) t = insert p s
 editAt (cutting a b) t = delete a (part t a b)
 editAt (swapping a b s) t = replace a (part t a b) s
 
-abbrev pub joinsAt : Repertoire → Piece → List ℕ → Bool
+abbrev pub joinsAt : Repertoire → PlannedChange → List ℕ → Bool
 joinsAt R (typed p c) t = R .alnum c
 joinsAt R (pasted p s) t = false
 joinsAt R (cutting a b) t = isSingle R (clustersOf R (part t a b))
 joinsAt R (swapping a b s) t = true
 
-pub place-at : (x : Piece) (t : List ℕ) → place (editAt x t) ≡ startOf x
+pub place-at : (x : PlannedChange) (t : List ℕ) → place (editAt x t) ≡ startOf x
 place-at (typed p c) t = refl
 place-at (pasted p s) t = refl
 place-at (cutting a b) t = refl
@@ -108,7 +108,7 @@ blank-delete p [] h = absurd (omega arith)
 blank-delete p (b ∷ s) h = refl
 
 module _ (R : Repertoire) where
-  pub recorded-as : (x : Piece) (t : List ℕ) (u : List Change) → recorded R x t u ≡ notedOr (joinsAt R x t) (editAt x t) u
+  pub recorded-as : (x : PlannedChange) (t : List ℕ) (u : List Change) → recorded R x t u ≡ notedOr (joinsAt R x t) (editAt x t) u
   unfolding recordInsert recordReplace
   recorded-as (typed p c) t u = sym (rw (blank-insert p (encode c) (omega (arith, size-encode c, size-pos c))))
   recorded-as (pasted p s) t u = noted-insert p s u
@@ -116,7 +116,7 @@ module _ (R : Repertoire) where
   recorded-as (swapping a b s) t u = refl
 
   -- its texts are of the repertoire
-  pub ok-at : (x : Piece) (t : List ℕ) → isText R t ≡ true → Suits R x t → okChange R (edit (editAt x t)) ≡ true
+  pub ok-at : (x : PlannedChange) (t : List ℕ) → isText R t ≡ true → Suits R x t → okChange R (edit (editAt x t)) ≡ true
   ok-at (typed p c) t v h = char-text R c (h .1)
   ok-at (pasted p s) t v h = h .1
   ok-at (cutting a b) t v h = part-text R t a b h v

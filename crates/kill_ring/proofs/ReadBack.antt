@@ -1,4 +1,4 @@
--- A lent ring that the checks pass holds a sound ring, and a sound ring that the buffers hold is found there: checks 2 and 8 pass it. Assumes nothing.
+-- A lent ring that the checks pass holds a sound ring, and a sound ring that the buffers hold is read-back there: checks 2 and 8 pass it. Assumes nothing.
 use Prim.Native.Nat.{ℕ, suc, _*_, _≤_, _<_}
 use native.Mathlib.Omega.{arith}
 use mathlib.Core.Path.{_≡_, refl, sym, ap, ap₂, _∙_}
@@ -14,7 +14,7 @@ use Rattle.kill_ring.specs.declared.Action.{Action}
 use Rattle.kill_ring.specs.declared.Action.the-variants.{Kill, Yank, Other}
 use Rattle.kill_ring.specs.Ring.{KillRing}
 use Rattle.kill_ring.specs.Calls.{Lent, lent, lenAt, slotsFrom, actionOf, valueOf, anyOver, overSizes, actionBreaks, indexBreaks}
-use Rattle.kill_ring.specs.Calls.{anyForeign, damaged, checked, actionNumber, yankSize, ringOf, Held}
+use Rattle.kill_ring.specs.Calls.{anyForeign, damaged, checked, actionNumber, yankSize, ringOf, SlotsIn}
 use Rattle.kill_ring.specs.Sound.{SoundIndex, SoundAction, SoundSlots, Sound}
 use Rattle.kill_ring.proofs.Slots.{slots-length}
 use Rattle.kill_ring.proofs.Passed.{Ready, ready, in-use-all, says-passed}
@@ -67,15 +67,15 @@ texts-pass R [] h = refl
 texts-pass R (s ∷ ss) h = rw (h .0) (texts-pass R ss (h .2))
 
 -- the slots that the bytes hold are those
-held-slots : (slots lens : List ℕ) (i : ℕ) (ss : List (List ℕ)) → Held slots lens i ss → slotsFrom slots lens i (length ss) ≡ ss
-unfolding Held slotsFrom
-held-slots slots lens i [] h = refl
-held-slots slots lens i (s ∷ ss) h = ap₂ (λ (x : List ℕ) (y : List (List ℕ)). x ∷ y) (ap (λ (n : ℕ). take n (drop (4096 * i) slots)) (h .0) ∙ h .1)
-    (held-slots slots lens (suc i) ss (h .2))
+slots-read : (slots lens : List ℕ) (i : ℕ) (ss : List (List ℕ)) → SlotsIn slots lens i ss → slotsFrom slots lens i (length ss) ≡ ss
+unfolding SlotsIn slotsFrom
+slots-read slots lens i [] h = refl
+slots-read slots lens i (s ∷ ss) h = ap₂ (λ (x : List ℕ) (y : List (List ℕ)). x ∷ y) (ap (λ (n : ℕ). take n (drop (4096 * i) slots)) (h .0) ∙ h .1)
+    (slots-read slots lens (suc i) ss (h .2))
 
 -- and their lengths
-lengths-pass : (slots lens : List ℕ) (i : ℕ) (ss : List (List ℕ)) → Held slots lens i ss → Short ss → anyOver lens i (length ss) ≡ false
-unfolding Held anyOver
+lengths-pass : (slots lens : List ℕ) (i : ℕ) (ss : List (List ℕ)) → SlotsIn slots lens i ss → Short ss → anyOver lens i (length ss) ≡ false
+unfolding SlotsIn anyOver
 lengths-pass slots lens i [] h k = refl
 lengths-pass slots lens i (s ∷ ss) h k =
     let e : ltb 4096 (lenAt lens i) ≡ false = ap (ltb 4096) (h .0) ∙ le-ltb 4096 (length s) (k .0) in
@@ -104,14 +104,14 @@ unfolding actionBreaks
 action-passes v h = action-breaks (v .action) (v .size) (v .slots) h
 
 -- the last action is that of its numbers
-action-found : (a : Action) → actionOf (actionNumber a) (yankSize a) ≡ a
-action-found Kill = refl
-action-found (Yank n) = refl
-action-found Other = refl
+action-read-back : (a : Action) → actionOf (actionNumber a) (yankSize a) ≡ a
+action-read-back Kill = refl
+action-read-back (Yank n) = refl
+action-read-back Other = refl
 
 -- a sound ring in buffers that are long enough
 module _ (R : Repertoire) (slots lens : List ℕ) (v : KillRing) (sound : Sound R v) (bytes : 4096 * v .size ≤ length slots)
-    (numbers : 2 * v .size ≤ length lens) (held : Held slots lens 0 (v .slots)) where
+    (numbers : 2 * v .size ≤ length lens) (stands : SlotsIn slots lens 0 (v .slots)) where
   -- its record with these buffers
   abbrev there : Lent
   there = lent slots lens (ringOf v)
@@ -121,13 +121,13 @@ module _ (R : Repertoire) (slots lens : List ℕ) (v : KillRing) (sound : Sound 
   unfolding overSizes
   passes-sizes =
       rw (le-ltb 16 (v .size) (sound .size), le-ltb (length slots) (4096 * v .size) bytes, le-ltb (length lens) (2 * v .size) numbers)
-      (ap (anyOver lens 0) (in-use-all (ringOf v) (sound .count)) ∙ lengths-pass slots lens 0 (v .slots) held (sound-short R (v .slots) (sound .slots)))
+      (ap (anyOver lens 0) (in-use-all (ringOf v) (sound .count)) ∙ lengths-pass slots lens 0 (v .slots) stands (sound-short R (v .slots) (sound .slots)))
 
   -- check 8
   pub passes-damaged : damaged R there ≡ false
   unfolding damaged
   passes-damaged =
-      rw (le-ltb (v .size) (length (v .slots)) (sound .count), index-passes v (sound .index), action-passes v (sound .action), held-slots slots lens 0 (v .slots) held)
+      rw (le-ltb (v .size) (length (v .slots)) (sound .count), index-passes v (sound .index), action-passes v (sound .action), slots-read slots lens 0 (v .slots) stands)
       (texts-pass R (v .slots) (sound .slots))
 
   -- no check of the ring refuses it
@@ -139,7 +139,7 @@ module _ (R : Repertoire) (slots lens : List ℕ) (v : KillRing) (sound : Sound 
   passes-ready = ready R there passes-sizes passes-damaged
 
   -- and it is what the next call finds
-  pub found : valueOf there ≡ v
-  found =
+  pub read-back : valueOf there ≡ v
+  read-back =
       ap₂ (λ (ss : List (List ℕ)) (a : Action). record { size = v .size; slots = ss; index = v .index; action = a })
-      (held-slots slots lens 0 (v .slots) held) (action-found (v .action))
+      (slots-read slots lens 0 (v .slots) stands) (action-read-back (v .action))

@@ -14,13 +14,13 @@ use Rattle.formats.specs.declared.Format.{Format}
 use Rattle.log_records.specs.declared.Record.{Record}
 use Rattle.log_records.specs.Records.{Carries}
 use Rattle.undo_step.specs.declared.Step.{Step}
-use Rattle.undo_step.specs.Retrace.{Trail, Tried, done, stops, exchanging, undoing, facing, Exchanged, Retraced}
+use Rattle.undo_step.specs.UndoStep.{StepState, StepOutcome, done, stops, exchanging, undoing, toUndo, Exchanged, UndoneOrRedone}
 use Rattle.undo_step.proofs.Exchanges.{Fits, swapped-length, swaps, fits-by}
 
 -- so many bytes are taken out, and the bytes of the texts from one place up to another are put in
-abbrev pub Faces : Bool → Record → ℕ → ℕ → ℕ → ℕ → Type 0
-Faces true r t out from to = (out ≡ r .new) × (from ≡ t) × (to ≡ t + r .old)
-Faces false r t out from to = (out ≡ r .old) × (from ≡ t + r .old) × (to ≡ t + r .old + r .new)
+abbrev pub TakesAndPuts : Bool → Record → ℕ → ℕ → ℕ → ℕ → Type 0
+TakesAndPuts true r t out from to = (out ≡ r .new) × (from ≡ t) × (to ≡ t + r .old)
+TakesAndPuts false r t out from to = (out ≡ r .old) × (from ≡ t + r .old) × (to ≡ t + r .old + r .new)
 
 -- within texts of m bytes
 pub record Within (out from to m : ℕ) : Type 0 where
@@ -28,7 +28,7 @@ pub record Within (out from to m : ℕ) : Type 0 where
   pub last : to ≤ m
   pub taken : out ≤ m
 
-pub within : (back : Bool) (r : Record) (t out from to m : ℕ) → Faces back r t out from to → t + (r .old + r .new) ≤ m → Within out from to m
+pub within : (back : Bool) (r : Record) (t out from to m : ℕ) → TakesAndPuts back r t out from to → t + (r .old + r .new) ≤ m → Within out from to m
 within true r t out from to m f h = record { order = omega (arith, f .1, f .2); last = omega (arith, f .2); taken = omega (arith, f .0) }
 within false r t out from to m f h = record { order = omega (arith, f .1, f .2); last = omega (arith, f .2); taken = omega (arith, f .0) }
 
@@ -44,15 +44,15 @@ front-second a b l e =
     ap (λ (k : ℕ). take k (drop (length a) l)) (sym n) ∙ sym (drop-take (length a) (length (a ++ b)) l) ∙ ap (drop (length a)) e ∙ drop-append-seam a b
 
 -- an edit redone
-turned : (C : ℕ) (x : Edit) (s : Trail) → undoing C (edit (flipped x)) s ≡ exchanging C (place x) (length (old x)) (new x) (s .text)
+turned : (C : ℕ) (x : Edit) (s : StepState) → undoing C (edit (flipped x)) s ≡ exchanging C (place x) (length (old x)) (new x) (s .text)
 unfolding undoing
 turned C (insert p w) s = refl
 turned C (delete p w) s = refl
 turned C (replace p o n) s = refl
 
-module _ (C : ℕ) (r : Record) (ts : List ℕ) (t : ℕ) (s : Trail) where
+module _ (C : ℕ) (r : Record) (ts : List ℕ) (t : ℕ) (s : StepState) where
   -- a record of no text
-  pub bare : (back : Bool) (F : Format) (c : Change) → Carries F c r ts t → r .kind ≤ 2 → undoing C (facing back c) s ≡ done s
+  pub bare : (back : Bool) (F : Format) (c : Change) → Carries F c r ts t → r .kind ≤ 2 → undoing C (toUndo back c) s ≡ done s
   unfolding undoing
   bare true F begin h k = refl
   bare false F begin h k = refl
@@ -79,8 +79,8 @@ module _ (C : ℕ) (r : Record) (ts : List ℕ) (t : ℕ) (s : Trail) where
         ap₂ (λ (i j : ℕ). take i (drop j ts)) k i ∙ ap (take (length (new x))) (sym (drop-drop (length (old x)) t ts)) ∙ front-second (old x) (new x) (drop t ts) both
 
   -- a record of a text
-  pub exchanges : (back : Bool) (F : Format) (c : Change) (out from to : ℕ) → Carries F c r ts t → 2 < r .kind → Faces back r t out from to
-      → undoing C (facing back c) s ≡ exchanging C (r .place) out (take (to - from) (drop from ts)) (s .text)
+  pub exchanges : (back : Bool) (F : Format) (c : Change) (out from to : ℕ) → Carries F c r ts t → 2 < r .kind → TakesAndPuts back r t out from to
+      → undoing C (toUndo back c) s ≡ exchanging C (r .place) out (take (to - from) (drop from ts)) (s .text)
   unfolding undoing
   exchanges back F begin out from to h k f = absurd (omega (arith, ap (λ (x : Record). x .kind) (h .numbers)))
   exchanges back F end out from to h k f = absurd (omega (arith, ap (λ (x : Record). x .kind) (h .numbers)))
@@ -90,21 +90,21 @@ module _ (C : ℕ) (r : Record) (ts : List ℕ) (t : ℕ) (s : Trail) where
       turned C x s ∙ rw (new-part F x h from to (f .1) (f .2), f .0, h .numbers)
 
 -- ---- what is left, by the number
-pub stopped-step : (x : Tried) (q : Step) (k : ℕ) (b b' : List ℕ) → Exchanged x k b b' → (k ≡ 0 → ⊥)
-    → Retraced x q (record { number = k; len = q .len; cursor = q .cursor; undone = q .undone }) b b'
+pub stopped-step : (x : StepOutcome) (q : Step) (k : ℕ) (b b' : List ℕ) → Exchanged x k b b' → (k ≡ 0 → ⊥)
+    → UndoneOrRedone x q (record { number = k; len = q .len; cursor = q .cursor; undone = q .undone }) b b'
 stopped-step (done s) q k b b' e f = absurd (f (e .0))
 stopped-step (stops n) q k b b' e f = (ap (λ (j : ℕ). record { number = j; len = q .len; cursor = q .cursor; undone = q .undone }) (e .0), e .1)
 
 -- the text, the cursor and whether a record was undone, as a step has them with the text's buffer
-abbrev pub trailOf : Step → List ℕ → Trail
-trailOf q b = record { text = take (q .len) b; cursor = q .cursor; undone = q .undone }
+abbrev pub stepStateOf : Step → List ℕ → StepState
+stepStateOf q b = record { text = take (q .len) b; cursor = q .cursor; undone = q .undone }
 
 module _ (r : Record) (ts : List ℕ) (t : ℕ) (q : Step) (b : List ℕ) (z : q .number ≡ 0) (m : q .len ≤ length b) where
   -- a record of no text leaves everything
-  pub unmoved : (back : Bool) (F : Format) (c : Change) → Carries F c r ts t → r .kind ≤ 2 → Retraced (undoing (length b) (facing back c) (trailOf q b)) q q b b
+  pub unmoved : (back : Bool) (F : Format) (c : Change) → Carries F c r ts t → r .kind ≤ 2 → UndoneOrRedone (undoing (length b) (toUndo back c) (stepStateOf q b)) q q b b
   unmoved back F c h k =
       let e = length-take-le (q .len) b m in
-      subst (λ (x : Tried). Retraced x q q b b) (sym (bare (length b) r ts t (trailOf q b) back F c h k))
+      subst (λ (x : StepOutcome). UndoneOrRedone x q q b b) (sym (bare (length b) r ts t (stepStateOf q b) back F c h k))
       (ap₂ (λ (n l : ℕ). record { number = n; len = l; cursor = q .cursor; undone = q .undone }) z (sym e), ap (λ (x : ℕ). take x b) e)
 
   module _ (out from to k : ℕ) (b' : List ℕ) (w : Within out from to (length ts))
@@ -116,10 +116,10 @@ module _ (r : Record) (ts : List ℕ) (t : ℕ) (q : Step) (b : List ℕ) (z : q
     part-length = length-take-le (to - from) (drop from ts) (omega (arith, length-drop from ts, w .order, w .last))
 
     -- a stop leaves everything
-    pub stops-at : (back : Bool) (F : Format) (c : Change) → Carries F c r ts t → 2 < r .kind → Faces back r t out from to → (k ≡ 0 → ⊥)
-        → Retraced (undoing (length b) (facing back c) (trailOf q b)) q (record { number = k; len = q .len; cursor = q .cursor; undone = q .undone }) b b'
+    pub stops-at : (back : Bool) (F : Format) (c : Change) → Carries F c r ts t → 2 < r .kind → TakesAndPuts back r t out from to → (k ≡ 0 → ⊥)
+        → UndoneOrRedone (undoing (length b) (toUndo back c) (stepStateOf q b)) q (record { number = k; len = q .len; cursor = q .cursor; undone = q .undone }) b b'
     stops-at back F c h i f j =
-        rw (exchanges (length b) r ts t (trailOf q b) back F c out from to h i f) (stopped-step (exchanging (length b) (r .place) out part (take (q .len) b)) q k b b' x j)
+        rw (exchanges (length b) r ts t (stepStateOf q b) back F c out from to h i f) (stopped-step (exchanging (length b) (r .place) out part (take (q .len) b)) q k b b' x j)
 
     module _ (j : k ≡ 0) where
       fit : Fits (length b) (r .place) out part (take (q .len) b)
@@ -134,14 +134,14 @@ module _ (r : Record) (ts : List ℕ) (t : ℕ) (q : Step) (b : List ℕ) (z : q
       left-within = omega (arith, fit .room, length-take-le (q .len) b m, part-length)
 
       -- and it is what the record, undone or redone, leaves
-      pub moves : (back : Bool) (F : Format) (c : Change) → Carries F c r ts t → 2 < r .kind → Faces back r t out from to
-          → Retraced (undoing (length b) (facing back c) (trailOf q b)) q
+      pub moves : (back : Bool) (F : Format) (c : Change) → Carries F c r ts t → 2 < r .kind → TakesAndPuts back r t out from to
+          → UndoneOrRedone (undoing (length b) (toUndo back c) (stepStateOf q b)) q
           (record { number = 0; len = q .len - out + (to - from); cursor = r .place + (to - from); undone = true }) b b'
       moves back F c h i f =
           let e = length-take-le (q .len) b m in
           let y = swaps (length b) (r .place) out part (take (q .len) b) fit in
           let l : q .len - out + (to - from) ≡ length (splice (take (q .len) b) (r .place) (r .place + out) part) = omega
           (arith, swapped-length (length b) (r .place) out part (take (q .len) b) (fit .ends), part-length, e) in
-          subst (λ (v : Tried). Retraced v q (record { number = 0; len = q .len - out + (to - from); cursor = r .place + (to - from); undone = true }) b b')
-          (sym (exchanges (length b) r ts t (trailOf q b) back F c out from to h i f ∙ y))
-          (ap₂ (λ (n p : ℕ). record { number = 0; len = n; cursor = r .place + p; undone = true }) l (sym part-length), subst (λ (v : Tried). Exchanged v k b b') y x .1)
+          subst (λ (v : StepOutcome). UndoneOrRedone v q (record { number = 0; len = q .len - out + (to - from); cursor = r .place + (to - from); undone = true }) b b')
+          (sym (exchanges (length b) r ts t (stepStateOf q b) back F c out from to h i f ∙ y))
+          (ap₂ (λ (n p : ℕ). record { number = 0; len = n; cursor = r .place + p; undone = true }) l (sym part-length), subst (λ (v : StepOutcome). Exchanged v k b b') y x .1)

@@ -10,8 +10,8 @@ use Rattle.undo.proofs.Seams.{newest-some}
 use Rattle.undo.proofs.Walks.{sizes-next}
 use Rattle.undo_cancel.proofs.Cancels.{Cancelling, mark-within, cancelling-first, cancel-more}
 use Rattle.undo_cancel.proofs.Cancels.{cancel-stop, cancelling-next, cancel-ended}
-use Rattle.undo_cancel.proofs.cancel_noted.Statement.{statement}
-use Rattle.undo_cancel.proofs.cancel_noted.Tie as tie
+use Rattle.undo_cancel.proofs.cancel_by_sizes.Statement.{statement}
+use Rattle.undo_cancel.proofs.cancel_by_sizes.Tie as tie
 
 abbrev Inv-loop : tie.InvT-loop
 Inv-loop f text₀ records texts sizes count mark begins s₀ g₀ left₀ text s g left =
@@ -91,8 +91,8 @@ returns-2 c =
     let k = b.inv.0 in
     cancel-ended k g.1.0 c.before.before.loop-test.left g.1.1 (c.says.ensures ∙ ap (says 0 (lineOf b.s)) c.before.cancel.ensures)
 
-pub cancel-noted-spec : {M : Type 1} → statement M
-cancel-noted-spec =
+pub cancel-by-sizes-spec : {M : Type 1} → statement M
+cancel-by-sizes-spec =
     tie.close
     (tie.spec
     Inv-loop

@@ -1,5 +1,5 @@
 -- What a call leaves in the buffers is what the next call finds there. Assumes nothing.
-use Prim.Native.Nat.{ℕ, zero, suc, _+_, _≤_, _<_}
+use Prim.Native.Nat.{ℕ, zero, suc, _+_, _≤_}
 use native.Mathlib.Omega.{arith}
 use mathlib.Core.Path.{_≡_, refl, sym, ap, ap₂, subst, _∙_}
 use mathlib.Core.Bool.{true, false, not}
@@ -14,7 +14,7 @@ use Rattle.log_model.specs.Change.{Change, turn}
 use Rattle.formats.specs.Formats.{Fit}
 use Rattle.formats.specs.declared.Format.{Format}
 use Rattle.log_model.specs.Layout.{AllGood, Layout, isSome, decode, encodeRecords, encodeTexts}
-use Rattle.log_model.specs.Hold.{Holds}
+use Rattle.log_model.specs.Holds.{Holds}
 use Rattle.log_model.specs.Groups as groups
 use Rattle.log_model.proofs.Decode.{decode-encode}
 use Rattle.log_model.proofs.Newest.{turned-back}
@@ -41,8 +41,8 @@ module _ (R : Repertoire) (F : Format) (g : groups.Log) (rb tb : List ℕ) (s : 
   abbrev rs : List Change
   rs = map turn (g .redo)
 
-  abbrev held : log.Lent
-  held = log.lent rb tb (log.logOf F g)
+  abbrev stored : log.Lent
+  stored = log.lent rb tb (log.logOf F g)
 
   row-records : length (encodeRecords F us) + length (encodeRecords F rs) ≡ length (encodeRecords F (us ++ rs))
   row-records = sym (ap length (records-append F us rs) ∙ length-append (encodeRecords F us) (encodeRecords F rs))
@@ -68,27 +68,27 @@ module _ (R : Repertoire) (F : Format) (g : groups.Log) (rb tb : List ℕ) (s : 
   read : (a b : List ℕ) (cs : List Change) → Layout R F a b cs → log.orNil (decode R F a b) ≡ cs
   read a b cs x = ap₂ (λ (p q : List ℕ). log.orNil (decode R F p q)) (x .records) (x .texts) ∙ ap log.orNil (decode-encode R F cs (x .good))
 
-  undos-held : log.undos R F held ≡ us
+  undos-stored : log.undos R F stored ≡ us
   unfolding log.undos
-  undos-held = read _ _ us (front R F rb tb (length (encodeRecords F us)) (length (encodeTexts us)) (length (encodeRecords F rs)) (length (encodeTexts rs)) us rs stored-holds)
+  undos-stored = read _ _ us (front R F rb tb (length (encodeRecords F us)) (length (encodeTexts us)) (length (encodeRecords F rs)) (length (encodeTexts rs)) us rs stored-holds)
 
-  redos-held : log.redos R F held ≡ rs
+  redos-stored : log.redos R F stored ≡ rs
   unfolding log.redos
-  redos-held = read _ _ rs (behind R F rb tb (length (encodeRecords F us)) (length (encodeTexts us)) (length (encodeRecords F rs)) (length (encodeTexts rs)) us rs stored-holds)
+  redos-stored = read _ _ rs (behind R F rb tb (length (encodeRecords F us)) (length (encodeTexts us)) (length (encodeRecords F rs)) (length (encodeTexts rs)) us rs stored-holds)
 
   -- the log that the bytes hold
-  pub log-held : log.valueOf R F held ≡ g
-  log-held =
-      ap₂ (λ (u r : List Change). record { undo = u; redo = r; level = g .level }) (ap reverse undos-held ∙ reverse-reverse (g .undo))
-      (ap (map turn) redos-held ∙ turned-back (g .redo))
+  pub log-stored : log.valueOf R F stored ≡ g
+  log-stored =
+      ap₂ (λ (u r : List Change). record { undo = u; redo = r; level = g .level }) (ap reverse undos-stored ∙ reverse-reverse (g .undo))
+      (ap (map turn) redos-stored ∙ turned-back (g .redo))
 
   pub log-holds : Holds R F rb tb (length (encodeRecords F us)) (length (encodeTexts us)) (length (encodeRecords F rs)) (length (encodeTexts rs))
-      (log.undos R F held) (log.redos R F held)
+      (log.undos R F stored) (log.redos R F stored)
   log-holds =
       subst (λ (x : List Change). Holds R F rb tb (length (encodeRecords F us)) (length (encodeTexts us)) (length (encodeRecords F rs))
-      (length (encodeTexts rs)) x (log.redos R F held)) (sym undos-held)
+      (length (encodeTexts rs)) x (log.redos R F stored)) (sym undos-stored)
       (subst (λ (x : List Change). Holds R F rb tb (length (encodeRecords F us)) (length (encodeTexts us)) (length (encodeRecords F rs))
-      (length (encodeTexts rs)) us x) (sym redos-held) stored-holds)
+      (length (encodeTexts rs)) us x) (sym redos-stored) stored-holds)
 
   -- check 2 passes it
   pub log-sized : length rb ≤ F .records → length tb ≤ F .texts → overSizes F (log.logOf F g) rb tb ≡ false
@@ -112,8 +112,8 @@ module _ (R : Repertoire) (F : Format) (s : State) (t rb tb : List ℕ) (q : Sto
   abbrev pub lentNext : Lent
   lentNext = lent t rb tb (record { len = length (s .text); cursor = s .cursor }) (log.logOf F (s .log))
 
-  pub state-held : stateOf R F lentNext ≡ s
-  state-held = ap₂ (λ (x : List ℕ) (g : groups.Log). record { text = x; cursor = s .cursor; log = g }) (q .text) (log-held R F (s .log) rb tb (q .log) gu gr)
+  pub state-stored : stateOf R F lentNext ≡ s
+  state-stored = ap₂ (λ (x : List ℕ) (g : groups.Log). record { text = x; cursor = s .cursor; log = g }) (q .text) (log-stored R F (s .log) rb tb (q .log) gu gr)
 
   -- the checks 2 to 8 pass it
   pub state-passes : length t ≤ F .text → length rb ≤ F .records → length tb ≤ F .texts → s .log .level ≤ 255 → isText R (s .text) ≡ true
@@ -139,10 +139,10 @@ module _ (F : Format) (s : State) (t rb tb : List ℕ) (q : Stored F s t rb tb) 
       → isText catalogue (s .text) ≡ true → In (s .text) (s .cursor) (s .cursor) → Ready F (lentNext catalogue F s t rb tb q gu gr)
   state-ready a b c w v e i =
       record {
-        small = a;
+        limit = a;
         used = take-within (length (s .text)) t (ap length (q .text));
         text = ap (isText catalogue) (q .text) ∙ e;
         within = i .1;
-        edge = ap (λ (x : List ℕ). boundary x (s .cursor)) (q .text) ∙ i .2;
+        at-boundary = ap (λ (x : List ℕ). boundary x (s .cursor)) (q .text) ∙ i .2;
         log = record { fit = w; records = b; texts = c; level = v; hold = log-holds catalogue F (s .log) rb tb (q .log) gu gr };
       }

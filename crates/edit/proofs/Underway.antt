@@ -15,23 +15,23 @@ use Rattle.log_model.specs.Change.{Change}
 use Rattle.numbers.specs.Numbers.{top}
 use Rattle.formats.specs.declared.Format.{Format}
 use Rattle.log_model.specs.Layout.{AllGood}
-use Rattle.log_model.specs.UndoBytes.{undoRecords, undoTexts, allSmall, Sizes, fits}
+use Rattle.log_model.specs.UndoBytes.{undoRecords, undoTexts, allNumbersFit, Sizes, fits}
 use Rattle.log_state.specs.declared.Log.{Log}
 use Rattle.log_state.proofs.Recorded.{good}
 use Rattle.edit.specs.declared.EditAnswer.{EditAnswer}
-use Rattle.edit.specs.Plan.{Piece, made, recorded, Plan, once, textAfter, listAfter, redoAfter, AllSuit, Suits, tooLong, State, edited}
+use Rattle.edit.specs.Plan.{PlannedChange, made, recorded, Plan, once, textAfter, listAfter, redoAfter, AllSuit, Suits, tooLong, State, edited}
 use Rattle.edit.specs.Calls.{Lent, lent, logLent, textOf, sizesOf, stateOf, Edited, Ready}
 use Rattle.edit.proofs.Answers.{log-kept, length-kept, state-kept}
-use Rattle.edit.proofs.Pieces.{startOf, made-text, start-in}
+use Rattle.edit.proofs.PlannedChanges.{startOf, made-text, start-in}
 use Rattle.edit.proofs.Steps.{good-step, room-first}
-use Rattle.edit.proofs.Held.{state-held, state-ready}
+use Rattle.edit.proofs.Stored.{state-stored, state-ready}
 
--- the plan p with the pieces xs
-abbrev pub rest : Plan → List Piece → Plan
-rest p xs = record { pieces = xs; cursor = p .cursor; number = p .number; from = p .from; to = p .to }
+-- the plan p with the changes xs
+abbrev pub rest : Plan → List PlannedChange → Plan
+rest p xs = record { changes = xs; cursor = p .cursor; number = p .number; from = p .from; to = p .to }
 
--- after some changes of the plan p, which a call that was lent l₀ has begun, the pieces xs are left, and what is lent is l
-pub record Left (F : Format) (l₀ : Lent) (p : Plan) (xs : List Piece) (l : Lent) : Type 0 where
+-- after some changes of the plan p, which a call that was lent l₀ has begun, the changes xs are left, and what is lent is l
+pub record Underway (F : Format) (l₀ : Lent) (p : Plan) (xs : List PlannedChange) (l : Lent) : Type 0 where
   pub ready : Ready F l
   pub text : length (l .text) ≡ length (l₀ .text)
   pub records : length (l .records) ≡ length (l₀ .records)
@@ -43,11 +43,11 @@ pub record Left (F : Format) (l₀ : Lent) (p : Plan) (xs : List Piece) (l : Len
       (rest p xs) (stateOf catalogue F l)
 
 -- ---- one change of a plan
-no-redo : (xs : List Piece) → redoAfter xs [] ≡ []
+no-redo : (xs : List PlannedChange) → redoAfter xs [] ≡ []
 no-redo [] = refl
 no-redo (x ∷ xs) = refl
 
-module _ (R : Repertoire) (F : Format) (z : Sizes) (C : ℕ) (x : Piece) (s : State) (c : ℕ) (short : ltb C (length (made x (s .text))) ≡ false) where
+module _ (R : Repertoire) (F : Format) (z : Sizes) (C : ℕ) (x : PlannedChange) (s : State) (c : ℕ) (short : ltb C (length (made x (s .text))) ≡ false) where
   -- the state after it
   abbrev pub stepped : State
   stepped = record { text = made x (s .text); cursor = c; log = record { undo = recorded R x (s .text) (s .log .undo); redo = []; level = s .log .level } }
@@ -57,7 +57,7 @@ module _ (R : Repertoire) (F : Format) (z : Sizes) (C : ℕ) (x : Piece) (s : St
   step-taken room = rw (short, room)
 
   -- the rest of the plan from there
-  pub step-same : (p : Plan) (xs : List Piece) → edited R F z C (rest p (x ∷ xs)) s ≡ edited R F z C (rest p xs) stepped
+  pub step-same : (p : Plan) (xs : List PlannedChange) → edited R F z C (rest p (x ∷ xs)) s ≡ edited R F z C (rest p xs) stepped
   unfolding edited textAfter listAfter tooLong
   step-same p xs = rw (short, no-redo xs)
 
@@ -67,24 +67,24 @@ none-left : (R : Repertoire) (F : Format) (z : Sizes) (C : ℕ) (p : Plan) (s : 
 unfolding edited textAfter listAfter tooLong
 none-left R F z C p s room = rw room
 
-after-first : (R : Repertoire) (F : Format) (z : Sizes) (x : Piece) (xs : List Piece) (t : List ℕ) (u : List Change)
+after-first : (R : Repertoire) (F : Format) (z : Sizes) (x : PlannedChange) (xs : List PlannedChange) (t : List ℕ) (u : List Change)
     → fits F z (listAfter R (x ∷ xs) t u) ≡ true → fits F z (listAfter R xs (made x t) (recorded R x t u)) ≡ true
 unfolding listAfter
 after-first R F z x xs t u e = e
 
 module _ (F : Format) where
   -- at first all is left
-  pub begins : (l : Lent) (p : Plan) → Ready F l → AllSuit catalogue (p .pieces) (textOf l) → tooLong (length (l .text)) (p .pieces) (textOf l) ≡ false
-      → fits F (sizesOf l) (listAfter catalogue (p .pieces) (textOf l) (stateOf catalogue F l .log .undo)) ≡ true → Left F l p (p .pieces) l
+  pub begins : (l : Lent) (p : Plan) → Ready F l → AllSuit catalogue (p .changes) (textOf l) → tooLong (length (l .text)) (p .changes) (textOf l) ≡ false
+      → fits F (sizesOf l) (listAfter catalogue (p .changes) (textOf l) (stateOf catalogue F l .log .undo)) ≡ true → Underway F l p (p .changes) l
   begins l p h a b c = record { ready = h; text = refl; records = refl; texts = refl; suit = a; short = b; room = c; same = refl }
 
   -- the next change suits the text
-  pub next-suits : (l₀ : Lent) (p : Plan) (x : Piece) (xs : List Piece) (l : Lent) → Left F l₀ p (x ∷ xs) l → Suits catalogue x (textOf l)
+  pub next-suits : (l₀ : Lent) (p : Plan) (x : PlannedChange) (xs : List PlannedChange) (l : Lent) → Underway F l₀ p (x ∷ xs) l → Suits catalogue x (textOf l)
   unfolding AllSuit
   next-suits l₀ p x xs l k = k .suit .0
 
   -- a change is made
-  module _ (l₀ : Lent) (p : Plan) (x : Piece) (xs : List Piece) (l : Lent) (k : Left F l₀ p (x ∷ xs) l) (r : EditAnswer) (t rb tb : List ℕ)
+  module _ (l₀ : Lent) (p : Plan) (x : PlannedChange) (xs : List PlannedChange) (l : Lent) (k : Underway F l₀ p (x ∷ xs) l) (r : EditAnswer) (t rb tb : List ℕ)
       (q : Edited F l (edited catalogue F (sizesOf l) (length (l .text)) (once x (startOf x)) (stateOf catalogue F l)) r t rb tb)
       (lt : length t ≡ length (l .text)) (lr : length rb ≡ length (l .records)) (ls : length tb ≡ length (l .texts)) where
     abbrev s : State
@@ -107,11 +107,11 @@ module _ (F : Format) where
     within : length (textOf l) ≤ C
     within = omega (arith, length-kept F l (k .ready), k .ready .used, k .text)
 
-    wide : C < top (F .width)
-    wide = omega (arith, k .text, k .ready .small, k .ready .log .fit .places, k .ready .log .fit .lengths)
+    below-top : C < top (F .width)
+    below-top = omega (arith, k .text, k .ready .limit, k .ready .log .fit .places, k .ready .log .fit .lengths)
 
     room : fits F (sizesOf l₀) (recorded catalogue x (textOf l) (s .log .undo)) ≡ true
-    room = room-first catalogue F C wide (sizesOf l₀) (omega (arith, k .texts, k .ready .log .texts, k .ready .log .fit .lengths)) x xs (textOf l)
+    room = room-first catalogue F C below-top (sizesOf l₀) (omega (arith, k .texts, k .ready .log .texts, k .ready .log .fit .lengths)) x xs (textOf l)
         (s .log .undo) (suits .0) (k .ready .text) within (good F (logLent l) (k .ready .log)) (k .room)
 
     goods : AllGood catalogue (F .width) (recorded catalogue x (textOf l) (s .log .undo))
@@ -119,9 +119,9 @@ module _ (F : Format) where
     goods =
         let y = recorded catalogue x (textOf l) (s .log .undo) in
         let e = and-both (leb (length (undoRecords F y)) (length (l₀ .records))) (leb (length (undoTexts y)) (length (l₀ .texts)))
-        (and-both (allSmall (F .width) y) _ room .1) .1 in
+        (and-both (allNumbersFit (F .width) y) _ room .1) .1 in
         let n = leb-true (length (undoTexts y)) (length (l₀ .texts)) e in
-        good-step catalogue F C wide x (textOf l) (s .log .undo) (suits .0) (k .ready .text) within (good F (logLent l) (k .ready .log))
+        good-step catalogue F C below-top x (textOf l) (s .log .undo) (suits .0) (k .ready .text) within (good F (logLent l) (k .ready .log))
         (omega (arith, k .texts, k .ready .log .texts, k .ready .log .fit .lengths))
 
     sizes : sizesOf l ≡ sizesOf l₀
@@ -139,13 +139,13 @@ module _ (F : Format) where
     pub text-now : take (r .line .len) t ≡ made x (textOf l)
     text-now = ap (λ (a : EditAnswer). take (a .line .len) t) (taken .answer) ∙ taken .bytes .text
 
-    pub goes-on : Left F l₀ p xs (lent t rb tb (r .line) (r .log))
+    pub goes-on : Underway F l₀ p xs (lent t rb tb (r .line) (r .log))
     goes-on =
-        let g = state-held catalogue F next t rb tb (taken .bytes) goods tt in
-        let e = state-ready F next t rb tb (taken .bytes) goods tt (omega (arith, k .ready .small)) (omega (arith, k .ready .log .records))
+        let g = state-stored catalogue F next t rb tb (taken .bytes) goods tt in
+        let e = state-ready F next t rb tb (taken .bytes) goods tt (omega (arith, k .ready .limit)) (omega (arith, k .ready .log .records))
         (omega (arith, k .ready .log .texts)) (k .ready .log .fit) (k .ready .log .level)
         (made-text catalogue x (textOf l) (suits .0) (k .ready .text)) start in
-        subst (λ (a : EditAnswer). Left F l₀ p xs (lent t rb tb (a .line) (a .log))) (sym (taken .answer))
+        subst (λ (a : EditAnswer). Underway F l₀ p xs (lent t rb tb (a .line) (a .log))) (sym (taken .answer))
         (record {
           ready = e;
           text = lt ∙ k .text;
@@ -161,7 +161,7 @@ module _ (F : Format) where
         later = after-first catalogue F (sizesOf l₀) x xs (textOf l) (s .log .undo) (k .room)
 
   -- all are made
-  pub ends : (l₀ : Lent) (p : Plan) (l : Lent) → Left F l₀ p [] l
+  pub ends : (l₀ : Lent) (p : Plan) (l : Lent) → Underway F l₀ p [] l
       → Edited F l₀ (edited catalogue F (sizesOf l₀) (length (l₀ .text)) p (stateOf catalogue F l₀))
       (record { number = p .number; from = p .from; to = p .to; line = record { len = l .line .len; cursor = p .cursor }; log = l .log }) (l .text) (l .records) (l .texts)
   ends l₀ p l k =

@@ -7,13 +7,13 @@ use denote.Ref.{now}
 use Rattle.unicode.specs.Repertoire.{catalogue}
 use Rattle.log_model.specs.Layout.{sizeOf}
 use Rattle.log_model.proofs.Walk.{Come, come-end, come-whole}
-use Rattle.log_records.proofs.Sizes.{NotedOf, noted-none, noted-on}
-use Rattle.log_records.proofs.note_sizes.Statement.{statement}
-use Rattle.log_records.proofs.note_sizes.Tie as tie
+use Rattle.log_records.proofs.Sizes.{WrittenOf, written-none, written-on}
+use Rattle.log_records.proofs.write_sizes.Statement.{statement}
+use Rattle.log_records.proofs.write_sizes.Tie as tie
 
 abbrev Inv-loop : tie.InvT-loop
 Inv-loop f records sizes₀ count₀ at₀ sizes count at =
-    (count ≤ at) × (length sizes ≡ length sizes₀) × Come catalogue f records at (NotedOf f count sizes)
+    (count ≤ at) × (length sizes ≡ length sizes₀) × Come catalogue f records at (WrittenOf f count sizes)
 
 abbrev μ-loop : tie.MeasureT-loop
 μ-loop f records sizes₀ count₀ at₀ sizes count at = length records - at
@@ -35,7 +35,7 @@ passed c =
 
 loop-holds : tie.Need-loop-holds Inv-loop μ-loop
 loop-holds c =
-    (omega arith, refl, noted-none catalogue c.before.before.args.f (now c.before.before.args.records) (now c.before.before.args.sizes))
+    (omega arith, refl, written-none catalogue c.before.before.args.f (now c.before.before.args.records) (now c.before.before.args.sizes))
 
 record-size-requires : tie.Need-record-size-requires Inv-loop μ-loop
 record-size-requires c κs =
@@ -75,7 +75,7 @@ loop-again c =
     let w = passed (c) in (
       omega (arith, w.1, at-loop.loop.inv.0),
       simp length-set at-loop.loop.inv.1,
-      noted-on catalogue entry.args.f (now entry.args.records) at-loop.loop.at at-loop.loop.count _ _ in-loop.loop-test.taken w.0
+      written-on catalogue entry.args.f (now entry.args.records) at-loop.loop.at at-loop.loop.count _ _ in-loop.loop-test.taken w.0
           (omega (arith, w.2, at-loop.loop.inv.1, entry.pre.1.1)) at-loop.loop.inv.2,
     )
 
@@ -87,8 +87,8 @@ returns c =
     let entry = c.before.before.before.before in
     come-end catalogue entry.args.f (now entry.args.records) c.before.loop.at _ c.loop-test.left c.before.loop.inv.2
 
-pub note-sizes-spec : {M : Type 1} → statement M
-note-sizes-spec =
+pub write-sizes-spec : {M : Type 1} → statement M
+write-sizes-spec =
     tie.close
     (tie.spec
     Inv-loop
