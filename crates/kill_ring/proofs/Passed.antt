@@ -1,7 +1,7 @@
 -- What holds of a lent ring that checks 2 and 8 pass, and the checks one by one. Assumes nothing.
 use Prim.Native.Nat.{_*_, _≤_}
 use native.Mathlib.Omega.{arith}
-use mathlib.Core.Path.{_≡_, sym, ap, _∙_}
+use mathlib.Core.Path.{_≡_, sym, ap, ap₂, _∙_}
 use mathlib.Core.Bool.{Bool, true, false, true≢false}
 use lib.Dec.{ltb}
 use lib.ListN.{length}
@@ -83,6 +83,10 @@ module _ (R : Repertoire) (l : Lent) (code foreign : Bool) where
   -- its own tests pass too
   pub own-passed : checked R l code foreign ≡ 0 → (code ≡ false) × (foreign ≡ false)
   own-passed e = let p = refusal-passed (both (ringTests R l) (ownTests code foreign false)) e in (p .code, p .foreign)
+
+  -- and so do the checks of the ring alone
+  pub ring-passed : checked R l code foreign ≡ 0 → checked R l false false ≡ 0
+  ring-passed e = let p = own-passed e in ap₂ (checked R l) (sym (p .0)) (sym (p .1)) ∙ e
 
   -- 2
   pub says-sizes : overSizes l ≡ true → 2 ≡ checked R l code foreign

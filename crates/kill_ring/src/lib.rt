@@ -6,7 +6,8 @@ ghost use lib.Dec.{eqb};
 ghost use lib.ListN.{length, take, drop};
 ghost use Rattle.unicode.specs.Repertoire.{catalogue};
 ghost use Rattle.buffer.specs.Edit.{inserted};
-ghost use Rattle.kill_ring.specs.Calls.{lent, lenAt, slotsFrom, actionOf, anyOver, inUse, overSizes, indexBreaks, actionBreaks};
+ghost use Rattle.kill_ring.specs.Ring.{resetOut, killOut, yankOut, yankPopOut};
+ghost use Rattle.kill_ring.specs.Calls.{lent, lenAt, slotsFrom, actionOf, valueOf, anyOver, inUse, overSizes, indexBreaks, actionBreaks};
 ghost use Rattle.kill_ring.specs.Calls.{anyForeign, damaged, checked, modeOf, says as Calls·says, answerAndRing, newCall, resetCall};
 ghost use Rattle.kill_ring.specs.Calls.{yankCall, yankPopCall, killBy, killCall, Ringed};
 ghost use Rattle.kill_ring.specs.Killed.{placeOf, slotOf, usedOf, killedInto, Put};
@@ -205,9 +206,9 @@ fn is_damaged(slots: &[u8], lens: &[u8], ring: Ring) -> bool
     any_foreign(slots, lens, ring.count)
 }
 
-// The number of the first of the checks 2, 3, 4 and 8 that a lent ring meets, 0 where they pass. `code` says that a number names
-// no direction, `foreign` that a text is outside the repertoire.
-fn refusal(slots: &[u8], lens: &[u8], ring: Ring, code: bool, foreign: bool) -> u32
+// The one check of every call that is lent a ring: the number of the first of the checks 2, 3, 4 and 8 that it meets, 0 where they
+// pass. `code` says that a number names no direction, `foreign` that a text is outside the repertoire.
+pub fn refusal(slots: &[u8], lens: &[u8], ring: Ring, code: bool, foreign: bool) -> u32
     ensures { λ r. ⌜ r ≡ checked catalogue (lent (now (slots .entry)) (now (lens .entry)) ring) code foreign ⌝ }
 {
     if over_sizes(slots, lens, ring) {
@@ -291,6 +292,14 @@ pub fn new(ring: Ring, size: usize) -> AnswerAndRing
     says(0, empty)
 }
 
+// reset on a ring that the checks pass.
+pub fn reset_checked(slots: &[u8], lens: &[u8], ring: Ring) -> AnswerAndRing
+    requires { ⌜ checked catalogue (lent (now slots) (now lens) ring) false false ≡ 0 ⌝ }
+    ensures { λ r. ⌜ r ≡ answerAndRing ring (resetOut (valueOf (lent (now (slots .entry)) (now (lens .entry)) ring))) ⌝ }
+{
+    says(0, with_action(ring, 2))
+}
+
 // Wrong answers ruled out: the slots dropped; the yank's size kept.
 pub fn reset(slots: &[u8], lens: &[u8], ring: Ring) -> AnswerAndRing
     ensures { λ r. ⌜ r ≡ answerAndRing ring (resetCall catalogue (lent (now (slots .entry)) (now (lens .entry)) ring)) ⌝ }
@@ -299,7 +308,18 @@ pub fn reset(slots: &[u8], lens: &[u8], ring: Ring) -> AnswerAndRing
     if k != 0 {
         return says(k, ring);
     }
-    says(0, with_action(ring, 2))
+    reset_checked(slots, lens, ring)
+}
+
+// yank on a ring that the checks pass.
+pub fn yank_checked(slots: &[u8], lens: &[u8], ring: Ring) -> AnswerAndRing
+    requires { ⌜ checked catalogue (lent (now slots) (now lens) ring) false false ≡ 0 ⌝ }
+    ensures { λ r. ⌜ r ≡ answerAndRing ring (yankOut (valueOf (lent (now (slots .entry)) (now (lens .entry)) ring))) ⌝ }
+{
+    if ring.count == 0 {
+        return says(1, ring);
+    }
+    yanked(lens, ring, ring.index, 0)
 }
 
 // Wrong answers ruled out: 0 where there are no slots; the size of the yank before answered.
@@ -310,10 +330,7 @@ pub fn yank(slots: &[u8], lens: &[u8], ring: Ring) -> AnswerAndRing
     if k != 0 {
         return says(k, ring);
     }
-    if ring.count == 0 {
-        return says(1, ring);
-    }
-    yanked(lens, ring, ring.index, 0)
+    yank_checked(slots, lens, ring)
 }
 
 // The slot before, round to the last.
@@ -324,14 +341,11 @@ fn previous(index: usize, count: usize) -> usize
     if index == 0 { count - 1 } else { index - 1 }
 }
 
-// Wrong answers ruled out: 0 where the last action is no yank; the size of the slot that it answers.
-pub fn yank_pop(slots: &[u8], lens: &[u8], ring: Ring) -> AnswerAndRing
-    ensures { λ r. ⌜ r ≡ answerAndRing ring (yankPopCall catalogue (lent (now (slots .entry)) (now (lens .entry)) ring)) ⌝ }
+// yank_pop on a ring that the checks pass.
+pub fn yank_pop_checked(slots: &[u8], lens: &[u8], ring: Ring) -> AnswerAndRing
+    requires { ⌜ checked catalogue (lent (now slots) (now lens) ring) false false ≡ 0 ⌝ }
+    ensures { λ r. ⌜ r ≡ answerAndRing ring (yankPopOut (valueOf (lent (now (slots .entry)) (now (lens .entry)) ring))) ⌝ }
 {
-    let k = refusal(slots, lens, ring, false, false);
-    if k != 0 {
-        return says(k, ring);
-    }
     let last = Action::from_numbers(ring.action, ring.yanked);
     let Action::Yank(size) = last else {
         return says(1, ring);
@@ -340,6 +354,17 @@ pub fn yank_pop(slots: &[u8], lens: &[u8], ring: Ring) -> AnswerAndRing
         return says(1, ring);
     }
     yanked(lens, ring, previous(ring.index, ring.count), size)
+}
+
+// Wrong answers ruled out: 0 where the last action is no yank; the size of the slot that it answers.
+pub fn yank_pop(slots: &[u8], lens: &[u8], ring: Ring) -> AnswerAndRing
+    ensures { λ r. ⌜ r ≡ answerAndRing ring (yankPopCall catalogue (lent (now (slots .entry)) (now (lens .entry)) ring)) ⌝ }
+{
+    let k = refusal(slots, lens, ring, false, false);
+    if k != 0 {
+        return says(k, ring);
+    }
+    yank_pop_checked(slots, lens, ring)
 }
 
 // The slot that a kill writes: after a kill the same, else round to the first behind the last of the size, one further where there
@@ -400,16 +425,19 @@ fn put_text(slots: &mut [u8], i: usize, used: usize, at: usize, text: &[u8])
     insert_bytes(&mut slots[from..to], used, at, text);
 }
 
-// kill in a direction.
-fn kill_by(slots: &mut [u8], lens: &mut [u8], ring: Ring, text: &[u8], m: Mode) -> AnswerAndRing
+// kill in a direction, on a ring that the checks pass.
+pub fn kill_checked(
+    slots: &mut [u8],
+    lens: &mut [u8],
+    ring: Ring,
+    text: &[u8],
+    m: Mode,
+) -> AnswerAndRing
+    requires { ⌜ checked catalogue (lent (now slots) (now lens) ring) false false ≡ 0 ⌝ }
     ensures { λ r. ⌜ Ringed (lent (now (slots .entry)) (now (lens .entry)) ring)
-        (killBy catalogue (lent (now (slots .entry)) (now (lens .entry)) ring) (now (text .entry)) (ModeCode.Is m))
+        (killOut m (now (text .entry)) (valueOf (lent (now (slots .entry)) (now (lens .entry)) ring)))
         r (now (slots .exit)) (now (lens .exit)) ⌝ }
 {
-    let k = refusal(slots, lens, ring, false, !check_text(text));
-    if k != 0 {
-        return says(k, ring);
-    }
     if ring.size == 0 {
         return says(0, with_action(ring, 0));
     }
@@ -421,6 +449,19 @@ fn kill_by(slots: &mut [u8], lens: &mut [u8], ring: Ring, text: &[u8], m: Mode) 
     put_text(slots, i, used, m.place(used), text);
     write_num(lens, 2 * i, used + text.len(), 2);
     says(0, killed(ring, i))
+}
+
+// kill in a direction.
+fn kill_by(slots: &mut [u8], lens: &mut [u8], ring: Ring, text: &[u8], m: Mode) -> AnswerAndRing
+    ensures { λ r. ⌜ Ringed (lent (now (slots .entry)) (now (lens .entry)) ring)
+        (killBy catalogue (lent (now (slots .entry)) (now (lens .entry)) ring) (now (text .entry)) (ModeCode.Is m))
+        r (now (slots .exit)) (now (lens .exit)) ⌝ }
+{
+    let k = refusal(slots, lens, ring, false, !check_text(text));
+    if k != 0 {
+        return says(k, ring);
+    }
+    kill_checked(slots, lens, ring, text, m)
 }
 
 // Wrong answers ruled out: a slot of its own for a kill after a kill; a text of 4,097 bytes cut off at 4,096.

@@ -1,5 +1,5 @@
 use Prim.Native.Nat.{ℕ}
-use mathlib.Core.Path.{ap, _∙_}
+use mathlib.Core.Path.{_∙_}
 use mathlib.Core.Bool.{false}
 use borrow.Author.Needs.{needs}
 use denote.Ref.{now}
@@ -7,7 +7,7 @@ use Rattle.unicode.specs.Repertoire.{catalogue}
 use Rattle.checks.specs.Outcome.{Outcome}
 use Rattle.kill_ring.specs.Ring.{KillRing, resetOut}
 use Rattle.kill_ring.specs.Calls.{Lent, lent, checked, valueOf}
-use Rattle.kill_ring.proofs.Answers.{alone, left-refused, left-passed, reset-left}
+use Rattle.kill_ring.proofs.Answers.{left-refused, left-passed}
 use Rattle.kill_ring.proofs.reset.Statement.{statement}
 use Rattle.kill_ring.proofs.reset.Tie as tie
 
@@ -23,17 +23,18 @@ resetting c = resetOut (valueOf (given c))
 
 returns : tie.Need-returns
 returns c =
-    let entry = c.before.before.before.before.before in
+    let after-refusal = c.before.before in
+    let entry = after-refusal.before.before.before in
     c.says.ensures
-    ∙ left-refused entry.args.ring c.before.before.refusal.result (number entry) (resetting entry) c.before.before.refusal.ensures
+    ∙ left-refused entry.args.ring after-refusal.refusal.result (number entry) (resetting entry) after-refusal.refusal.ensures
     c.before.if1.taken
 
 returns-2 : tie.Need-returns-2
 returns-2 c =
-    let after-refusal = c.before.before.before in
+    let after-refusal = c.before.before in
     let entry = after-refusal.before.before.before in
     left-passed entry.args.ring after-refusal.refusal.result (number entry) (resetting entry) _ after-refusal.refusal.ensures
-    c.before.before.if1.left (c.says2.ensures ∙ ap (alone 0) c.before.with-action.ensures ∙ reset-left (given entry))
+    c.before.if1.left c.reset-checked.ensures
 
 pub reset-spec : {M : Type 1} → statement M
 reset-spec =
@@ -42,6 +43,5 @@ reset-spec =
     (λ refusal-requires κs. search needs)
     (λ says-requires κs. search needs)
     returns
-    (λ with-action-requires κs. search needs)
-    (λ says-requires-2 κs. search needs)
+    (λ reset-checked-requires κs. search needs)
     returns-2)
