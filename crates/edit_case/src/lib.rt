@@ -12,7 +12,7 @@ ghost use Rattle.log_records.specs.Walks.{LastAt};
 ghost use Rattle.edit.specs.Calls.{lent, Ready, Answers, Makes};
 ghost use Rattle.motion_words.specs.Places.{wordsOn};
 ghost use Rattle.edit_case.specs.declared.WordAction.the-variants.{Capitalize};
-ghost use Rattle.edit_case.specs.EditWord.{inCase, Written, WrittenAt, casePlan, actionOf, actionIs, editWordBy, editWordCall};
+ghost use Rattle.edit_case.specs.EditWord.{inCase, Written, WrittenAt, casePlan, actionOf, actionIs, editWordPlan, editWordBy, editWordCall};
 use checks::Line;
 use cluster::next_cluster;
 use edit::EditAnswer;
@@ -131,6 +131,32 @@ fn case_from(
     )
 }
 
+// edit_word by its action, on what the check passes.
+pub fn edit_word_checked(
+    f: Format,
+    text: &mut [u8],
+    records: &mut [u8],
+    texts: &mut [u8],
+    line: Line,
+    log: Log,
+    last: usize,
+    action: WordAction,
+) -> EditAnswer
+    requires { ⌜ Ready f (lent (now text) (now records) (now texts) line log) ⌝ }
+    requires { ⌜ LastAt catalogue f (take (log .undo .records) (now records)) last ⌝ }
+    ensures { λ r. ⌜ Makes f (lent (now (text .entry)) (now (records .entry)) (now (texts .entry)) line log)
+        (editWordPlan catalogue (take (line .len) (now (text .entry))) action (line .cursor))
+        r (now (text .exit)) (now (records .exit)) (now (texts .exit)) ⌝ }
+{
+    let len = line.len;
+    let cursor = line.cursor;
+    let found = skip_whitespace(&text[..len], cursor);
+    match found {
+        Found::At(p) => case_from(f, text, records, texts, line, log, last, action, p),
+        Found::Nothing => says(1, line, log),
+    }
+}
+
 // edit_word by its action.
 fn edit_word_by(
     text: &mut [u8],
@@ -149,13 +175,7 @@ fn edit_word_by(
         return says(c.number, line, log);
     }
     let newest = c.newest;
-    let len = line.len;
-    let cursor = line.cursor;
-    let found = skip_whitespace(&text[..len], cursor);
-    match found {
-        Found::At(p) => case_from(f, text, records, texts, line, log, newest.last, action, p),
-        Found::Nothing => says(1, line, log),
-    }
+    edit_word_checked(f, text, records, texts, line, log, newest.last, action)
 }
 
 // Wrong answers ruled out: the capital of U+00DF left as it is; a word that has its case already left unrecorded.

@@ -11,9 +11,9 @@ ghost use Rattle.cluster.specs.Clusters.{clustersOf};
 ghost use Rattle.log_records.specs.Walks.{LastAt};
 ghost use Rattle.edit.specs.Plan.{listAfter, tooLong};
 ghost use Rattle.edit.specs.Calls.{lent, sizesOf, stateOf, Ready, Answers, Makes};
-ghost use Rattle.edit_transpose.specs.TransposeChars.{startsAt, exchange, transposeCharsCall};
+ghost use Rattle.edit_transpose.specs.TransposeChars.{startsAt, exchange, transposeCharsPlan, transposeCharsCall};
 ghost use Rattle.edit_transpose.specs.WordPairs.{wordsPlan, Apart, wordsAround};
-ghost use Rattle.edit_transpose.specs.TransposeWords.{transposeWordsCall};
+ghost use Rattle.edit_transpose.specs.TransposeWords.{transposeWordsPlan, transposeWordsCall};
 ghost use Rattle.lists.specs.Lists.{part};
 ghost use Rattle.log_model.specs.UndoBytes.{fits};
 use buffer::insert_bytes;
@@ -202,6 +202,39 @@ fn exchange_words(
     )
 }
 
+// transpose_words on what the check passes.
+pub fn transpose_words_checked(
+    f: Format,
+    text: &mut [u8],
+    records: &mut [u8],
+    texts: &mut [u8],
+    line: Line,
+    log: Log,
+    last: usize,
+    n: RepeatCount,
+) -> EditAnswer
+    requires { ⌜ Ready f (lent (now text) (now records) (now texts) line log) ⌝ }
+    requires { ⌜ LastAt catalogue f (take (log .undo .records) (now records)) last ⌝ }
+    ensures { λ r. ⌜ Makes f (lent (now (text .entry)) (now (records .entry)) (now (texts .entry)) line log)
+        (transposeWordsPlan catalogue (take (line .len) (now (text .entry))) n (line .cursor))
+        r (now (text .exit)) (now (records .exit)) (now (texts .exit)) ⌝ }
+{
+    let len = line.len;
+    let cursor = line.cursor;
+    let w = words_around(&text[..len], cursor, n);
+    if (w.beg1 == w.beg2) | (w.beg2 < w.end1) {
+        return says(
+            1,
+            Line {
+                len,
+                cursor: w.end1,
+            },
+            log,
+        );
+    }
+    exchange_words(f, text, records, texts, line, log, last, w)
+}
+
 // Wrong answers ruled out: the cursor where it was on answer 1; 9 decided on the last text alone.
 pub fn transpose_words(
     text: &mut [u8],
@@ -220,20 +253,7 @@ pub fn transpose_words(
         return says(c.number, line, log);
     }
     let newest = c.newest;
-    let len = line.len;
-    let cursor = line.cursor;
-    let w = words_around(&text[..len], cursor, n);
-    if (w.beg1 == w.beg2) | (w.beg2 < w.end1) {
-        return says(
-            1,
-            Line {
-                len,
-                cursor: w.end1,
-            },
-            log,
-        );
-    }
-    exchange_words(f, text, records, texts, line, log, newest.last, w)
+    transpose_words_checked(f, text, records, texts, line, log, newest.last, n)
 }
 
 // Has a text fewer than two clusters?
@@ -311,6 +331,31 @@ fn exchange_at(
     says(0, line, noted)
 }
 
+// transpose_chars on what the check passes.
+pub fn transpose_chars_checked(
+    f: Format,
+    text: &mut [u8],
+    records: &mut [u8],
+    texts: &mut [u8],
+    line: Line,
+    log: Log,
+    last: usize,
+) -> EditAnswer
+    requires { ⌜ Ready f (lent (now text) (now records) (now texts) line log) ⌝ }
+    requires { ⌜ LastAt catalogue f (take (log .undo .records) (now records)) last ⌝ }
+    ensures { λ r. ⌜ Makes f (lent (now (text .entry)) (now (records .entry)) (now (texts .entry)) line log)
+        (transposeCharsPlan catalogue (take (line .len) (now (text .entry))) (line .cursor))
+        r (now (text .exit)) (now (records .exit)) (now (texts .exit)) ⌝ }
+{
+    let len = line.len;
+    let cursor = line.cursor;
+    let found = starts_at(&text[..len], cursor);
+    match found {
+        Found::At(p) => exchange_at(f, text, records, texts, line, log, last, p),
+        Found::Nothing => says(1, line, log),
+    }
+}
+
 // Wrong answers ruled out: 1 where the two clusters are the same; the cursor left between the two.
 pub fn transpose_chars(
     text: &mut [u8],
@@ -328,11 +373,5 @@ pub fn transpose_chars(
         return says(c.number, line, log);
     }
     let newest = c.newest;
-    let len = line.len;
-    let cursor = line.cursor;
-    let found = starts_at(&text[..len], cursor);
-    match found {
-        Found::At(p) => exchange_at(f, text, records, texts, line, log, newest.last, p),
-        Found::Nothing => says(1, line, log),
-    }
+    transpose_chars_checked(f, text, records, texts, line, log, newest.last)
 }

@@ -89,7 +89,9 @@ write-num-requires : tie.Need-write-num-requires
 write-num-requires c κs = room c.before.before.before.before.before.before .1
 
 killed-requires : tie.Need-killed-requires
-killed-requires c κs = let p = ready (start (sized c.before.before.before.before.before.before.before.before.before)) in omega (arith, p.count, p.size)
+killed-requires c κs =
+    let p = ready (start (sized c.before.before.before.before.before.before.before.before.before)) in
+    omega (arith, p.count, p.size)
 
 returns-3 : tie.Need-returns-3
 returns-3 c =

@@ -31,7 +31,9 @@ index : (c : tie.Else1) → let g = start c .args .ring in g .index < g .count
 index c = index-in catalogue (given (start c)) (ready (start c)) (some c)
 
 returns : tie.Need-returns
-returns c = let entry = c.before.before.before.before.before in c.says.ensures ∙ yank-none catalogue (given entry) (ready entry) c.before.if1.taken
+returns c =
+    let entry = c.before.before.before.before.before in
+    c.says.ensures ∙ yank-none catalogue (given entry) (ready entry) c.before.if1.taken
 
 yanked-requires : tie.Need-yanked-requires
 yanked-requires c κs = let p = ready (start c) in omega (arith, p.lens, p.count, index c)
