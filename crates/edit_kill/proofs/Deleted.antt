@@ -1,5 +1,5 @@
 -- delete: what kill of ForwardChar leaves, with the two places between which it cut. Assumes nothing.
-use Prim.Native.Nat.{ℕ, zero, suc, _+_, _-_, _≤_}
+use Prim.Native.Nat.{ℕ, _+_, _-_, _≤_}
 use native.Mathlib.Omega.{arith}
 use mathlib.Core.Path.{_≡_, refl, sym, ap, ap₂, _∙_}
 use mathlib.Core.Bool.{Bool, true, false, cond}
@@ -16,18 +16,16 @@ use Rattle.motion.specs.declared.Found.{Found}
 use Rattle.motion.specs.declared.Found.the-variants as found
 use Rattle.motion_lines.specs.declared.Range.{Range}
 use Rattle.motion_lines.specs.declared.Range.the-variants.{Places, Nowhere}
-use Rattle.checks.specs.Checks.{both, ownTests}
-use Rattle.checks.specs.Outcome.{Outcome, refused, answered, numberIn, called}
-use Rattle.checks.proofs.Fit.{Fit, fit}
+use Rattle.checks.specs.Outcome.{Outcome, refused, answered, numberIn}
 use Rattle.formats.specs.declared.Format.{Format}
-use Rattle.log_state.specs.Logs.{logTests}
 use Rattle.motion_ranges.specs.Ranges.{upTo, copied}
 use Rattle.log_model.specs.UndoBytes.{fits}
 use Rattle.edit.specs.declared.EditAnswer.{EditAnswer}
 use Rattle.edit.specs.Plan.{cutting, nothing, State, tooLong, textAfter, listAfter, planned, edited}
-use Rattle.edit.specs.Calls.{Lent, textOf, sizesOf, stateOf, checked, Edited}
+use Rattle.edit.specs.Calls.{Lent, textOf, sizesOf, stateOf, Edited, Ready}
+use Rattle.edit.proofs.Answers.{cursor-in}
 use Rattle.edit.proofs.Splice.{splice-length}
-use Rattle.edit_kill.specs.Kills.{killRange, cutPlan, placesPlan, killOf, deleteCall}
+use Rattle.edit_kill.specs.Kills.{killRange, cutPlan, placesPlan}
 use Rattle.edit_kill.proofs.Ranges.{kill-in}
 
 -- from the cursor on
@@ -43,6 +41,10 @@ forward-start t pos n a b e = go (eqb (length t) 0) (nextPos catalogue t pos n) 
 module _ (F : Format) (l : Lent) (n : ℕ) where
   abbrev pos : ℕ
   pos = l .line .cursor
+
+  -- what kill of ForwardChar cuts
+  abbrev range : Range
+  range = killRange catalogue (textOf l) pos (m.ForwardChar n)
 
   abbrev state : State
   state = stateOf catalogue F l
@@ -82,51 +84,45 @@ module _ (F : Format) (l : Lent) (n : ℕ) where
       go true = alike (answered 1 0 0 (planned catalogue (nothing pos) state)) (λ z. omega arith)
       go false = alike (refused 10) (λ z. omega arith)
 
-  ways : Way (killOf catalogue F l (m.ForwardChar n)) (deleteCall catalogue F l n)
-  ways = by-number (checked catalogue F l (ownTests false false false)) refl
-    where
-      by-range : (r : Range) → killRange catalogue (textOf l) pos (m.ForwardChar n) ≡ r → Fit catalogue F (l .text) (l .line) → Way (cut r) (placed r)
-      by-range (Places a b) e f =
-          cut-ways a b (forward-start (textOf l) pos n a b e)
-          (kill-in catalogue (textOf l) (text-valid catalogue (textOf l) (f .text)) a b pos (f .at-boundary)
-          (let k = length-take-le (l .line .len) (l .text) (f .used) in let j = f .within in omega arith) (m.ForwardChar n) e)
-          (f .used)
-      by-range Nowhere e f = none-ways
-
-      by-number : (k : ℕ) → checked catalogue F l (ownTests false false false) ≡ k
-          → Way (called k (cut (killRange catalogue (textOf l) pos (m.ForwardChar n)))) (called k (placed (killRange catalogue (textOf l) pos (m.ForwardChar n))))
-      by-number zero e = by-range (killRange catalogue (textOf l) pos (m.ForwardChar n)) refl
-          (fit catalogue F (l .text) (l .line) (both (logTests catalogue F (l .log) (l .records) (l .texts)) (ownTests false false false)) e .0)
-      by-number (suc k) e = alike (refused (suc k)) (λ z. omega arith)
-
-  module _ (r : EditAnswer) (t rb tb : List ℕ) (q : Edited F l (killOf catalogue F l (m.ForwardChar n)) r t rb tb) where
-    number-is : (o : Outcome State) → Edited F l o r t rb tb → r .number ≡ numberIn o
-    number-is (refused k) e = ap (λ (x : EditAnswer). x .number) (e .answer)
-    number-is (answered k a b s) e = ap (λ (x : EditAnswer). x .number) (e .answer)
-
-    pub not-cut : (r .number ≡ 0 → ⊥) → Edited F l (deleteCall catalogue F l n) r t rb tb
-    not-cut h = go ways q
+  module _ (h : Ready F l) where
+    ways : Way (cut range) (placed range)
+    ways = by-range range refl
       where
-        go : {o o′ : Outcome State} → Way o o′ → Edited F l o r t rb tb → Edited F l o′ r t rb tb
-        go (alike o k) e = e
-        go (between a b s x y z w) e = absurd (h (number-is (answered 0 0 0 s) e))
+        by-range : (x : Range) → range ≡ x → Way (cut x) (placed x)
+        by-range (Places a b) e =
+            let i = cursor-in F l h in
+            cut-ways a b (forward-start (textOf l) pos n a b e)
+            (kill-in catalogue (textOf l) (text-valid catalogue (textOf l) (h .text)) a b pos (i .2) (i .1) (m.ForwardChar n) e) (h .used)
+        by-range Nowhere e = none-ways
 
-    pub was-cut : r .number ≡ 0 → (r .line .len ≤ l .line .len) × (pos + (l .line .len - r .line .len) ≤ l .line .len)
-        × Edited F l (deleteCall catalogue F l n) (record { number = 0; from = pos; to = pos + (l .line .len - r .line .len); line = r .line; log = r .log }) t rb tb
-    was-cut h = go ways q
-      where
-        go : {o o′ : Outcome State} → Way o o′ → Edited F l o r t rb tb → (r .line .len ≤ l .line .len)
-            × (pos + (l .line .len - r .line .len) ≤ l .line .len) × Edited F l o′
-            (record { number = 0; from = pos; to = pos + (l .line .len - r .line .len); line = r .line; log = r .log }) t rb tb
-        go (alike o k) e = absurd (k (sym (number-is o e) ∙ h))
-        go (between a b s x y z w) e =
-            let g : r .line .len ≡ length (s .text) = ap (λ (i : EditAnswer). i .line .len) (e .answer) in
-            let f : pos + (l .line .len - r .line .len) ≡ b = omega arith in (
-              omega arith,
-              omega arith,
-              record {
-                answer = ap₂ (λ (i j : ℕ). record { number = 0; from = i; to = j; line = r .line; log = r .log }) (sym x) f
-                    ∙ ap (λ (i : EditAnswer). record { number = 0; from = a; to = b; line = i .line; log = i .log }) (e .answer);
-                bytes = e .bytes;
-              },
-            )
+    module _ {r : EditAnswer} {t rb tb : List ℕ} (q : Edited F l (cut range) r t rb tb) where
+      number-is : (o : Outcome State) → Edited F l o r t rb tb → r .number ≡ numberIn o
+      number-is (refused k) e = ap (λ (x : EditAnswer). x .number) (e .answer)
+      number-is (answered k a b s) e = ap (λ (x : EditAnswer). x .number) (e .answer)
+
+      pub not-cut : (r .number ≡ 0 → ⊥) → Edited F l (placed range) r t rb tb
+      not-cut k = go ways q
+        where
+          go : {o o′ : Outcome State} → Way o o′ → Edited F l o r t rb tb → Edited F l o′ r t rb tb
+          go (alike o k) e = e
+          go (between a b s x y z w) e = absurd (k (number-is (answered 0 0 0 s) e))
+
+      pub was-cut : r .number ≡ 0 → (r .line .len ≤ l .line .len) × (pos + (l .line .len - r .line .len) ≤ l .line .len)
+          × Edited F l (placed range) (record { number = 0; from = pos; to = pos + (l .line .len - r .line .len); line = r .line; log = r .log }) t rb tb
+      was-cut z = go ways q
+        where
+          go : {o o′ : Outcome State} → Way o o′ → Edited F l o r t rb tb → (r .line .len ≤ l .line .len)
+              × (pos + (l .line .len - r .line .len) ≤ l .line .len) × Edited F l o′
+              (record { number = 0; from = pos; to = pos + (l .line .len - r .line .len); line = r .line; log = r .log }) t rb tb
+          go (alike o k) e = absurd (k (sym (number-is o e) ∙ z))
+          go (between a b s x y z w) e =
+              let g : r .line .len ≡ length (s .text) = ap (λ (i : EditAnswer). i .line .len) (e .answer) in
+              let f : pos + (l .line .len - r .line .len) ≡ b = omega arith in (
+                omega arith,
+                omega arith,
+                record {
+                  answer = ap₂ (λ (i j : ℕ). record { number = 0; from = i; to = j; line = r .line; log = r .log }) (sym x) f
+                      ∙ ap (λ (i : EditAnswer). record { number = 0; from = a; to = b; line = i .line; log = i .log }) (e .answer);
+                  bytes = e .bytes;
+                },
+              )

@@ -1,3 +1,4 @@
 pub mod Ranges
 pub mod Suits
 pub mod Deleted
+pub mod Cuts

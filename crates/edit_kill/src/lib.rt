@@ -4,13 +4,15 @@
 ghost use mathlib.Core.Path.{_≡_};
 ghost use mathlib.Core.Bool.{true};
 ghost use Prim.Native.Nat.{_≤_};
-ghost use lib.ListN.{length};
+ghost use lib.ListN.{length, take};
 ghost use Rattle.utf8.specs.Chars.{valid, boundary};
 ghost use Rattle.unicode.specs.Repertoire.{catalogue};
-ghost use Rattle.edit.specs.Calls.{lent, Answers};
+ghost use Rattle.keymap.specs.declared.Movement.the-variants.{ForwardChar};
+ghost use Rattle.log_records.specs.Walks.{LastAt};
+ghost use Rattle.edit.specs.Calls.{lent, Ready, Answers, Makes};
 ghost use Rattle.edit_kill.specs.Kills.{killLine, discardLine, killRange, killOf, killCall, deleteCall, killLineCall, killBufferCall};
 ghost use Rattle.edit_kill.specs.Kills.{discardLineCall, discardBufferCall, backspaceCall, deletePrevWordCall, deleteWordCall};
-ghost use Rattle.edit_kill.specs.Kills.{deleteToCall};
+ghost use Rattle.edit_kill.specs.Kills.{deleteToCall, cutPlan, placesPlan};
 use checks::Line;
 use edit::EditAnswer;
 use edit::Own;
@@ -18,6 +20,7 @@ use edit::check;
 use edit::cut_out;
 use edit::refusal;
 use edit::says;
+use formats::Format;
 use formats::format_for;
 use keymap::Movement;
 use keymap::MovementCode;
@@ -87,6 +90,32 @@ fn kill_range(s: &[u8], pos: usize, m: Movement) -> Range
     }
 }
 
+// kill of a movement, where the checks have passed. The newest record begins at last.
+pub fn kill_checked(
+    f: Format,
+    text: &mut [u8],
+    records: &mut [u8],
+    texts: &mut [u8],
+    line: Line,
+    log: Log,
+    last: usize,
+    m: Movement,
+) -> EditAnswer
+    requires { ⌜ Ready f (lent (now text) (now records) (now texts) line log) ⌝ }
+    requires { ⌜ LastAt catalogue f (take (log .undo .records) (now records)) last ⌝ }
+    ensures { λ r. ⌜ Makes f (lent (now (text .entry)) (now (records .entry)) (now (texts .entry)) line log)
+        (cutPlan (line .cursor) (killRange catalogue (take (line .len) (now (text .entry))) (line .cursor) m))
+        r (now (text .exit)) (now (records .exit)) (now (texts .exit)) ⌝ }
+{
+    let len = line.len;
+    let cursor = line.cursor;
+    let r = kill_range(&text[..len], cursor, m);
+    match r {
+        Range::Places(a, b) => cut_out(f, text, records, texts, line, log, last, a, b),
+        Range::Nowhere => says(1, line, log),
+    }
+}
+
 // kill of a movement.
 pub fn kill_movement(
     text: &mut [u8],
@@ -112,13 +141,7 @@ pub fn kill_movement(
         return says(c.number, line, log);
     }
     let newest = c.newest;
-    let len = line.len;
-    let cursor = line.cursor;
-    let r = kill_range(&text[..len], cursor, m);
-    match r {
-        Range::Places(a, b) => cut_out(f, text, records, texts, line, log, newest.last, a, b),
-        Range::Nowhere => says(1, line, log),
-    }
+    kill_checked(f, text, records, texts, line, log, newest.last, m)
 }
 
 // Wrong answers ruled out: a kill of ViFirstPrint that cuts; WholeLine from the cursor on.
@@ -274,19 +297,33 @@ pub fn delete_to(
     kill(text, records, texts, line, log, 5, n, 0, 0, search, ch)
 }
 
-// Wrong answers ruled out: the cursor twice for the two places; places where nothing was cut.
-pub fn delete(
+// delete, where the checks have passed: the cut of ForwardChar, and its two places. The newest record begins at last.
+pub fn delete_checked(
+    f: Format,
     text: &mut [u8],
     records: &mut [u8],
     texts: &mut [u8],
     line: Line,
     log: Log,
+    last: usize,
     n: RepeatCount,
 ) -> EditAnswer
-    ensures { λ r. ⌜ Answers (lent (now (text .entry)) (now (records .entry)) (now (texts .entry)) line log) (λ F l. deleteCall catalogue F l n)
+    requires { ⌜ Ready f (lent (now text) (now records) (now texts) line log) ⌝ }
+    requires { ⌜ LastAt catalogue f (take (log .undo .records) (now records)) last ⌝ }
+    ensures { λ r. ⌜ Makes f (lent (now (text .entry)) (now (records .entry)) (now (texts .entry)) line log)
+        (placesPlan (line .cursor) (killRange catalogue (take (line .len) (now (text .entry))) (line .cursor) (ForwardChar n)))
         r (now (text .exit)) (now (records .exit)) (now (texts .exit)) ⌝ }
 {
-    let a = kill_movement(text, records, texts, line, log, Movement::ForwardChar(n));
+    let a = kill_checked(
+        f,
+        text,
+        records,
+        texts,
+        line,
+        log,
+        last,
+        Movement::ForwardChar(n),
+    );
     if a.number != 0 {
         return a;
     }
@@ -300,4 +337,25 @@ pub fn delete(
         line: left,
         log,
     }
+}
+
+// Wrong answers ruled out: the cursor twice for the two places; places where nothing was cut.
+pub fn delete(
+    text: &mut [u8],
+    records: &mut [u8],
+    texts: &mut [u8],
+    line: Line,
+    log: Log,
+    n: RepeatCount,
+) -> EditAnswer
+    ensures { λ r. ⌜ Answers (lent (now (text .entry)) (now (records .entry)) (now (texts .entry)) line log) (λ F l. deleteCall catalogue F l n)
+        r (now (text .exit)) (now (records .exit)) (now (texts .exit)) ⌝ }
+{
+    let f = format_for(text.len());
+    let c = check(f, text, records, texts, line, log, Own::none());
+    if c.number != 0 {
+        return says(c.number, line, log);
+    }
+    let newest = c.newest;
+    delete_checked(f, text, records, texts, line, log, newest.last, n)
 }
