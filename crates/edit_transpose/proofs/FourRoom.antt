@@ -1,17 +1,15 @@
--- Two words put in for each other: the dry run of the four changes, and the changes one by one. Assumes nothing.
+-- Two words put in for each other: the dry run of the four changes. Assumes nothing.
 use Prim.Native.Nat.{ℕ, _-_, _≤_}
 use native.Mathlib.Omega.{arith}
 use mathlib.Core.Path.{_≡_, sym, ap, subst, _∙_}
 use mathlib.Core.Bool.{Bool, true, false}
-use mathlib.Core.List.{List, [], _∷_}
+use mathlib.Core.List.{List}
 use lib.ListN.{length}
 use Rattle.lists.specs.Lists.{part}
 use Rattle.lists.proofs.Bools.{by-less, never}
 use Rattle.numbers.specs.Numbers.{top}
 use Rattle.numbers.proofs.Read.{top-max}
-use Rattle.utf8.specs.Chars.{In}
 use Rattle.unicode.specs.Repertoire.{catalogue}
-use Rattle.unicode.specs.Text.{isText}
 use Rattle.cluster.specs.Clusters.{clustersOf}
 use Rattle.formats.specs.declared.Format.{Format}
 use Rattle.formats.specs.Formats.{textMax}
@@ -19,17 +17,15 @@ use Rattle.log_model.specs.Change.{Change}
 use Rattle.log_model.specs.Recording.{isSingle}
 use Rattle.log_model.specs.UndoBytes.{fits}
 use Rattle.log_recording.specs.Tails.{tailOf, InRange}
-use Rattle.edit.specs.declared.EditAnswer.{EditAnswer}
 use Rattle.edit.specs.declared.Room.{Room}
-use Rattle.edit.specs.Plan.{cutting, pasted, recorded, Plan, once, listAfter, tooLong, edited}
-use Rattle.edit.specs.Calls.{Lent, lent, textOf, sizesOf, stateOf, Edited, Ready}
+use Rattle.edit.specs.Plan.{cutting, pasted, recorded, listAfter, tooLong}
+use Rattle.edit.specs.Calls.{Lent, textOf, sizesOf, stateOf, Ready}
 use Rattle.edit.specs.Room.{roomCut, roomPut}
 use Rattle.edit.proofs.Answers.{length-kept}
 use Rattle.edit.proofs.Rooms.{Roomy, dry-now, dry-in-range, dry-cut, dry-put}
-use Rattle.edit.proofs.Underway.{Underway, begins, goes-on, ends, next-suits}
 use Rattle.edit_transpose.specs.declared.Words.{Words}
 use Rattle.edit_transpose.specs.WordPairs.{wordsPlan, Apart}
-use Rattle.edit_transpose.proofs.Four.{m1, m2, m3, text1, text2, size1, size2, long1, long2, long3, in1, in2, in3, is1, is2, is3, part2, words-suit, words-long}
+use Rattle.edit_transpose.proofs.Four.{m1, m2, m3, text1, text2, size1, size2, long1, long2, long3, in1, in2, in3, is1, is2, is3, part2, words-long}
 
 module _ (F : Format) (l : Lent) (h : Ready F l) (w : Words) (p : Apart (textOf l) w) where
   abbrev t : List ℕ
@@ -120,61 +116,3 @@ module _ (F : Format) (l : Lent) (h : Ready F l) (w : Words) (p : Apart (textOf 
                 (ap (λ (n : ℕ). roomPut F (sizesOf l) (w .beg1) n r3) (size2 catalogue t (h .text) w p) ∙ sym e4)
                 (dry-put F l h u3 r3 roomy3 (m3 catalogue t (h .text) w p) (is3 catalogue t (h .text) w p)
                 (omega (arith, long3 catalogue t (h .text) w p, text-within)) (w .beg1) w2 (in3 catalogue t (h .text) w p, text2 catalogue t (h .text) w p) .fit)
-
-    -- ---- the changes one by one
-    module _ (room : fits F (sizesOf l) (listAfter catalogue (wordsPlan t w .changes) t u) ≡ true) where
-      abbrev plan : Plan
-      plan = wordsPlan t w
-
-      left0 : Underway F l plan (plan .changes) l
-      left0 = begins F l plan h (words-suit catalogue t (h .text) w p) short room
-
-      module _ (r₁ : EditAnswer) (t₁ rb₁ tb₁ : List ℕ) (q₁ : Edited F l
-          (edited catalogue F (sizesOf l) C (once (cutting (w .beg2) (w .end2)) (w .beg2)) (stateOf catalogue F l)) r₁ t₁ rb₁ tb₁)
-          (a₁ : length t₁ ≡ length (l .text)) (b₁ : length rb₁ ≡ length (l .records)) (c₁ : length tb₁ ≡ length (l .texts)) where
-        abbrev l₁ : Lent
-        l₁ = lent t₁ rb₁ tb₁ (r₁ .line) (r₁ .log)
-
-        pub left1 : Underway F l plan (pasted (w .beg2) w1 ∷ cutting (w .beg1) (w .end1) ∷ pasted (w .beg1) w2 ∷ []) l₁
-        left1 = goes-on F l plan (cutting (w .beg2) (w .end2)) _ l left0 r₁ t₁ rb₁ tb₁ q₁ a₁ b₁ c₁
-
-        pub put1 : (In (textOf l₁) (w .beg2) (w .beg2)) × (isText catalogue w1 ≡ true)
-        put1 = next-suits F l plan (pasted (w .beg2) w1) _ l₁ left1
-
-        module _ (f : List ℕ) (ef : f ≡ w1) (r₂ : EditAnswer) (t₂ rb₂ tb₂ : List ℕ)
-            (q₂ : Edited F l₁ (edited catalogue F (sizesOf l₁) (length t₁) (once (pasted (w .beg2) f) (w .beg2)) (stateOf catalogue F l₁)) r₂ t₂ rb₂ tb₂)
-            (a₂ : length t₂ ≡ length t₁) (b₂ : length rb₂ ≡ length rb₁) (c₂ : length tb₂ ≡ length tb₁) where
-          abbrev l₂ : Lent
-          l₂ = lent t₂ rb₂ tb₂ (r₂ .line) (r₂ .log)
-
-          pub left2 : Underway F l plan (cutting (w .beg1) (w .end1) ∷ pasted (w .beg1) w2 ∷ []) l₂
-          left2 =
-              goes-on F l plan (pasted (w .beg2) w1) _ l₁ left1 r₂ t₂ rb₂ tb₂
-              (subst (λ (s : List ℕ). Edited F l₁ (edited catalogue F (sizesOf l₁) (length t₁) (once (pasted (w .beg2) s) (w .beg2))
-              (stateOf catalogue F l₁)) r₂ t₂ rb₂ tb₂) ef q₂) a₂ b₂ c₂
-
-          pub cut2 : In (textOf l₂) (w .beg1) (w .end1)
-          cut2 = next-suits F l plan (cutting (w .beg1) (w .end1)) _ l₂ left2
-
-          module _ (r₃ : EditAnswer) (t₃ rb₃ tb₃ : List ℕ) (q₃ : Edited F l₂
-              (edited catalogue F (sizesOf l₂) (length t₂) (once (cutting (w .beg1) (w .end1)) (w .beg1)) (stateOf catalogue F l₂)) r₃ t₃ rb₃ tb₃)
-              (a₃ : length t₃ ≡ length t₂) (b₃ : length rb₃ ≡ length rb₂) (c₃ : length tb₃ ≡ length tb₂) where
-            abbrev l₃ : Lent
-            l₃ = lent t₃ rb₃ tb₃ (r₃ .line) (r₃ .log)
-
-            pub left3 : Underway F l plan (pasted (w .beg1) w2 ∷ []) l₃
-            left3 = goes-on F l plan (cutting (w .beg1) (w .end1)) _ l₂ left2 r₃ t₃ rb₃ tb₃ q₃ a₃ b₃ c₃
-
-            pub put3 : (In (textOf l₃) (w .beg1) (w .beg1)) × (isText catalogue w2 ≡ true)
-            put3 = next-suits F l plan (pasted (w .beg1) w2) _ l₃ left3
-
-            pub all-put : (s : List ℕ) → s ≡ w2 → (r₄ : EditAnswer) (t₄ rb₄ tb₄ : List ℕ)
-                → Edited F l₃ (edited catalogue F (sizesOf l₃) (length t₃) (once (pasted (w .beg1) s) (w .beg1)) (stateOf catalogue F l₃)) r₄ t₄ rb₄ tb₄
-                → length t₄ ≡ length t₃ → length rb₄ ≡ length rb₃ → length tb₄ ≡ length tb₃
-                → Edited F l (edited catalogue F (sizesOf l) C plan (stateOf catalogue F l))
-                (record { number = 0; from = 0; to = 0; line = record { len = r₄ .line .len; cursor = w .end2 }; log = r₄ .log }) t₄ rb₄ tb₄
-            all-put s es r₄ t₄ rb₄ tb₄ q₄ a₄ b₄ c₄ =
-                ends F l plan (lent t₄ rb₄ tb₄ (r₄ .line) (r₄ .log))
-                (goes-on F l plan (pasted (w .beg1) w2) [] l₃ left3 r₄ t₄ rb₄ tb₄
-                (subst (λ (y : List ℕ). Edited F l₃ (edited catalogue F (sizesOf l₃) (length t₃) (once (pasted (w .beg1) y) (w .beg1))
-                (stateOf catalogue F l₃)) r₄ t₄ rb₄ tb₄) es q₄) a₄ b₄ c₄)

@@ -51,7 +51,8 @@ returns-2 c =
     let after-delete-checked = c.before.before.before.before.before.before in
     let else1 = after-delete-checked.before.before.before.before.before in
     let k = else1.before.before in
-    call-made (lending k) _ (plan k) k.before.before.before.before.before.format-for.ensures (number k) else1.if1.left refl after-delete-checked.delete-checked.ensures
+    call-made (lending k) _ (plan k) k.before.before.before.before.before.format-for.ensures (number k) else1.if1.left
+    refl after-delete-checked.delete-checked.ensures
 
 pub delete-spec : {M : Type 1} → statement M
 delete-spec =

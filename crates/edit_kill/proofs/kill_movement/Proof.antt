@@ -55,7 +55,8 @@ returns-2 c =
     let after-kill-checked = c.before.before.before.before.before.before in
     let else1 = after-kill-checked.before.before.before.before.before in
     let k = else1.before.before in
-    call-made (lending k) _ (plan k) k.before.before.before.before.format-for.ensures (number k) else1.if1.left refl after-kill-checked.kill-checked.ensures
+    call-made (lending k) _ (plan k) k.before.before.before.before.format-for.ensures (number k) else1.if1.left refl
+    after-kill-checked.kill-checked.ensures
 
 pub kill-movement-spec : {M : Type 1} → statement M
 kill-movement-spec =
