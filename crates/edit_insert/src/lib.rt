@@ -4,9 +4,10 @@ ghost use mathlib.Core.Path.{_≡_};
 ghost use Prim.Native.Nat.{_+_, _-_, _*_, _≤_};
 ghost use Rattle.unicode.specs.Repertoire.{catalogue};
 ghost use Rattle.edit.specs.Calls.{lent, Ready, Answers, Makes};
-ghost use Rattle.edit_insert.specs.Inserts.{emptyIs, insertCall, yankCall, yankPopCall, updateCall};
+ghost use Rattle.edit_insert.specs.Inserts.{emptyIs, insertPlan, insertCall, yankPlan, yankCall, yankPopPlan, yankPopCall, updateCall};
 ghost use mathlib.Core.Bool.{true};
 ghost use lib.ListN.{length, take};
+ghost use Rattle.utf8.specs.Chars.{boundary};
 ghost use Rattle.utf8.specs.Encode.{encode};
 ghost use Rattle.unicode.specs.Text.{isText, isChar};
 ghost use Rattle.formats.specs.Formats.{textMax};
@@ -130,6 +131,34 @@ pub fn put_copies(
     says(0, made, noted)
 }
 
+// insert, where the checks have passed. The newest record begins at last.
+pub fn insert_checked(
+    f: Format,
+    text: &mut [u8],
+    records: &mut [u8],
+    texts: &mut [u8],
+    line: Line,
+    log: Log,
+    last: usize,
+    ch: u32,
+    n: RepeatCount,
+) -> EditAnswer
+    requires { ⌜ Ready f (lent (now text) (now records) (now texts) line log) ⌝ }
+    requires { ⌜ LastAt catalogue f (take (log .undo .records) (now records)) last ⌝ }
+    requires { ⌜ isChar catalogue ch ≡ true ⌝ }
+    ensures { λ r. ⌜ Makes f (lent (now (text .entry)) (now (records .entry)) (now (texts .entry)) line log)
+        (insertPlan (line .cursor) ch n)
+        r (now (text .exit)) (now (records .exit)) (now (texts .exit)) ⌝ }
+{
+    let mut buf = [0u8; 4];
+    let size = encode_at(&mut buf, 0, ch);
+    let s = &buf[..size];
+    if n == 1 {
+        return type_char(f, text, records, texts, line, log, last, ch, s);
+    }
+    put_copies(f, text, records, texts, line, log, last, s, n as usize)
+}
+
 // Wrong answers ruled out: n = 0 that keeps the redo list; two characters merged as if they were typed.
 pub fn insert(
     text: &mut [u8],
@@ -155,24 +184,34 @@ pub fn insert(
     if c.number != 0 {
         return says(c.number, line, log);
     }
-    let mut buf = [0u8; 4];
-    let size = encode_at(&mut buf, 0, ch);
-    let s = &buf[..size];
     let newest = c.newest;
-    if n == 1 {
-        return type_char(f, text, records, texts, line, log, newest.last, ch, s);
+    insert_checked(f, text, records, texts, line, log, newest.last, ch, n)
+}
+
+// yank, where the checks have passed. The newest record begins at last.
+pub fn yank_checked(
+    f: Format,
+    text: &mut [u8],
+    records: &mut [u8],
+    texts: &mut [u8],
+    line: Line,
+    log: Log,
+    last: usize,
+    buf: &[u8],
+    n: RepeatCount,
+) -> EditAnswer
+    requires { ⌜ Ready f (lent (now text) (now records) (now texts) line log) ⌝ }
+    requires { ⌜ LastAt catalogue f (take (log .undo .records) (now records)) last ⌝ }
+    requires { ⌜ isText catalogue (now buf) ≡ true ⌝ }
+    requires { ⌜ length (now buf) ≤ length (now text) ⌝ }
+    ensures { λ r. ⌜ Makes f (lent (now (text .entry)) (now (records .entry)) (now (texts .entry)) line log)
+        (yankPlan (line .cursor) (now (buf .entry)) n)
+        r (now (text .exit)) (now (records .exit)) (now (texts .exit)) ⌝ }
+{
+    if buf.len() == 0 {
+        return says(1, line, log);
     }
-    put_copies(
-        f,
-        text,
-        records,
-        texts,
-        line,
-        log,
-        newest.last,
-        s,
-        n as usize,
-    )
+    put_copies(f, text, records, texts, line, log, last, buf, n as usize)
 }
 
 // Wrong answers ruled out: an empty text answered 0; 10 where n copies pass the text's room (9).
@@ -201,20 +240,7 @@ pub fn yank(
         return says(c.number, line, log);
     }
     let newest = c.newest;
-    if buf.len() == 0 {
-        return says(1, line, log);
-    }
-    put_copies(
-        f,
-        text,
-        records,
-        texts,
-        line,
-        log,
-        newest.last,
-        buf,
-        n as usize,
-    )
+    yank_checked(f, text, records, texts, line, log, newest.last, buf, n)
 }
 
 // The place so many bytes before another, 0 where there are not so many.
@@ -235,6 +261,48 @@ fn empty_is(s: &[u8]) -> u32
         return 1;
     }
     0
+}
+
+// yank_pop, where the checks have passed. The newest record begins at last.
+pub fn yank_pop_checked(
+    f: Format,
+    text: &mut [u8],
+    records: &mut [u8],
+    texts: &mut [u8],
+    line: Line,
+    log: Log,
+    last: usize,
+    size: usize,
+    buf: &[u8],
+) -> EditAnswer
+    requires { ⌜ Ready f (lent (now text) (now records) (now texts) line log) ⌝ }
+    requires { ⌜ LastAt catalogue f (take (log .undo .records) (now records)) last ⌝ }
+    requires { ⌜ isText catalogue (now buf) ≡ true ⌝ }
+    requires { ⌜ length (now buf) ≤ length (now text) ⌝ }
+    requires { ⌜ size ≤ line .cursor ⌝ }
+    requires { ⌜ boundary (take (line .len) (now text)) (line .cursor - size) ≡ true ⌝ }
+    ensures { λ r. ⌜ Makes f (lent (now (text .entry)) (now (records .entry)) (now (texts .entry)) line log)
+        (yankPopPlan (line .cursor) size (now (buf .entry)))
+        r (now (text .exit)) (now (records .exit)) (now (texts .exit)) ⌝ }
+{
+    let pos = line.cursor;
+    let at = pos - size;
+    let number = empty_is(buf);
+    cut_and_put(
+        f,
+        text,
+        records,
+        texts,
+        line,
+        log,
+        last,
+        at,
+        pos,
+        at,
+        buf,
+        at + buf.len(),
+        number,
+    )
 }
 
 // Wrong answers ruled out: an empty text that leaves the old one; a size over the cursor held at 0.
@@ -267,22 +335,7 @@ pub fn yank_pop(
         return says(c.number, line, log);
     }
     let newest = c.newest;
-    let number = empty_is(buf);
-    cut_and_put(
-        f,
-        text,
-        records,
-        texts,
-        line,
-        log,
-        newest.last,
-        at,
-        pos,
-        at,
-        buf,
-        at + buf.len(),
-        number,
-    )
+    yank_pop_checked(f, text, records, texts, line, log, newest.last, size, buf)
 }
 
 // Wrong answers ruled out: the new cursor tried against the old text; the old text and the new one in one Replace record.

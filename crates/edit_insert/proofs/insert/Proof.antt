@@ -1,153 +1,67 @@
+use mathlib.Core.Path.{_≡_, refl, _∙_}
+use mathlib.Core.Bool.{true, false, not}
+use denote.Ref.{now}
+use Rattle.unicode.specs.Repertoire.{catalogue}
+use Rattle.unicode.specs.Text.{isChar}
+use Rattle.checks.specs.Checks.{ownTests}
 use Rattle.log_records.proofs.Walks.{newest-last}
 use Rattle.formats.specs.declared.Format.{Format}
 use Rattle.formats.proofs.Formats.{fit-for}
-use Rattle.edit.proofs.Formats.{in-format}
-use Rattle.edit_insert.specs.Inserts.{insertCall}
-use native.Mathlib.Omega.{arith}
-use mathlib.Core.Path.{sym, ap, _∙_}
-use lib.ListN.{length, take}
-use lib.Seq.{length-take-le}
-use denote.Ref.{now}
-use Rattle.unicode.specs.Repertoire.{catalogue}
-use Rattle.unicode.specs.Text.{isText}
-use Rattle.edit.specs.Calls.{lent}
-use Rattle.utf8.proofs.Encode.{encode-max}
-use Rattle.unicode.proofs.Typed.{typed-text, typed-within, typed-bytes}
-use Rattle.edit_insert.proofs.Calls.{insert-char, insert-refused, insert-one, insert-many}
+use Rattle.edit.specs.Plan.{Plan}
+use Rattle.edit.specs.Calls.{Lent, lent, checked}
+use Rattle.edit.proofs.Called.{call-refused, call-made}
+use Rattle.edit_insert.specs.Inserts.{insertPlan}
+use Rattle.edit_insert.proofs.Calls.{as-char, char-passed}
 use borrow.Author.Needs.{needs}
 use Rattle.edit_insert.proofs.insert.Statement.{statement}
 use Rattle.edit_insert.proofs.insert.Tie as tie
 
+-- ---- where the check is made: the format, what is lent, the plan, and the number
+abbrev format : tie.After-check → Format
+format c = c.before.before.before.before.format-for.result
+
+abbrev start : tie.After-check → tie.Start
+start c = c.before.before.before.before.before.before.before.before.before
+
+abbrev lending : tie.After-check → Lent
+lending c = let a = start c .args in lent (now a.text) (now a.records) (now a.texts) a.line a.log
+
+abbrev plan : tie.After-check → Plan
+plan c = let a = start c .args in insertPlan a.line.cursor a.ch a.n
+
+number : (c : tie.After-check)
+    → checked catalogue (format c) (lending c) (ownTests false (not (isChar catalogue (start c .args .ch))) false)
+    ≡ c.check.result.number
+number c =
+    as-char (format c) (lending c) (start c .args .ch) c.check.ensures.0 c.before.before.before.before.before.check-char.ensures
+
+-- ---- where it has passed
+is-char : (c : tie.Else1) → isChar catalogue (start c.before.before .args .ch) ≡ true
+is-char c = let k = c.before.before in char-passed (format k) (lending k) (start k .args .ch) (number k ∙ c.if1.left)
+
 check-requires : tie.Need-check-requires
-check-requires c κs =
-    let after-format-for = c.before.before.before in
-    fit-for _ after-format-for.format-for.ensures
+check-requires c κs = fit-for _ c.before.before.before.format-for.ensures
 
 returns : tie.Need-returns
 returns c =
-    let after-check = c.before.before.before in
-    let after-format-for = after-check.before.before.before.before in
-    let after-check-char = after-format-for.before in
-    let entry = after-check-char.before.before.before.before in
-    let a = entry.args in
-    let l = lent (now a.text) (now a.records) (now a.texts) a.line a.log in
-    in-format l (λ (F : Format). insertCall catalogue F l a.ch a.n) after-format-for.format-for.ensures
-    (insert-refused after-format-for.format-for.result l a.ch a.n after-check.check.result.number after-check-char.check-char.result
-    after-check.check.ensures.0 after-check-char.check-char.ensures c.before.if1.taken _ c.says.ensures)
+    let k = c.before.before.before in
+    call-refused (lending k) _ (plan k) k.before.before.before.before.format-for.ensures (number k) c.before.if1.taken c.says.ensures
 
-array-share-prefix-buf : tie.Need-array-share-prefix-buf
-array-share-prefix-buf c =
-    let after-encode-at = c.before in
-    let else1 = after-encode-at.before.before in
-    let after-check = else1.before.before in
-    let after-format-for = after-check.before.before.before.before in
-    let after-check-char = after-format-for.before in
-    let entry = after-check-char.before.before.before.before in
-    let a = entry.args in
-    typed-within a.ch
-    (insert-char after-format-for.format-for.result (lent (now a.text) (now a.records) (now a.texts) a.line a.log) a.ch a.n
-    after-check.check.result.number after-check-char.check-char.result after-check.check.ensures.0 after-check-char.check-char.ensures
-    else1.if1.left) _ after-encode-at.encode-at.last.0 after-encode-at.encode-at.result (omega arith) after-encode-at.encode-at.ensures
-
-slice-aggregate-s : tie.Need-slice-aggregate-s
-slice-aggregate-s c =
-    let after-encode-at = c.before.before in
-    let else1 = after-encode-at.before.before in
-    let after-check = else1.before.before in
-    let after-format-for = after-check.before.before.before.before in
-    let after-check-char = after-format-for.before in
-    let entry = after-check-char.before.before.before.before in
-    let a = entry.args in
-    sym
-    (length-take-le _ _
-    (typed-within a.ch
-    (insert-char after-format-for.format-for.result (lent (now a.text) (now a.records) (now a.texts) a.line a.log) a.ch a.n
-    after-check.check.result.number after-check-char.check-char.result after-check.check.ensures.0 after-check-char.check-char.ensures
-    else1.if1.left) _ after-encode-at.encode-at.last.0 after-encode-at.encode-at.result (omega arith) after-encode-at.encode-at.ensures))
-
-type-char-requires : tie.Need-type-char-requires
-type-char-requires c κs =
-    let after-encode-at = c.before.before.before.before.before.before.before in
-    let else1 = after-encode-at.before.before in
-    let after-check = else1.before.before in
-    let after-format-for = after-check.before.before.before.before in
-    let after-check-char = after-format-for.before in
-    let entry = after-check-char.before.before.before.before in
-    let a = entry.args in
-    let insert-char1 = insert-char after-format-for.format-for.result (lent (now a.text) (now a.records) (now a.texts) a.line a.log) a.ch
-    a.n after-check.check.result.number after-check-char.check-char.result after-check.check.ensures.0 after-check-char.check-char.ensures
-    else1.if1.left in (
-      after-check.check.ensures.1.0 else1.if1.left,
-      (
-        newest-last catalogue after-format-for.format-for.result _ _ (after-check.check.ensures.1.1 else1.if1.left),
-        (
-          insert-char1,
-          typed-bytes a.ch insert-char1 _ after-encode-at.encode-at.last.0 after-encode-at.encode-at.result (omega arith)
-              after-encode-at.encode-at.ensures,
-        ),
-      ),
+insert-checked-requires : tie.Need-insert-checked-requires
+insert-checked-requires c κs =
+    let else1 = c.before.before.before.before in
+    let k = else1.before.before in (
+      k.check.ensures.1.0 else1.if1.left,
+      (newest-last catalogue (format k) _ _ (k.check.ensures.1.1 else1.if1.left), is-char else1),
     )
 
 returns-2 : tie.Need-returns-2
 returns-2 c =
-    let after-type-char = c.before.before.before.before.before.before in
-    let then2 = after-type-char.before.before.before.before in
-    let else1 = then2.before.before.before.before.before.before in
-    let after-check = else1.before.before in
-    let after-format-for = after-check.before.before.before.before in
-    let after-check-char = after-format-for.before in
-    let entry = after-check-char.before.before.before.before in
-    let a = entry.args in
-    let l = lent (now a.text) (now a.records) (now a.texts) a.line a.log in
-    in-format l (λ (F : Format). insertCall catalogue F l a.ch a.n) after-format-for.format-for.ensures
-    (insert-one after-format-for.format-for.result l a.ch a.n after-check.check.result.number after-check-char.check-char.result
-    after-check.check.ensures.0 after-check-char.check-char.ensures else1.if1.left _ _ _ _ then2.if2.taken
-    after-type-char.type-char.ensures)
-
-put-copies-requires : tie.Need-put-copies-requires
-put-copies-requires c κs =
-    let after-encode-at = c.before.before.before.before.before.before.before in
-    let else1 = after-encode-at.before.before in
-    let after-check = else1.before.before in
-    let after-format-for = after-check.before.before.before.before in
-    let after-check-char = after-format-for.before in
-    let entry = after-check-char.before.before.before.before in
-    let a = entry.args in
-    let insert-char1 = insert-char after-format-for.format-for.result (lent (now a.text) (now a.records) (now a.texts) a.line a.log) a.ch
-    a.n after-check.check.result.number after-check-char.check-char.result after-check.check.ensures.0 after-check-char.check-char.ensures
-    else1.if1.left in
-    let typed-bytes1 = typed-bytes a.ch insert-char1 _ after-encode-at.encode-at.last.0 after-encode-at.encode-at.result (omega arith)
-    after-encode-at.encode-at.ensures in (
-      after-check.check.ensures.1.0 else1.if1.left,
-      (
-        newest-last catalogue after-format-for.format-for.result _ _ (after-check.check.ensures.1.1 else1.if1.left),
-        (
-          ap (isText catalogue) typed-bytes1 ∙ typed-text a.ch insert-char1,
-          (omega (arith, ap length typed-bytes1, encode-max a.ch), omega arith),
-        ),
-      ),
-    )
-
-returns-3 : tie.Need-returns-3
-returns-3 c =
-    let after-put-copies = c.before.before.before.before.before.before in
-    let else2 = after-put-copies.before.before.before.before in
-    let after-encode-at = else2.before.before.before.before in
-    let else1 = after-encode-at.before.before in
-    let after-check = else1.before.before in
-    let after-format-for = after-check.before.before.before.before in
-    let after-check-char = after-format-for.before in
-    let entry = after-check-char.before.before.before.before in
-    let a = entry.args in
-    let l = lent (now a.text) (now a.records) (now a.texts) a.line a.log in
-    in-format l (λ (F : Format). insertCall catalogue F l a.ch a.n) after-format-for.format-for.ensures
-    (insert-many after-format-for.format-for.result l a.ch a.n after-check.check.result.number after-check-char.check-char.result
-    after-check.check.ensures.0 after-check-char.check-char.ensures else1.if1.left _ _ _ _ else2.if2.left
-    (take after-encode-at.encode-at.result after-encode-at.encode-at.last.0)
-    (typed-bytes a.ch
-    (insert-char after-format-for.format-for.result l a.ch a.n after-check.check.result.number after-check-char.check-char.result
-    after-check.check.ensures.0 after-check-char.check-char.ensures else1.if1.left) _ after-encode-at.encode-at.last.0
-    after-encode-at.encode-at.result (omega arith) after-encode-at.encode-at.ensures) after-put-copies.put-copies.ensures)
+    let after-insert-checked = c.before.before.before.before.before.before in
+    let else1 = after-insert-checked.before.before.before.before.before in
+    let k = else1.before.before in
+    call-made (lending k) _ (plan k) k.before.before.before.before.format-for.ensures (number k) else1.if1.left refl
+    after-insert-checked.insert-checked.ensures
 
 pub insert-spec : {M : Type 1} → statement M
 insert-spec =
@@ -161,17 +75,8 @@ insert-spec =
     (λ same-length-2. search needs)
     (λ same-length-3. search needs)
     returns
-    (λ slice-aggregate-encode-at. search needs)
-    (λ encode-at-requires κs. search needs)
-    array-share-prefix-buf
-    slice-aggregate-s
-    type-char-requires
+    insert-checked-requires
     (λ same-length-4. search needs)
     (λ same-length-5. search needs)
     (λ same-length-6. search needs)
-    returns-2
-    put-copies-requires
-    (λ same-length-7. search needs)
-    (λ same-length-8. search needs)
-    (λ same-length-9. search needs)
-    returns-3)
+    returns-2)

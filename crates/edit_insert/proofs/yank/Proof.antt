@@ -1,96 +1,70 @@
+use mathlib.Core.Path.{_≡_, refl, _∙_}
+use mathlib.Core.Bool.{true, false}
+use Prim.Native.Nat.{_≤_}
+use lib.ListN.{length}
+use denote.Ref.{now}
 use Rattle.unicode.specs.Repertoire.{catalogue}
+use Rattle.unicode.specs.Text.{isText}
 use Rattle.log_records.proofs.Walks.{newest-last}
 use Rattle.formats.specs.declared.Format.{Format}
 use Rattle.formats.proofs.Formats.{fit-for}
-use Rattle.edit.proofs.Formats.{in-format}
-use Rattle.edit_insert.specs.Inserts.{yankCall}
-use native.Mathlib.Omega.{arith}
-use mathlib.Core.Bool.{false}
-use denote.Ref.{now}
-use Rattle.edit.specs.Calls.{lent}
-use Rattle.edit_insert.proofs.Calls.{as-text, text-passed, yank-refused, yank-none, yank-some}
+use Rattle.edit.specs.Plan.{Plan}
+use Rattle.edit.specs.Calls.{Lent, lent, checked}
+use Rattle.edit.proofs.Called.{call-refused, call-made}
+use Rattle.edit_insert.specs.Inserts.{yankPlan, textTests}
+use Rattle.edit_insert.proofs.Calls.{as-text, text-passed}
 use borrow.Author.Needs.{needs}
 use Rattle.edit_insert.proofs.yank.Statement.{statement}
 use Rattle.edit_insert.proofs.yank.Tie as tie
 
+-- ---- where the check is made: the format, what is lent, the plan, and the number
+abbrev format : tie.After-check → Format
+format c = c.before.before.before.before.format-for.result
+
+abbrev start : tie.After-check → tie.Start
+start c = c.before.before.before.before.before.before.before.before.before.before
+
+abbrev lending : tie.After-check → Lent
+lending c = let a = start c .args in lent (now a.text) (now a.records) (now a.texts) a.line a.log
+
+abbrev plan : tie.After-check → Plan
+plan c = let a = start c .args in yankPlan a.line.cursor (now a.buf) a.n
+
+number : (c : tie.After-check)
+    → let l = lending c in checked catalogue (format c) l (textTests catalogue (format c) l (now (start c .args .buf)) false false)
+    ≡ c.check.result.number
+number c =
+    as-text (format c) (lending c) (now (start c .args .buf)) false false c.check.ensures.0
+    c.before.before.before.before.before.check-text.ensures
+
+-- ---- where it has passed
+passed : (c : tie.Else1)
+    → let a = start c.before.before .args in (isText catalogue (now a.buf) ≡ true) × (length (now a.buf) ≤ length (now a.text))
+passed c = let k = c.before.before in text-passed (format k) (lending k) (now (start k .args .buf)) false false (number k ∙ c.if1.left)
+
 check-requires : tie.Need-check-requires
-check-requires c κs =
-    let after-format-for = c.before.before.before in
-    fit-for _ after-format-for.format-for.ensures
+check-requires c κs = fit-for _ c.before.before.before.format-for.ensures
 
 returns : tie.Need-returns
 returns c =
-    let after-check = c.before.before.before in
-    let after-format-for = c.before.before.before.before.before.before.before in
-    let after-check-text = after-format-for.before in
-    let entry = after-check-text.before.before.before.before.before in
-    let a = entry.args in
-    let l = lent (now a.text) (now a.records) (now a.texts) a.line a.log in
-    in-format l (λ (F : Format). yankCall catalogue F l (now a.buf) a.n) after-format-for.format-for.ensures
-    (yank-refused after-format-for.format-for.result l (now a.buf) a.n after-check.check.result.number
-    (as-text after-format-for.format-for.result l (now a.buf) false false after-check.check.result.number after-check-text.check-text.result
-    after-check.check.ensures.0 after-check-text.check-text.ensures) _ c.before.if1.taken c.says.ensures)
+    let k = c.before.before.before in
+    call-refused (lending k) _ (plan k) k.before.before.before.before.format-for.ensures (number k) c.before.if1.taken c.says.ensures
+
+yank-checked-requires : tie.Need-yank-checked-requires
+yank-checked-requires c κs =
+    let else1 = c.before.before.before.before in
+    let k = else1.before.before in (
+      k.check.ensures.1.0 else1.if1.left,
+      (newest-last catalogue (format k) _ _ (k.check.ensures.1.1 else1.if1.left), (passed else1 .0, passed else1 .1)),
+    )
 
 returns-2 : tie.Need-returns-2
 returns-2 c =
-    let else1 = c.before.before.before in
-    let after-check = c.before.before.before.before.before in
-    let after-format-for = after-check.before.before.before.before in
-    let after-check-text = after-format-for.before in
-    let entry = after-check-text.before.before.before.before.before in
-    let a = entry.args in
-    let l = lent (now a.text) (now a.records) (now a.texts) a.line a.log in
-    in-format l (λ (F : Format). yankCall catalogue F l (now a.buf) a.n) after-format-for.format-for.ensures
-    (yank-none after-format-for.format-for.result l (now a.buf) a.n after-check.check.result.number
-    (as-text after-format-for.format-for.result l (now a.buf) false false after-check.check.result.number after-check-text.check-text.result
-    after-check.check.ensures.0 after-check-text.check-text.ensures) _ else1.if1.left (after-check.check.ensures.1.0 else1.if1.left)
-    c.before.if2.taken c.says2.ensures)
-
-put-copies-requires : tie.Need-put-copies-requires
-put-copies-requires c κs =
-    let else1 = c.before.before.before.before.before in
-    let after-check = else1.before.before in
-    let after-format-for = after-check.before.before.before.before in
-    let after-check-text = after-format-for.before in
-    let entry = after-check-text.before.before.before.before.before in
-    let a = entry.args in
-    let text-passed1 = text-passed after-format-for.format-for.result (lent (now a.text) (now a.records) (now a.texts) a.line a.log)
-    (now a.buf) false false after-check.check.result.number after-check-text.check-text.result after-check.check.ensures.0
-    after-check-text.check-text.ensures else1.if1.left in (
-      after-check.check.ensures.1.0 else1.if1.left,
-      (
-        newest-last catalogue after-format-for.format-for.result _ _ (after-check.check.ensures.1.1 else1.if1.left),
-        (
-          text-passed1.0,
-          (
-            omega (
-              arith,
-              text-passed1.1,
-              after-check.check.ensures.1.0 else1.if1.left .limit,
-              after-check.check.ensures.1.0 else1.if1.left .log .fit .text,
-            ),
-            omega arith,
-          ),
-        ),
-      ),
-    )
-
-returns-3 : tie.Need-returns-3
-returns-3 c =
-    let after-put-copies = c.before.before.before.before.before.before in
-    let else2 = after-put-copies.before.before.before.before in
-    let else1 = else2.before.before in
-    let after-check = else1.before.before in
-    let after-format-for = after-check.before.before.before.before in
-    let after-check-text = after-format-for.before in
-    let entry = after-check-text.before.before.before.before.before in
-    let a = entry.args in
-    let l = lent (now a.text) (now a.records) (now a.texts) a.line a.log in
-    in-format l (λ (F : Format). yankCall catalogue F l (now a.buf) a.n) after-format-for.format-for.ensures
-    (yank-some after-format-for.format-for.result l (now a.buf) a.n after-check.check.result.number
-    (as-text after-format-for.format-for.result l (now a.buf) false false after-check.check.result.number after-check-text.check-text.result
-    after-check.check.ensures.0 after-check-text.check-text.ensures) _ else1.if1.left else2.if2.left _ _ _
-    after-put-copies.put-copies.ensures)
+    let after-yank-checked = c.before.before.before.before.before.before in
+    let else1 = after-yank-checked.before.before.before.before.before in
+    let k = else1.before.before in
+    call-made (lending k) _ (plan k) k.before.before.before.before.format-for.ensures (number k) else1.if1.left refl
+    after-yank-checked.yank-checked.ensures
 
 pub yank-spec : {M : Type 1} → statement M
 yank-spec =
@@ -104,13 +78,8 @@ yank-spec =
     (λ same-length-2. search needs)
     (λ same-length-3. search needs)
     returns
-    (λ says-requires-2 κs. search needs)
+    yank-checked-requires
     (λ same-length-4. search needs)
     (λ same-length-5. search needs)
     (λ same-length-6. search needs)
-    returns-2
-    put-copies-requires
-    (λ same-length-7. search needs)
-    (λ same-length-8. search needs)
-    (λ same-length-9. search needs)
-    returns-3)
+    returns-2)

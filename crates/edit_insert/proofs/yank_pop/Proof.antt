@@ -1,101 +1,82 @@
+use mathlib.Core.Path.{_≡_, refl, _∙_}
+use mathlib.Core.Bool.{true}
+use Prim.Native.Nat.{_-_, _≤_}
+use lib.ListN.{length}
+use denote.Ref.{now}
+use Rattle.utf8.specs.Chars.{boundary}
 use Rattle.unicode.specs.Repertoire.{catalogue}
+use Rattle.unicode.specs.Text.{isText}
 use Rattle.log_records.proofs.Walks.{newest-last}
 use Rattle.formats.specs.declared.Format.{Format}
 use Rattle.formats.proofs.Formats.{fit-for}
-use Rattle.edit.proofs.Formats.{in-format}
-use Rattle.edit_insert.specs.Inserts.{yankPopCall}
-use native.Mathlib.Omega.{arith}
-use denote.Ref.{now}
-use Rattle.edit.specs.Calls.{lent}
-use Rattle.edit_insert.proofs.Twice.{pop-refused, pop-short, pop-suits, pop-done}
+use Rattle.edit.specs.Plan.{Plan}
+use Rattle.edit.specs.Calls.{Lent, lent, textOf, checked}
+use Rattle.edit.proofs.Called.{call-refused, call-made}
+use Rattle.edit_insert.specs.Inserts.{yankPopPlan}
+use Rattle.edit_insert.proofs.Twice.{popTests, as-pop, pop-passed}
 use borrow.Author.Needs.{needs}
 use Rattle.edit_insert.proofs.yank_pop.Statement.{statement}
 use Rattle.edit_insert.proofs.yank_pop.Tie as tie
 
+-- ---- where the check is made: the format, what is lent, the plan, and the number
+abbrev format : tie.After-check → Format
+format c = c.before.before.before.before.format-for.result
+
+abbrev start : tie.After-check → tie.Start
+start c = c.before.before.before.before.before.before.before.before.before.before.before.before.before
+
+abbrev lending : tie.After-check → Lent
+lending c = let a = start c .args in lent (now a.text) (now a.records) (now a.texts) a.line a.log
+
+abbrev plan : tie.After-check → Plan
+plan c = let a = start c .args in yankPopPlan a.line.cursor a.size (now a.buf)
+
+number : (c : tie.After-check)
+    → let a = start c .args in checked catalogue (format c) (lending c) (popTests (format c) (lending c) a.size (now a.buf))
+    ≡ c.check.result.number
+number c =
+    let after-check-text = c.before.before.before.before.before in
+    let after-is-split = after-check-text.before in
+    let a = start c .args in
+    as-pop (format c) (lending c) a.size (now a.buf) after-is-split.before.before.back.ensures c.check.ensures.0
+    after-check-text.check-text.ensures after-is-split.is-split.ensures
+
+-- ---- where it has passed
+passed : (c : tie.Else1)
+    → let k = c.before.before in let a = start k .args in (isText catalogue (now a.buf) ≡ true)
+    × (length (now a.buf) ≤ length (now a.text)) × (a.size ≤ a.line.cursor)
+    × (boundary (textOf (lending k)) (a.line.cursor - a.size) ≡ true)
+passed c =
+    let k = c.before.before in
+    let a = start k .args in
+    pop-passed (format k) (lending k) a.size (now a.buf) (number k ∙ c.if1.left)
+
 check-requires : tie.Need-check-requires
-check-requires c κs =
-    let after-format-for = c.before.before.before in
-    fit-for _ after-format-for.format-for.ensures
+check-requires c κs = fit-for _ c.before.before.before.format-for.ensures
 
 returns : tie.Need-returns
 returns c =
-    let after-check = c.before.before.before in
-    let after-format-for = c.before.before.before.before.before.before.before in
-    let after-check-text = after-format-for.before in
-    let after-is-split = after-check-text.before in
-    let after-back = after-is-split.before.before in
-    let entry = after-back.before.before.before.before.before in
-    let a = entry.args in
-    let l = lent (now a.text) (now a.records) (now a.texts) a.line a.log in
-    in-format l (λ (F : Format). yankPopCall catalogue F l a.size (now a.buf)) after-format-for.format-for.ensures
-    (pop-refused after-format-for.format-for.result l a.size (now a.buf) after-back.back.result after-check.check.result.number
-    after-check-text.check-text.result after-is-split.is-split.result after-back.back.ensures after-check.check.ensures.0
-    after-check-text.check-text.ensures after-is-split.is-split.ensures c.before.if1.taken _ c.says.ensures)
+    let k = c.before.before.before in
+    call-refused (lending k) _ (plan k) k.before.before.before.before.format-for.ensures (number k) c.before.if1.taken c.says.ensures
 
-add-cut-and-put : tie.Need-add-cut-and-put
-add-cut-and-put c =
-    let else1 = c.before.before.before.before.before in
-    let after-check = else1.before.before in
-    let after-format-for = after-check.before.before.before.before in
-    let after-check-text = after-format-for.before in
-    let after-is-split = after-check-text.before in
-    let after-back = after-is-split.before.before in
-    let entry = after-back.before.before.before.before.before in
-    let a = entry.args in
-    omega (
-      arith,
-      after-back.back.ensures,
-      pop-short after-format-for.format-for.result (lent (now a.text) (now a.records) (now a.texts) a.line a.log) a.size (now a.buf)
-          after-back.back.result after-check.check.result.number after-check-text.check-text.result after-is-split.is-split.result
-          after-back.back.ensures after-check.check.ensures.0 after-check-text.check-text.ensures after-is-split.is-split.ensures
-          else1.if1.left,
-      (after-check.check.ensures.1.0 else1.if1.left) .limit,
-      (after-check.check.ensures.1.0 else1.if1.left) .log .fit .text,
-      (after-check.check.ensures.1.0 else1.if1.left) .used,
-      (after-check.check.ensures.1.0 else1.if1.left) .within,
-    )
-
-cut-and-put-requires : tie.Need-cut-and-put-requires
-cut-and-put-requires c κs =
-    let else1 = c.before.before.before.before.before in
-    let after-check = else1.before.before in
-    let after-format-for = after-check.before.before.before.before in
-    let after-check-text = after-format-for.before in
-    let after-is-split = after-check-text.before in
-    let after-back = after-is-split.before.before in
-    let entry = after-back.before.before.before.before.before in
-    let a = entry.args in (
-      fit-for _ after-format-for.format-for.ensures,
+yank-pop-checked-requires : tie.Need-yank-pop-checked-requires
+yank-pop-checked-requires c κs =
+    let else1 = c.before.before.before.before in
+    let k = else1.before.before in (
+      k.check.ensures.1.0 else1.if1.left,
       (
-        (after-check.check.ensures.1.0 else1.if1.left),
-        (
-          newest-last catalogue after-format-for.format-for.result _ _ (after-check.check.ensures.1.1 else1.if1.left),
-          pop-suits after-format-for.format-for.result (lent (now a.text) (now a.records) (now a.texts) a.line a.log) a.size
-              (now a.buf) after-back.back.result after-check.check.result.number after-check-text.check-text.result
-              after-is-split.is-split.result after-back.back.ensures after-check.check.ensures.0 after-check-text.check-text.ensures
-              after-is-split.is-split.ensures else1.if1.left (after-check.check.ensures.1.0 else1.if1.left),
-        ),
+        newest-last catalogue (format k) _ _ (k.check.ensures.1.1 else1.if1.left),
+        (passed else1 .0, (passed else1 .1, (passed else1 .2, passed else1 .3))),
       ),
     )
 
 returns-2 : tie.Need-returns-2
 returns-2 c =
-    let after-cut-and-put = c.before.before.before.before.before.before in
-    let after-empty-is = after-cut-and-put.before.before.before.before in
-    let else1 = after-empty-is.before.before in
-    let after-check = else1.before.before in
-    let after-format-for = after-check.before.before.before.before in
-    let after-check-text = after-format-for.before in
-    let after-is-split = after-check-text.before in
-    let after-back = after-is-split.before.before in
-    let entry = after-back.before.before.before.before.before in
-    let a = entry.args in
-    let l = lent (now a.text) (now a.records) (now a.texts) a.line a.log in
-    in-format l (λ (F : Format). yankPopCall catalogue F l a.size (now a.buf)) after-format-for.format-for.ensures
-    (pop-done after-format-for.format-for.result l a.size (now a.buf) after-back.back.result after-check.check.result.number
-    after-check-text.check-text.result after-is-split.is-split.result after-back.back.ensures after-check.check.ensures.0
-    after-check-text.check-text.ensures after-is-split.is-split.ensures else1.if1.left after-empty-is.empty-is.result
-    after-empty-is.empty-is.ensures _ _ _ _ after-cut-and-put.cut-and-put.ensures)
+    let after-yank-pop-checked = c.before.before.before.before.before.before in
+    let else1 = after-yank-pop-checked.before.before.before.before.before in
+    let k = else1.before.before in
+    call-made (lending k) _ (plan k) k.before.before.before.before.format-for.ensures (number k) else1.if1.left refl
+    after-yank-pop-checked.yank-pop-checked.ensures
 
 pub yank-pop-spec : {M : Type 1} → statement M
 yank-pop-spec =
@@ -111,9 +92,7 @@ yank-pop-spec =
     (λ same-length-2. search needs)
     (λ same-length-3. search needs)
     returns
-    (λ empty-is-requires κs. search needs)
-    add-cut-and-put
-    cut-and-put-requires
+    yank-pop-checked-requires
     (λ same-length-4. search needs)
     (λ same-length-5. search needs)
     (λ same-length-6. search needs)

@@ -105,7 +105,9 @@ put-in-requires c κs =
     (s.pre.0.log.fit, (remaining1 c1 .ready, (q.0, ap (isText catalogue) s.pre.1.1.1.0 ∙ q.1)))
 
 slice-reshare-prefix-last-start : tie.Need-slice-reshare-prefix-last-start
-slice-reshare-prefix-last-start c = let c2 = c.before.before.before.before.before.before.before.before.before in omega (arith, remaining2 c2 .ready .log .hold .room)
+slice-reshare-prefix-last-start c =
+    let c2 = c.before.before.before.before.before.before.before.before.before in
+    omega (arith, remaining2 c2 .ready .log .hold .room)
 
 slice-aggregate-last-start : tie.Need-slice-aggregate-last-start
 slice-aggregate-last-start c =
