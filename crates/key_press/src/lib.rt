@@ -53,7 +53,7 @@ fn is_digit(b: u8) -> bool
 }
 
 // A digit more, held at 65,535.
-fn one_more(n: RepeatCount, digit: u8) -> RepeatCount
+fn with_digit(n: RepeatCount, digit: u8) -> RepeatCount
     requires { ⌜ isDigit digit ≡ true ⌝ }
     ensures { λ r. ⌜ r ≡ withDigit n digit ⌝ }
 {
@@ -80,7 +80,7 @@ fn count_of(key: &[u8]) -> Count
         if !is_digit(key[at]) {
             return Count { n, at };
         }
-        n = one_more(n, key[at]);
+        n = with_digit(n, key[at]);
         at += 1;
     }
     Count { n, at }

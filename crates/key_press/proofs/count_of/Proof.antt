@@ -66,8 +66,8 @@ returns-4 c =
     let at-loop = k.before.before.before in
     stops _ at-loop.loop.n at-loop.loop.at at-loop.loop.inv k.before.before.loop-test.taken (sym (digit k) ∙ not-true _ c.if4.taken)
 
-one-more-requires : tie.Need-one-more-requires Inv-loop μ-loop
-one-more-requires c κs = sym c.before.before.is-digit2.ensures ∙ not-false _ c.before.if4.left
+with-digit-requires : tie.Need-with-digit-requires Inv-loop μ-loop
+with-digit-requires c κs = sym c.before.before.is-digit2.ensures ∙ not-false _ c.before.if4.left
 
 loop-again : tie.Need-loop-again Inv-loop μ-loop
 loop-again c =
@@ -77,7 +77,7 @@ loop-again c =
     let h = k.before.before.loop-test.taken in
     let n = at-loop.loop.n in
     subst (λ m. Reading (looped k) m (at-loop.loop.at + 1))
-    (sym (c.one-more.ensures ∙ ap (withDigit n) (sym (getD-any (looped k) at-loop.loop.at 256 0 h))))
+    (sym (c.with-digit.ensures ∙ ap (withDigit n) (sym (getD-any (looped k) at-loop.loop.at 256 0 h))))
     (goes-on (looped k) n at-loop.loop.at at-loop.loop.inv h (sym (digit k) ∙ not-false _ else4.if4.left))
 
 returns-5 : tie.Need-returns-5 Inv-loop μ-loop
@@ -99,8 +99,8 @@ count-of-spec =
     (λ shared-slice-read-is-digit-2. search needs)
     (λ is-digit-requires-2 κs. search needs)
     returns-4
-    (λ shared-slice-read-one-more. search needs)
-    one-more-requires
+    (λ shared-slice-read-with-digit. search needs)
+    with-digit-requires
     (λ add-at. search needs)
     (λ loop-less. search needs)
     loop-again
