@@ -1,6 +1,6 @@
 -- A call of an edit in the format that its text buffer brings: refused by a check, or its plan carried out. Assumes nothing.
 use Prim.Native.Nat.{ℕ}
-use mathlib.Core.Path.{_≡_, ap}
+use mathlib.Core.Path.{_≡_}
 use mathlib.Core.List.{List}
 use lib.ListN.{length}
 use Rattle.unicode.specs.Repertoire.{catalogue}
@@ -11,7 +11,7 @@ use Rattle.edit.specs.declared.EditAnswer.{EditAnswer}
 use Rattle.edit.specs.Plan.{Plan, State, edited}
 use Rattle.edit.specs.Calls.{Lent, formatOf, sizesOf, stateOf, checked, editCall, says, Edited}
 use Rattle.edit.proofs.Answers.{refused-by, passed-by}
-use Rattle.edit.proofs.Made.{outcome-as}
+use Rattle.edit.proofs.Made.{plan-made}
 use Rattle.edit.proofs.Formats.{in-format}
 
 -- own is the call's own tests, p its plan; the check gave the number k in the format F that was found
@@ -29,5 +29,5 @@ module _ (l : Lent) (own : Tests) (p : Plan) {F : Format} {k : ℕ} (f : F ≡ f
   -- the plan that was carried out is p
   pub call-made : k ≡ 0 → {q : Plan} → q ≡ p → {r : EditAnswer} {t rb tb : List ℕ} → Edited F l (done q) r t rb tb
       → Edited (formatOf l) l (calls (formatOf l)) r t rb tb
-  call-made z {q} e {r} {t} {rb} {tb} x =
-      in-format l calls f (passed-by F l k (checked catalogue F l own) (done p) r t rb tb n z (outcome-as F l (done q) (done p) r t rb tb (ap done e) x))
+  call-made z e {r} {t} {rb} {tb} x =
+      in-format l calls f (passed-by F l k (checked catalogue F l own) (done p) r t rb tb n z (plan-made F l e x))

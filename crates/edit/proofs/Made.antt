@@ -28,8 +28,8 @@ use Rattle.log_state.specs.declared.LogAnswer.{LogAnswer}
 use Rattle.log_state.specs.Calls as log
 use Rattle.log_state.proofs.Recorded as recorded
 use Rattle.edit.specs.declared.EditAnswer.{EditAnswer}
-use Rattle.edit.specs.Plan.{State, splice, blank, changed, changeOut}
-use Rattle.edit.specs.Calls.{Lent, logLent, textOf, sizesOf, stateOf, says, Edited, Ready}
+use Rattle.edit.specs.Plan.{Plan, State, splice, blank, changed, changeOut, edited}
+use Rattle.edit.specs.Calls.{Lent, logLent, textOf, sizesOf, stateOf, says, Edited, Makes, Ready}
 use Rattle.edit.proofs.Answers.{length-kept}
 use Rattle.edit.proofs.Splice.{splice-length, cut-put, splice-none}
 
@@ -172,3 +172,8 @@ edited-as F l o r r′ t rb tb e q = record { answer = e ∙ q .answer; bytes = 
 -- the outcome said in another way
 pub outcome-as : (F : Format) (l : Lent) (o o′ : Outcome State) (r : EditAnswer) (t rb tb : List ℕ) → o ≡ o′ → Edited F l o r t rb tb → Edited F l o′ r t rb tb
 outcome-as F l o o′ r t rb tb e q = subst (λ (x : Outcome State). Edited F l x r t rb tb) e q
+
+-- the plan that was carried out is p
+pub plan-made : (F : Format) (l : Lent) {q p : Plan} → q ≡ p → {r : EditAnswer} {t rb tb : List ℕ} → Makes F l q r t rb tb → Makes F l p r t rb tb
+plan-made F l e {r} {t} {rb} {tb} x =
+    outcome-as F l _ _ r t rb tb (ap (λ (p : Plan). edited catalogue F (sizesOf l) (length (l .text)) p (stateOf catalogue F l)) e) x

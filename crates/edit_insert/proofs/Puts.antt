@@ -23,11 +23,6 @@ use Rattle.buffer.proofs.Copies.{copies-length}
 abbrev pub carried : Format → Lent → Plan → Outcome State
 carried F l p = edited catalogue F (sizesOf l) (length (l .text)) p (stateOf catalogue F l)
 
--- the plan said in another way
-pub plan-made : (F : Format) (l : Lent) {q p : Plan} → q ≡ p → {r : EditAnswer} {t rb tb : List ℕ} → Edited F l (carried F l q) r t rb tb
-    → Edited F l (carried F l p) r t rb tb
-plan-made F l {q} {p} e {r} {t} {rb} {tb} x = outcome-as F l (carried F l q) (carried F l p) r t rb tb (ap (carried F l) e) x
-
 module _ (F : Format) (l : Lent) where
   abbrev pos : ℕ
   pos = l .line .cursor

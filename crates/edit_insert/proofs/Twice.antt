@@ -19,7 +19,8 @@ use Rattle.edit.specs.Calls.{Lent, textOf, says, checked, Edited, Ready}
 use Rattle.edit.proofs.Tests.{split-as, own-split-as, own-passed, text-lent}
 use Rattle.edit_insert.specs.Inserts.{emptyIs, yankPopPlan, updatePlan, textTests, updateCall}
 use Rattle.edit.proofs.Answers.{refused-by, passed-by, length-kept}
-use Rattle.edit_insert.proofs.Puts.{carried, plan-made}
+use Rattle.edit.proofs.Made.{plan-made}
+use Rattle.edit_insert.proofs.Puts.{carried}
 use Rattle.edit_insert.proofs.Calls.{madeTests, as-text, text-passed}
 use Rattle.edit_insert.proofs.Suits.{update-suits}
 

@@ -1,4 +1,3 @@
 pub mod Ranges
 pub mod Suits
 pub mod Deleted
-pub mod Cuts

@@ -1,5 +1,4 @@
--- A key that stands for something is not foreign, over any repertoire that has ASCII's printing characters; and which bytes, alone and
--- behind ESC, stand for something. Assumes nothing.
+-- A key that stands for something is not foreign, over any repertoire that has ASCII's printing characters. Assumes nothing.
 use Prim.Native.Nat.{ℕ, _+_, _<_}
 use native.Mathlib.Omega.{arith}
 use mathlib.Core.Path.{_≡_, refl, sym, ap, _∙_}

@@ -1,14 +1,11 @@
-use mathlib.Core.Path.{sym, ap}
-use lib.ListN.{length}
+use mathlib.Core.Path.{sym}
 use lib.Seq.{length-take-le}
 use denote.Ref.{now}
 use Rattle.utf8.specs.Chars.{In}
 use Rattle.unicode.specs.Repertoire.{catalogue}
-use Rattle.checks.specs.Outcome.{Outcome}
-use Rattle.edit.specs.Plan.{Plan, State, edited}
-use Rattle.edit.specs.Calls.{Lent, lent, textOf, sizesOf, stateOf}
+use Rattle.edit.specs.Calls.{Lent, lent, textOf}
 use Rattle.edit.proofs.Answers.{cursor-in, stays}
-use Rattle.edit.proofs.Made.{outcome-as}
+use Rattle.edit.proofs.Made.{plan-made}
 use Rattle.edit_case.proofs.Begins.{skip-in, case-at, case-none}
 use borrow.Author.Needs.{needs}
 use Rattle.edit_case.proofs.edit_word_checked.Statement.{statement}
@@ -16,13 +13,6 @@ use Rattle.edit_case.proofs.edit_word_checked.Tie as tie
 
 abbrev lending : tie.Start → Lent
 lending entry = let a = entry.args in lent (now a.text) (now a.records) (now a.texts) a.line a.log
-
--- what the call answers by a plan
-abbrev making : tie.Start → Plan → Outcome State
-making entry p =
-    let f = entry.args.f in
-    let l = lending entry in
-    edited catalogue f (sizesOf l) (length (l .text)) p (stateOf catalogue f l)
 
 -- ---- what the check has passed
 inside : (c : tie.Start) → let l = lending c in In (textOf l) (l .line .cursor) (l .line .cursor)
@@ -59,10 +49,9 @@ returns c =
     let after-skip-whitespace = after-found.before.before in
     let entry = start after-skip-whitespace in
     let a = entry.args in
-    outcome-as a.f (lending entry) _ _ _ _ _ _
-    (ap (making entry)
+    plan-made a.f (lending entry)
     (case-at catalogue (textOf (lending entry)) a.action a.line.cursor _ after-skip-whitespace.skip-whitespace.ensures _
-    after-found.found.given.1))
+    after-found.found.given.1)
     after-case-from.case-from.ensures
 
 returns-2 : tie.Need-returns-2
@@ -70,10 +59,9 @@ returns-2 c =
     let after-skip-whitespace = c.before.before.before in
     let entry = start after-skip-whitespace in
     let a = entry.args in
-    outcome-as a.f (lending entry) _ _ _ _ _ _
-    (ap (making entry)
+    plan-made a.f (lending entry)
     (case-none catalogue (textOf (lending entry)) a.action a.line.cursor _ after-skip-whitespace.skip-whitespace.ensures
-    c.before.enum-told.given.1))
+    c.before.enum-told.given.1)
     (stays a.f (lending entry) entry.pre.0 _ c.says.ensures)
 
 pub edit-word-checked-spec : {M : Type 1} → statement M

@@ -11,7 +11,7 @@ use Rattle.unicode.specs.Text.{isText}
 use Rattle.unicode.proofs.Typed.{typed-text, typed-within, typed-bytes}
 use Rattle.edit.specs.Calls.{Lent, lent}
 use Rattle.edit_insert.proofs.Calls.{plan-one, plan-many}
-use Rattle.edit_insert.proofs.Puts.{plan-made}
+use Rattle.edit.proofs.Made.{plan-made}
 use borrow.Author.Needs.{needs}
 use Rattle.edit_insert.proofs.insert_checked.Statement.{statement}
 use Rattle.edit_insert.proofs.insert_checked.Tie as tie

@@ -4,7 +4,7 @@ use Rattle.edit.specs.Calls.{Lent, lent}
 use Rattle.edit.proofs.Answers.{stays}
 use Rattle.edit.proofs.Formats.{text-most}
 use Rattle.edit_insert.proofs.Calls.{plan-empty, plan-some}
-use Rattle.edit_insert.proofs.Puts.{plan-made}
+use Rattle.edit.proofs.Made.{plan-made}
 use borrow.Author.Needs.{needs}
 use Rattle.edit_insert.proofs.yank_checked.Statement.{statement}
 use Rattle.edit_insert.proofs.yank_checked.Tie as tie

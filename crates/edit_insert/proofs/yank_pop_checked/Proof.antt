@@ -4,7 +4,7 @@ use Rattle.edit.specs.Calls.{Lent, lent, textOf}
 use Rattle.edit.proofs.Answers.{cursor-in}
 use Rattle.edit_insert.proofs.Suits.{yank-pop-suits}
 use Rattle.edit_insert.proofs.Twice.{pop-plan}
-use Rattle.edit_insert.proofs.Puts.{plan-made}
+use Rattle.edit.proofs.Made.{plan-made}
 use borrow.Author.Needs.{needs}
 use Rattle.edit_insert.proofs.yank_pop_checked.Statement.{statement}
 use Rattle.edit_insert.proofs.yank_pop_checked.Tie as tie

@@ -1,4 +1,4 @@
-use mathlib.Core.Path.{_≡_, sym, _∙_}
+use mathlib.Core.Path.{_≡_, sym, ap, _∙_}
 use mathlib.Core.Bool.{true}
 use lib.Seq.{length-take-le}
 use denote.Ref.{now}
@@ -7,8 +7,9 @@ use Rattle.unicode.specs.Repertoire.{catalogue}
 use Rattle.unicode.proofs.Text.{text-valid}
 use Rattle.edit.specs.Calls.{Lent, lent, textOf}
 use Rattle.edit.proofs.Answers.{cursor-in, stays}
+use Rattle.edit.proofs.Made.{plan-made}
+use Rattle.edit_kill.specs.Kills.{cutPlan}
 use Rattle.edit_kill.proofs.Ranges.{kill-in}
-use Rattle.edit_kill.proofs.Cuts.{cut-made}
 use borrow.Author.Needs.{needs}
 use Rattle.edit_kill.proofs.kill_checked.Statement.{statement}
 use Rattle.edit_kill.proofs.kill_checked.Tie as tie
@@ -52,14 +53,16 @@ returns c =
     let after-r = after-cut-out.before.before.before.before.before in
     let after-kill-range = after-r.before.before in
     let entry = after-kill-range.before.before.before.before.before in
-    cut-made entry.args.f (lending entry) entry.args.m (sym after-r.r.given.1 ∙ after-kill-range.kill-range.ensures)
+    plan-made entry.args.f (lending entry)
+    (ap (cutPlan entry.args.line.cursor) (sym after-r.r.given.1 ∙ after-kill-range.kill-range.ensures))
     after-cut-out.cut-out.ensures
 
 returns-2 : tie.Need-returns-2
 returns-2 c =
     let after-kill-range = c.before.before.before in
     let entry = after-kill-range.before.before.before.before.before in
-    cut-made entry.args.f (lending entry) entry.args.m (sym c.before.enum-told.given.1 ∙ after-kill-range.kill-range.ensures)
+    plan-made entry.args.f (lending entry)
+    (ap (cutPlan entry.args.line.cursor) (sym c.before.enum-told.given.1 ∙ after-kill-range.kill-range.ensures))
     (stays entry.args.f (lending entry) entry.pre.0 _ c.says.ensures)
 
 pub kill-checked-spec : {M : Type 1} → statement M

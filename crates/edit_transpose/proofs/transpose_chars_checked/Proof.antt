@@ -1,16 +1,13 @@
-use mathlib.Core.Path.{_≡_, sym, ap}
+use mathlib.Core.Path.{_≡_, sym}
 use mathlib.Core.Bool.{true}
-use lib.ListN.{length}
 use lib.Seq.{length-take-le}
 use denote.Ref.{now}
 use Rattle.utf8.specs.Chars.{In, valid}
 use Rattle.unicode.specs.Repertoire.{catalogue}
 use Rattle.unicode.proofs.Text.{text-valid}
-use Rattle.checks.specs.Outcome.{Outcome}
-use Rattle.edit.specs.Plan.{Plan, State, edited}
-use Rattle.edit.specs.Calls.{Lent, lent, textOf, sizesOf, stateOf}
+use Rattle.edit.specs.Calls.{Lent, lent, textOf}
 use Rattle.edit.proofs.Answers.{cursor-in, stays}
-use Rattle.edit.proofs.Made.{outcome-as}
+use Rattle.edit.proofs.Made.{plan-made}
 use Rattle.edit_transpose.proofs.Begins.{starts-in, plan-at, plan-none}
 use borrow.Author.Needs.{needs}
 use Rattle.edit_transpose.proofs.transpose_chars_checked.Statement.{statement}
@@ -18,13 +15,6 @@ use Rattle.edit_transpose.proofs.transpose_chars_checked.Tie as tie
 
 abbrev lending : tie.Start → Lent
 lending entry = let a = entry.args in lent (now a.text) (now a.records) (now a.texts) a.line a.log
-
--- what the call answers by a plan
-abbrev making : tie.Start → Plan → Outcome State
-making entry p =
-    let f = entry.args.f in
-    let l = lending entry in
-    edited catalogue f (sizesOf l) (length (l .text)) p (stateOf catalogue f l)
 
 -- ---- what the check has passed
 is-valid : (c : tie.Start) → valid (textOf (lending c)) ≡ true
@@ -64,9 +54,8 @@ returns c =
     let after-starts-at = after-found.before.before in
     let entry = start after-starts-at in
     let a = entry.args in
-    outcome-as a.f (lending entry) _ _ _ _ _ _
-    (ap (making entry)
-    (plan-at catalogue (textOf (lending entry)) a.line.cursor _ after-starts-at.starts-at.ensures _ after-found.found.given.1))
+    plan-made a.f (lending entry)
+    (plan-at catalogue (textOf (lending entry)) a.line.cursor _ after-starts-at.starts-at.ensures _ after-found.found.given.1)
     after-exchange-at.exchange-at.ensures
 
 returns-2 : tie.Need-returns-2
@@ -74,9 +63,8 @@ returns-2 c =
     let after-starts-at = c.before.before.before in
     let entry = start after-starts-at in
     let a = entry.args in
-    outcome-as a.f (lending entry) _ _ _ _ _ _
-    (ap (making entry)
-    (plan-none catalogue (textOf (lending entry)) a.line.cursor _ after-starts-at.starts-at.ensures c.before.enum-told.given.1))
+    plan-made a.f (lending entry)
+    (plan-none catalogue (textOf (lending entry)) a.line.cursor _ after-starts-at.starts-at.ensures c.before.enum-told.given.1)
     (stays a.f (lending entry) entry.pre.0 _ c.says.ensures)
 
 pub transpose-chars-checked-spec : {M : Type 1} → statement M

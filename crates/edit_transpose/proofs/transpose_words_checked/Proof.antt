@@ -1,16 +1,13 @@
-use mathlib.Core.Path.{_≡_, sym, ap}
+use mathlib.Core.Path.{_≡_, sym}
 use mathlib.Core.Bool.{true}
-use lib.ListN.{length}
 use lib.Seq.{length-take-le}
 use denote.Ref.{now}
 use Rattle.utf8.specs.Chars.{In, valid}
 use Rattle.unicode.specs.Repertoire.{catalogue}
 use Rattle.unicode.proofs.Text.{text-valid}
-use Rattle.checks.specs.Outcome.{Outcome}
-use Rattle.edit.specs.Plan.{Plan, State, edited}
-use Rattle.edit.specs.Calls.{Lent, lent, textOf, sizesOf, stateOf}
+use Rattle.edit.specs.Calls.{Lent, lent, textOf}
 use Rattle.edit.proofs.Answers.{cursor-in, stays-at}
-use Rattle.edit.proofs.Made.{outcome-as}
+use Rattle.edit.proofs.Made.{plan-made}
 use Rattle.edit_transpose.proofs.Around.{words-one, words-two, words-apart}
 use borrow.Author.Needs.{needs}
 use Rattle.edit_transpose.proofs.transpose_words_checked.Statement.{statement}
@@ -18,13 +15,6 @@ use Rattle.edit_transpose.proofs.transpose_words_checked.Tie as tie
 
 abbrev lending : tie.Start → Lent
 lending entry = let a = entry.args in lent (now a.text) (now a.records) (now a.texts) a.line a.log
-
--- what the call answers by a plan
-abbrev making : tie.Start → Plan → Outcome State
-making entry p =
-    let f = entry.args.f in
-    let l = lending entry in
-    edited catalogue f (sizesOf l) (length (l .text)) p (stateOf catalogue f l)
 
 -- ---- what the check has passed
 is-valid : (c : tie.Start) → valid (textOf (lending c)) ≡ true
@@ -48,9 +38,8 @@ returns c =
     let after-words-around = c.before.before.before.before in
     let entry = start after-words-around in
     let a = entry.args in
-    outcome-as a.f (lending entry) _ _ _ _ _ _
-    (ap (making entry)
-    (words-one catalogue (textOf (lending entry)) a.n a.line.cursor _ after-words-around.words-around.ensures c.before.if1.taken))
+    plan-made a.f (lending entry)
+    (words-one catalogue (textOf (lending entry)) a.n a.line.cursor _ after-words-around.words-around.ensures c.before.if1.taken)
     (stays-at a.f (lending entry) entry.pre.0 _ _ c.says.ensures)
 
 exchange-words-requires : tie.Need-exchange-words-requires
@@ -74,9 +63,8 @@ returns-2 c =
     let after-words-around = else1.before.before.before in
     let entry = start after-words-around in
     let a = entry.args in
-    outcome-as a.f (lending entry) _ _ _ _ _ _
-    (ap (making entry)
-    (words-two catalogue (textOf (lending entry)) a.n a.line.cursor _ after-words-around.words-around.ensures else1.if1.left))
+    plan-made a.f (lending entry)
+    (words-two catalogue (textOf (lending entry)) a.n a.line.cursor _ after-words-around.words-around.ensures else1.if1.left)
     after-exchange-words.exchange-words.ensures
 
 pub transpose-words-checked-spec : {M : Type 1} → statement M
