@@ -1,3 +1,4 @@
 pub mod Fit
 pub mod Outcomes
 pub mod Lowest
+pub mod LowerNumbers

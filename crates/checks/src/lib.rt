@@ -3,7 +3,7 @@ ghost use mathlib.Core.Path.{_≡_};
 ghost use lib.ListN.{length};
 ghost use Rattle.formats.specs.Formats.{formatFor};
 ghost use Rattle.unicode.specs.Repertoire.{catalogue};
-ghost use Rattle.checks.specs.Checks.{refusal as Checks·refusal, both, lineTests, ownTests};
+ghost use Rattle.checks.specs.Checks.{refusal as Checks·refusal, lower as Checks·lower, both, lineTests, ownTests};
 ghost use Rattle.checks.specs.Answers.{says as Answers·says, lineAnswer, movedTo, placeOf};
 use formats::Format;
 use formats::format_for;
@@ -63,6 +63,19 @@ pub fn refusal(text: &[u8], line: Line, code: bool, foreign: bool, place: bool) 
     ensures { λ r. ⌜ r ≡ Checks·refusal (both (lineTests catalogue (formatFor (length (now (text .entry)))) (now (text .entry)) line) (ownTests code foreign place)) ⌝ }
 {
     refusal_in(format_for(text.len()), text, line, code, foreign, place)
+}
+
+// The lower of two numbers, where 0 is none.
+pub fn lower(a: u32, b: u32) -> u32
+    ensures { λ r. ⌜ r ≡ Checks·lower a b ⌝ }
+{
+    if a == 0 {
+        return b;
+    }
+    if b == 0 {
+        return a;
+    }
+    if b < a { b } else { a }
 }
 
 // A number alone: the line is as it was.

@@ -8,17 +8,19 @@ use Rattle.utf8.specs.Encode.{scalar}
 use Rattle.unicode.specs.Repertoire.{catalogue, isMember}
 use Rattle.unicode.specs.Text.{isChar, isText}
 use Rattle.key_press.specs.declared.Press.the-variants as p
+use Rattle.key_press.specs.declared.MoveKey.the-variants as move
+use Rattle.key_press.specs.declared.EditKey.the-variants as edit
 use Rattle.key_press.specs.Keys.{pressOf, countOf, keyIn, value, behind, isCounted, control, escaped, foreignKey, withDigit}
 
 pub record Bound : Type 0 where
   -- ESC 3 ESC b; ESC 0 0 2 x; held at 65,535
-  pub e1 : pressOf catalogue (0x1B ∷ 0x33 ∷ 0x1B ∷ 0x62 ∷ []) ≡ p.PrevWord 3
-  pub e2 : pressOf catalogue (0x1B ∷ 0x30 ∷ 0x30 ∷ 0x32 ∷ 0x78 ∷ []) ≡ p.Typed 0x78 2
-  pub e3 : pressOf catalogue (0x1B ∷ 0x39 ∷ 0x39 ∷ 0x39 ∷ 0x39 ∷ 0x39 ∷ 0x39 ∷ 0x06 ∷ []) ≡ p.Forward 65535
+  pub e1 : pressOf catalogue (0x1B ∷ 0x33 ∷ 0x1B ∷ 0x62 ∷ []) ≡ p.Move (move.PrevWord 3)
+  pub e2 : pressOf catalogue (0x1B ∷ 0x30 ∷ 0x30 ∷ 0x32 ∷ 0x78 ∷ []) ≡ p.Edit (edit.Typed 0x78 2)
+  pub e3 : pressOf catalogue (0x1B ∷ 0x39 ∷ 0x39 ∷ 0x39 ∷ 0x39 ∷ 0x39 ∷ 0x39 ∷ 0x06 ∷ []) ≡ p.Move (move.Forward 65535)
   -- U+00E9, U+0301 and \r insert themselves
-  pub e4 : pressOf catalogue (0xC3 ∷ 0xA9 ∷ []) ≡ p.Typed 0xE9 1
-  pub e5 : pressOf catalogue (0xCC ∷ 0x81 ∷ []) ≡ p.Typed 0x301 1
-  pub e6 : pressOf catalogue (0x0D ∷ []) ≡ p.Typed 13 1
+  pub e4 : pressOf catalogue (0xC3 ∷ 0xA9 ∷ []) ≡ p.Edit (edit.Typed 0xE9 1)
+  pub e5 : pressOf catalogue (0xCC ∷ 0x81 ∷ []) ≡ p.Edit (edit.Typed 0x301 1)
+  pub e6 : pressOf catalogue (0x0D ∷ []) ≡ p.Edit (edit.Typed 13 1)
   -- ESC, ESC 1 2, ESC B, "xy", \r\n, 0x7F, nothing
   pub e7 : pressOf catalogue (0x1B ∷ []) ≡ p.Unbound
   pub e8 : pressOf catalogue (0x1B ∷ 0x31 ∷ 0x32 ∷ []) ≡ p.Unbound

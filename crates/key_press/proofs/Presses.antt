@@ -11,6 +11,7 @@ use Rattle.utf8.specs.Utf8.{char, bad, first}
 use Rattle.unicode.specs.Repertoire.{Repertoire}
 use Rattle.unicode.specs.Text.{isChar}
 use Rattle.key_press.specs.declared.Press.the-variants as p
+use Rattle.key_press.specs.declared.EditKey.the-variants as edit
 use Rattle.key_press.specs.Keys.{control, escaped, character, pressBy}
 
 module _ (R : Repertoire) (n : ℕ) where
@@ -47,7 +48,7 @@ module _ (R : Repertoire) (n : ℕ) where
   press-long (b ∷ x ∷ y ∷ s) e = refl
 
   -- ---- one character and nothing behind it
-  pub typed-whole : (s : List ℕ) (c k : ℕ) → first s ≡ char c k → (eqb k (length s) && isChar R c) ≡ true → p.Typed c n ≡ character R n s
+  pub typed-whole : (s : List ℕ) (c k : ℕ) → first s ≡ char c k → (eqb k (length s) && isChar R c) ≡ true → p.Edit (edit.Typed c n) ≡ character R n s
   typed-whole s c k e h = rw (e, h)
 
   pub typed-not : (s : List ℕ) (c k : ℕ) → first s ≡ char c k → (eqb k (length s) && isChar R c) ≡ false → p.Unbound ≡ character R n s

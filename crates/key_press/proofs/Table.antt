@@ -15,26 +15,12 @@ use Rattle.key_press.specs.Keys.{value, behind, isCounted, countOf, keyI
 
 abbrev pub isUnbound : Press → Bool
 isUnbound p.Unbound = true
-isUnbound (p.Typed c n) = false
-isUnbound p.Home = false
-isUnbound p.End = false
-isUnbound (p.Backward n) = false
-isUnbound (p.Forward n) = false
-isUnbound (p.Delete n) = false
-isUnbound p.KillLine = false
-isUnbound p.DiscardLine = false
-isUnbound (p.RuboutWord n) = false
-isUnbound (p.KillWord n) = false
+isUnbound (p.Move k) = false
+isUnbound (p.Edit k) = false
+isUnbound (p.Undo n) = false
+isUnbound (p.Kill k) = false
 isUnbound (p.Yank n) = false
 isUnbound p.YankPop = false
-isUnbound p.TransposeChars = false
-isUnbound (p.TransposeWords n) = false
-isUnbound (p.Undo n) = false
-isUnbound (p.PrevWord n) = false
-isUnbound (p.NextWord n) = false
-isUnbound p.Capitalize = false
-isUnbound p.Lowercase = false
-isUnbound p.Uppercase = false
 
 abbrev among : List ℕ → ℕ → Bool
 among [] b = false

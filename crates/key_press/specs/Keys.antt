@@ -10,6 +10,9 @@ use Rattle.unicode.specs.Repertoire.{Repertoire}
 use Rattle.unicode.specs.Text.{isText, isChar}
 use Rattle.key_press.specs.declared.Press.{Press}
 use Rattle.key_press.specs.declared.Press.the-variants as p
+use Rattle.key_press.specs.declared.MoveKey.the-variants as move
+use Rattle.key_press.specs.declared.EditKey.the-variants as edit
+use Rattle.key_press.specs.declared.KillKey.the-variants as kill
 use Rattle.key_press.specs.declared.Count.{Count}
 
 -- ---- "ESC and digits give the next key's n, held at 65,535; without them n is 1"
@@ -49,18 +52,18 @@ pub record CountedAs (s : List ℕ) (c : Count) : Type 0 where
 -- control a, b, d, e, f, k, t, u, w, y and underscore; U+0009, \n and \r insert themselves
 unfoldable pub control : ℕ → ℕ → Press
 control n b =
-    cond (eqb b 0x01) p.Home
-    (cond (eqb b 0x02) (p.Backward n)
-    (cond (eqb b 0x04) (p.Delete n)
-    (cond (eqb b 0x05) p.End
-    (cond (eqb b 0x06) (p.Forward n)
-    (cond (eqb b 0x09) (p.Typed 0x09 n)
-    (cond (eqb b 0x0A) (p.Typed 0x0A n)
-    (cond (eqb b 0x0B) p.KillLine
-    (cond (eqb b 0x0D) (p.Typed 0x0D n)
-    (cond (eqb b 0x14) p.TransposeChars
-    (cond (eqb b 0x15) p.DiscardLine
-    (cond (eqb b 0x17) (p.RuboutWord n)
+    cond (eqb b 0x01) (p.Move move.Home)
+    (cond (eqb b 0x02) (p.Move (move.Backward n))
+    (cond (eqb b 0x04) (p.Edit (edit.Delete n))
+    (cond (eqb b 0x05) (p.Move move.End)
+    (cond (eqb b 0x06) (p.Move (move.Forward n))
+    (cond (eqb b 0x09) (p.Edit (edit.Typed 0x09 n))
+    (cond (eqb b 0x0A) (p.Edit (edit.Typed 0x0A n))
+    (cond (eqb b 0x0B) (p.Kill kill.Line)
+    (cond (eqb b 0x0D) (p.Edit (edit.Typed 0x0D n))
+    (cond (eqb b 0x14) (p.Edit edit.TransposeChars)
+    (cond (eqb b 0x15) (p.Kill kill.Discard)
+    (cond (eqb b 0x17) (p.Kill (kill.PrevWord n))
     (cond (eqb b 0x19) (p.Yank n)
     (cond (eqb b 0x1F) (p.Undo n)
     p.Unbound)))))))))))))
@@ -68,19 +71,19 @@ control n b =
 -- ESC with b, c, d, f, l, t, u, y
 unfoldable pub escaped : ℕ → ℕ → Press
 escaped n b =
-    cond (eqb b 0x62) (p.PrevWord n)
-    (cond (eqb b 0x63) p.Capitalize
-    (cond (eqb b 0x64) (p.KillWord n)
-    (cond (eqb b 0x66) (p.NextWord n)
-    (cond (eqb b 0x6C) p.Lowercase
-    (cond (eqb b 0x74) (p.TransposeWords n)
-    (cond (eqb b 0x75) p.Uppercase
+    cond (eqb b 0x62) (p.Move (move.PrevWord n))
+    (cond (eqb b 0x63) (p.Edit edit.Capitalize)
+    (cond (eqb b 0x64) (p.Kill (kill.Word n))
+    (cond (eqb b 0x66) (p.Move (move.NextWord n))
+    (cond (eqb b 0x6C) (p.Edit edit.Lowercase)
+    (cond (eqb b 0x74) (p.Edit (edit.TransposeWords n))
+    (cond (eqb b 0x75) (p.Edit edit.Uppercase)
     (cond (eqb b 0x79) p.YankPop
     p.Unbound)))))))
 
 -- one character of the repertoire and nothing behind it inserts itself
 abbrev pub typedBy : Repertoire → First → ℕ → ℕ → Press
-typedBy R (char c k) len n = cond (eqb k len && isChar R c) (p.Typed c n) p.Unbound
+typedBy R (char c k) len n = cond (eqb k len && isChar R c) (p.Edit (edit.Typed c n)) p.Unbound
 typedBy R bad len n = p.Unbound
 
 abbrev pub character : Repertoire → ℕ → List ℕ → Press

@@ -15,29 +15,44 @@ use utf8::Decoded;
 use utf8::between;
 use utf8::decode_at;
 
-// What a key stands for. Its n is 0 to 65,535.
-pub enum Press {
-    Unbound,
-    Typed(u32, RepeatCount),
+// A key that moves the cursor. The n of a key is 0 to 65,535.
+pub enum MoveKey {
     Home,
     End,
     Backward(RepeatCount),
     Forward(RepeatCount),
-    Delete(RepeatCount),
-    KillLine,
-    DiscardLine,
-    RuboutWord(RepeatCount),
-    KillWord(RepeatCount),
-    Yank(RepeatCount),
-    YankPop,
-    TransposeChars,
-    TransposeWords(RepeatCount),
-    Undo(RepeatCount),
     PrevWord(RepeatCount),
     NextWord(RepeatCount),
+}
+
+// A key that edits the text and leaves the ring's slots alone.
+pub enum EditKey {
+    Typed(u32, RepeatCount),
+    Delete(RepeatCount),
+    TransposeChars,
+    TransposeWords(RepeatCount),
     Capitalize,
     Lowercase,
     Uppercase,
+}
+
+// A key that kills.
+pub enum KillKey {
+    Line,
+    Discard,
+    PrevWord(RepeatCount),
+    Word(RepeatCount),
+}
+
+// What a key stands for.
+pub enum Press {
+    Unbound,
+    Move(MoveKey),
+    Edit(EditKey),
+    Undo(RepeatCount),
+    Kill(KillKey),
+    Yank(RepeatCount),
+    YankPop,
 }
 
 // A count, and where the key behind it begins.
@@ -91,18 +106,18 @@ fn control(b: u8, n: RepeatCount) -> Press
     ensures { λ r. ⌜ r ≡ Keys·control n b ⌝ }
 {
     match b {
-        0x01 => Press::Home,
-        0x02 => Press::Backward(n),
-        0x04 => Press::Delete(n),
-        0x05 => Press::End,
-        0x06 => Press::Forward(n),
-        0x09 => Press::Typed(0x09, n),
-        0x0A => Press::Typed(0x0A, n),
-        0x0B => Press::KillLine,
-        0x0D => Press::Typed(0x0D, n),
-        0x14 => Press::TransposeChars,
-        0x15 => Press::DiscardLine,
-        0x17 => Press::RuboutWord(n),
+        0x01 => Press::Move(MoveKey::Home),
+        0x02 => Press::Move(MoveKey::Backward(n)),
+        0x04 => Press::Edit(EditKey::Delete(n)),
+        0x05 => Press::Move(MoveKey::End),
+        0x06 => Press::Move(MoveKey::Forward(n)),
+        0x09 => Press::Edit(EditKey::Typed(0x09, n)),
+        0x0A => Press::Edit(EditKey::Typed(0x0A, n)),
+        0x0B => Press::Kill(KillKey::Line),
+        0x0D => Press::Edit(EditKey::Typed(0x0D, n)),
+        0x14 => Press::Edit(EditKey::TransposeChars),
+        0x15 => Press::Kill(KillKey::Discard),
+        0x17 => Press::Kill(KillKey::PrevWord(n)),
         0x19 => Press::Yank(n),
         0x1F => Press::Undo(n),
         _ => Press::Unbound,
@@ -114,13 +129,13 @@ fn escaped(b: u8, n: RepeatCount) -> Press
     ensures { λ r. ⌜ r ≡ Keys·escaped n b ⌝ }
 {
     match b {
-        0x62 => Press::PrevWord(n),
-        0x63 => Press::Capitalize,
-        0x64 => Press::KillWord(n),
-        0x66 => Press::NextWord(n),
-        0x6C => Press::Lowercase,
-        0x74 => Press::TransposeWords(n),
-        0x75 => Press::Uppercase,
+        0x62 => Press::Move(MoveKey::PrevWord(n)),
+        0x63 => Press::Edit(EditKey::Capitalize),
+        0x64 => Press::Kill(KillKey::Word(n)),
+        0x66 => Press::Move(MoveKey::NextWord(n)),
+        0x6C => Press::Edit(EditKey::Lowercase),
+        0x74 => Press::Edit(EditKey::TransposeWords(n)),
+        0x75 => Press::Edit(EditKey::Uppercase),
         0x79 => Press::YankPop,
         _ => Press::Unbound,
     }
@@ -134,7 +149,7 @@ fn character(key: &[u8], n: RepeatCount) -> Press
     match d {
         Decoded::Char { cp, len } => {
             if (len == key.len()) & check_char(cp) {
-                Press::Typed(cp, n)
+                Press::Edit(EditKey::Typed(cp, n))
             } else {
                 Press::Unbound
             }

@@ -16,8 +16,8 @@ use Rattle.kill_ring.specs.Ring.{KillRing, yankOut, yankPopOut}
 use Rattle.kill_ring.specs.Calls as rings
 use Rattle.key_press.specs.Keys.{pressOf}
 use Rattle.calls.specs.Calls.{Asked, outcomeOf}
-use Rattle.key_calls.specs.Stands.{KeyCalls, unbound, line, kill, yank, yankPop, standsFor}
-use Rattle.key_calls.specs.Keyed.{KeyState, together, lowest, ringNow, yankedBy, done, keyChecked, keyCall, given, onLine, lineOf}
+use Rattle.key_model.specs.Stands.{KeyCalls, unbound, line, kill, yank, yankPop, standsFor}
+use Rattle.key_model.specs.Keyed.{KeyState, together, lowest, ringNow, yankedBy, done, keyChecked, keyCall, given, onLine, lineOf}
 
 module _ (P : Outcome State → Type 0) (f : (k : ℕ) → P (refused k)) where
   together-line : (o : Outcome State) (q : Outcome KillRing) → P o → P (lineOf (together o q))

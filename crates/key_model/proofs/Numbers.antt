@@ -6,7 +6,7 @@ use Rattle.checks.specs.Checks.{lower}
 use Rattle.checks.specs.Outcome.{Outcome, refused, answered, numberIn, leaves}
 use Rattle.edit.specs.Plan.{State}
 use Rattle.kill_ring.specs.Ring.{KillRing}
-use Rattle.key_calls.specs.Keyed.{KeyState, keyState, together, lowest}
+use Rattle.key_model.specs.Keyed.{KeyState, keyState, together, lowest}
 
 -- the number that an outcome refuses by, 0 where it does not
 abbrev pub refusalIn : {S : Type 0} → Outcome S → ℕ

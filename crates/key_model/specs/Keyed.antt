@@ -1,7 +1,7 @@
 -- Order 1 of document 02: "Each key's effect is proved to be that of the calls it stands for; if any is refused, the key gives the lowest such number and
 -- nothing changes, save what 01 lets a stopped undo leave. Else it answers what its call on the line answers, or 1 where the ring gives no text."
 use Prim.Native.Nat.{ℕ, zero, suc}
-use mathlib.Core.Bool.{Bool, false, cond}
+use mathlib.Core.Bool.{false, cond}
 use mathlib.Core.List.{List}
 use mathlib.Core.Option.{Option, some, none}
 use lib.Dec.{eqb, leb}
@@ -22,7 +22,7 @@ use Rattle.kill_ring.specs.Calls as rings
 use Rattle.key_press.specs.Keys.{pressOf, foreignKey}
 use Rattle.calls.specs.Calls.{Asked, edit, outcomeOf}
 use Rattle.calls.specs.Calls as calls
-use Rattle.key_calls.specs.Stands.{KeyCalls, unbound, line, kill, yank, yankPop, standsFor}
+use Rattle.key_model.specs.Stands.{KeyCalls, unbound, line, kill, yank, yankPop, standsFor}
 
 -- what a key works on: text, cursor and log, and the ring
 pub record KeyState : Type 0 where

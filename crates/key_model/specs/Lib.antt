@@ -1,2 +1,4 @@
 pub mod Stands
 pub mod Keyed
+pub mod Own
+pub mod Contract

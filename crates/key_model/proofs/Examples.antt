@@ -34,8 +34,7 @@ use Rattle.kill_ring.specs.Calls as rings
 use Rattle.kill_ring.specs.declared.Action.{Action}
 use Rattle.kill_ring.specs.declared.Action.the-variants.{Kill, Yank, Other}
 use Rattle.key_press.specs.Keys.{withDigit, value, behind, isCounted, countOf, keyIn, control, escaped, pressOf, foreignKey}
-use Rattle.key_calls.specs.Stands.{standsFor}
-use Rattle.key_calls.specs.Keyed.{KeyState, keyState, keyCall}
+use Rattle.key_model.specs.Keyed.{KeyState, keyState, keyCall}
 
 abbrev key : Lent → rings.Lent → List ℕ → Outcome KeyState
 key l g s = keyCall catalogue logFormat l g s
@@ -113,6 +112,6 @@ unfolding formatFor within one two lead3 three lead4 four firstOf first charsFro
     undoRecords undoTexts allNumbersFit fits overSizes damaged undos redos splice textAfter listAfter tooLong edited misfit exchanging undoing walk
     undoOut ring.putAt ring.killOut ring.yankOut ring.yankPopOut rings.slotsFrom rings.anyOver rings.overSizes rings.actionBreaks rings.anyForeign
     rings.damaged joined clusters nextPos startOfLine beforeNewline endOfLine copies killLine discardLine
-    withDigit value behind isCounted countOf keyIn control escaped pressOf foreignKey standsFor keyCall
+    withDigit value behind isCounted countOf keyIn control escaped pressOf foreignKey keyCall
 computed =
     record { k1 = refl; k2 = refl; k3 = refl; k4 = refl; k5 = refl; k6 = refl; k7 = refl; k8 = refl; k9 = refl; k10 = refl; k11 = refl }
