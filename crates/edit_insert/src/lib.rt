@@ -244,7 +244,7 @@ pub fn yank(
 }
 
 // The place so many bytes before another, 0 where there are not so many.
-fn back(pos: usize, size: usize) -> usize
+pub fn back(pos: usize, size: usize) -> usize
     ensures { λ r. ⌜ r ≡ pos - size ⌝ }
 {
     if pos < size {

@@ -68,7 +68,7 @@ fn discard_line_range(s: &[u8], pos: usize) -> Range
 }
 
 // What kill cuts, by the movement.
-fn kill_range(s: &[u8], pos: usize, m: Movement) -> Range
+pub fn kill_range(s: &[u8], pos: usize, m: Movement) -> Range
     requires { ⌜ (valid (now s) ≡ true) × (boundary (now s) pos ≡ true) × (pos ≤ length (now s)) ⌝ }
     ensures { λ r. ⌜ r ≡ killRange catalogue (now (s .entry)) pos m ⌝ }
 {

@@ -33,7 +33,7 @@ pub record Kept (R : Repertoire) (v w : KillRing) : Type 0 where
   pub sound : Sound R w
 
 -- ---- a slot
-slot-text : (R : Repertoire) (ss : List (List ℕ)) (i : ℕ) → SoundSlots R ss → isText R (getD ss i []) ≡ true
+pub slot-text : (R : Repertoire) (ss : List (List ℕ)) (i : ℕ) → SoundSlots R ss → isText R (getD ss i []) ≡ true
 slot-text R [] i h = text-nil R
 slot-text R (s ∷ ss) zero h = h .0
 slot-text R (s ∷ ss) (suc i) h = slot-text R ss i (h .2)

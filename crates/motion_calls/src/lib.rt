@@ -35,7 +35,7 @@ use unicode::check_char;
 use utf8::is_boundary;
 
 // To a place, unless the cursor is there.
-fn elsewhere(line: Line, p: usize) -> Found
+pub fn elsewhere(line: Line, p: usize) -> Found
     ensures { λ r. ⌜ r ≡ Moves·elsewhere line p ⌝ }
 {
     let cursor = line.cursor;

@@ -199,7 +199,7 @@ fn undo_newest(
 // Undo on a text and a log that the checks pass: the newest records, until n units are done. A unit is done where no End that
 // was passed waits for its Begin. The newest record, which begins at last, is all of a single unit where it is no End; else the sizes
 // of the records are written down, in an array that is cleared at each call, so that a short list has a short one.
-fn undo_units(
+pub fn undo_units(
     f: Format,
     text: &mut [u8],
     records: &[u8],

@@ -1,0 +1,3 @@
+pub mod CutRoom
+pub mod Both
+pub mod Kills

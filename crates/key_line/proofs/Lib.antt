@@ -1,0 +1,4 @@
+pub mod Answered
+pub mod Moves
+pub mod Edits
+pub mod Undos
