@@ -1,10 +1,11 @@
 /*
- * Tulofewa, the catalogue edit line: text and cursor, motions and edits, undo with groups, a kill ring. These are the
- * entries of target/libtulofewa.a, which ./library builds; include/check holds this file against their source.
+ * Tulofewa, the catalogue edit line: text and cursor, motions and edits, undo with groups, a kill ring, keys. These are
+ * the entries of target/libtulofewa.a, which ./library builds; include/check holds this file against their source.
  *
  * State. All of it is the caller's; an entry keeps nothing and allocates nothing. A text is a buffer and a tlf_line, a
  * log is two buffers and a tlf_log, a ring is two buffers and a tlf_ring. tlf_line and tlf_log go in by value and come
- * back in the answer, whatever its number: put them where the old ones stood. A tlf_ring goes in by pointer.
+ * back in the answer, whatever its number: put them where the old ones stood. A tlf_ring goes in by pointer, save with
+ * tlf_line_key, which takes and gives it as the others.
  *
  * Buffers. A buffer is a pointer and its length in bytes. No pointer is null, with length 0 either. The buffers of one
  * call, and a tlf_ring, do not overlap. A buffer lent as const is only read. Any bytes, lengths and numbers may come:
@@ -15,9 +16,9 @@
  *
  * Numbers. Each answer has a number. 0 is done, 1 nothing (to be done, or found); from 2 on it is a refusal, which
  * changes no byte and hands the state back as it was. The checks run in number order, so the lowest number that applies
- * is answered. The one exception is a stop: tlf_log_undo, tlf_log_redo and tlf_log_cancel try 12, then 9, at each
- * record and stop before the one in the way. The records handled earlier stay handled, and text, line and log are those
- * reached; a stopped cancel drops nothing.
+ * is answered. The one exception is a stop: tlf_log_undo, tlf_log_redo, tlf_log_cancel and the key that undoes try 12,
+ * then 9, at each record and stop before the one in the way. The records handled earlier stay handled, and text, line
+ * and log are those reached; a stopped cancel drops nothing.
  *
  * from, to, slot and size hold what an entry says that it answers, on number 0 alone. All else is 0.
  */
@@ -57,7 +58,8 @@ enum tlf_number {
     TLF_LOG_FULL = 10,  /* the records or their texts would not fit, a record would have to store a place over 65,535,
                            or a group would open above level 255 */
     TLF_RING_FULL = 11, /* a slot would pass 4,096 bytes */
-    TLF_MISFIT = 12     /* undo, redo or cancel meets a record whose range leaves the text or cuts a character */
+    TLF_MISFIT = 12,    /* undo, redo or cancel meets a record whose range leaves the text or cuts a character */
+    TLF_UNBOUND = 13    /* bytes that are no key: tlf_line_key alone */
 };
 
 /* ---- Codes. Only those that a call or its movement uses are looked at. */
@@ -183,6 +185,15 @@ typedef struct tlf_ring_answer {
     size_t slot;
     size_t size;
 } tlf_ring_answer;
+
+typedef struct tlf_key_answer {
+    uint32_t number;
+    size_t from;
+    size_t to;
+    tlf_line line;
+    tlf_log log;
+    tlf_ring ring;
+} tlf_key_answer;
 
 /*
  * ---- Edits. The text and the log are lent. What is cut and put in is recorded in the undo list, and the redo list is
@@ -453,6 +464,43 @@ tlf_ring_answer tlf_ring_yank(
  * tlf_line_yank_pop. 1 where the last action is no yank. [1] */
 tlf_ring_answer tlf_ring_yank_pop(
     const uint8_t *slots, size_t slots_len, const uint8_t *lens, size_t lens_len, tlf_ring *ring);
+
+/*
+ * ---- Keys. The bytes of one key do what its call on the line does, and to the ring what belongs to it: both, or
+ * neither. C-x is control x, a byte below 0x20; ESC is 0x1B. The key may have a count in front: ESC and all the ASCII
+ * digits behind it, in decimal, held at 65,535; without one n is 1. Whatever else comes is 13: no bytes, half a key,
+ * two keys, a control or ESC key that is not named here. A host that reads a terminal cuts its bytes into keys itself.
+ *
+ *   a character, U+0009, \n, \r  tlf_line_insert of it, n                                       reset
+ *   C-a, C-e                     tlf_line_move_home, tlf_line_move_end                          reset
+ *   C-b, C-f                     tlf_line_move_backward, tlf_line_move_forward n                reset
+ *   ESC b                        tlf_line_move_to_prev_word Emacs n                             reset
+ *   ESC f                        tlf_line_move_to_next_word AfterEnd Emacs n                    reset
+ *   C-d                          tlf_line_delete n                                              reset
+ *   C-t                          tlf_line_transpose_chars                                       reset
+ *   ESC t                        tlf_line_transpose_words n                                     reset
+ *   ESC c, ESC l, ESC u          tlf_line_edit_word Capitalize, Lowercase, Uppercase            reset
+ *   C-_                          tlf_log_undo n                                                 reset
+ *   C-k                          tlf_line_kill_line                                             kill, Append
+ *   C-u                          tlf_line_discard_line                                          kill, Prepend
+ *   C-w                          tlf_line_delete_prev_word Big n                                kill, Prepend
+ *   ESC d                        tlf_line_delete_word AfterEnd Emacs n                          kill, Append
+ *   C-y                          tlf_line_yank n, of the ring's yank                            yank
+ *   ESC y                        tlf_line_yank_pop, of the ring's yank_pop                      yank_pop
+ *
+ * A count in front of a key whose call has no n is passed over. What a kill cuts goes to the ring; a kill answered 1
+ * leaves the ring as it is, and so does a yank of a ring that has nothing to give, which is 1. Every other key answered
+ * 0 or 1 resets the ring; a refused or stopped one does not.
+ */
+
+/* Text, log and ring are tried by 2 to 8 whatever the key, and by 4 the key's bytes but those below 0x20 and 0x7F; with
+ * them what a yank would put in. Then comes 13, then what the two calls give, the lowest number. from, to: what C-d has
+ * cut. May answer 0, 1, 2, 4, 5, 6, 8, 9, 10, 11 and 13, and stop with 9 and 12. A buffer that none of the key's calls
+ * writes keeps every byte. */
+tlf_key_answer tlf_line_key(
+    uint8_t *text, size_t text_len, uint8_t *records, size_t records_len, uint8_t *texts, size_t texts_len,
+    uint8_t *slots, size_t slots_len, uint8_t *lens, size_t lens_len, tlf_line line, tlf_log log, tlf_ring ring,
+    const uint8_t *key, size_t key_len);
 
 #ifdef __cplusplus
 }

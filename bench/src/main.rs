@@ -8,6 +8,7 @@ mod editor;
 #[path = "../../host/src/ffi.rs"]
 mod ffi;
 mod inputs;
+mod keys;
 mod library;
 mod rows;
 mod rustyline;
@@ -29,11 +30,12 @@ enum Table {
     Growth,
     Scan,
     Undo,
+    Keys,
 }
 use Table::*;
 
-const TABLES: [(&str, Table); 4] =
-    [("rustyline", Rustyline), ("growth", Growth), ("scan", Scan), ("undo", Undo)];
+const TABLES: [(&str, Table); 5] =
+    [("rustyline", Rustyline), ("growth", Growth), ("scan", Scan), ("undo", Undo), ("keys", Keys)];
 
 /// Tables whose figures are measured together, and the word by which this program is told to measure them.
 struct Sheet {
@@ -45,7 +47,8 @@ const FIRST: Sheet = Sheet { word: "rustyline", measure: || compared::measure(fa
 const FIRST_TWO: Sheet = Sheet { word: "growth", measure: || compared::measure(true) };
 const SCAN: Sheet = Sheet { word: "scan", measure: apart::measure_scan };
 const UNDO: Sheet = Sheet { word: "undo", measure: apart::measure_undo };
-const SHEETS: [Sheet; 4] = [FIRST, FIRST_TWO, SCAN, UNDO];
+const KEYS: Sheet = Sheet { word: "keys", measure: keys::measure };
+const SHEETS: [Sheet; 5] = [FIRST, FIRST_TWO, SCAN, UNDO, KEYS];
 
 /// In a run of this program: the figures, one to a line.
 fn tell(word: &str) {
@@ -100,6 +103,9 @@ fn print(tables: &[Table], runs: usize) -> Option<()> {
     if asked(Undo) {
         apart::print_undo(&figures(&UNDO, runs)?);
     }
+    if asked(Keys) {
+        keys::print(&figures(&KEYS, runs)?);
+    }
     Some(())
 }
 
@@ -122,7 +128,7 @@ fn main() -> ExitCode {
         return ExitCode::SUCCESS;
     }
     let Some((runs, tables)) = asked(&words) else {
-        eprintln!("usage: bench/run [RUNS] [rustyline] [growth] [scan] [undo]");
+        eprintln!("usage: bench/run [RUNS] [rustyline] [growth] [scan] [undo] [keys]");
         return ExitCode::from(2);
     };
     print(&tables, runs).map_or(ExitCode::FAILURE, |()| ExitCode::SUCCESS)

@@ -2,7 +2,7 @@
 use crate::show::quoted;
 use std::fmt;
 use std::ops::Range;
-use tulofewa::{Outcome, Refusal};
+use tulofewa::{Outcome, Pressed, Refusal};
 
 pub struct Said {
     number: u32,
@@ -53,6 +53,15 @@ pub fn places(answer: Result<Option<Range<usize>>, Refusal>, text: &str) -> Said
         let between = quoted(text.get(range.clone()).unwrap_or_default());
         format!("places {} to {}, {between}", range.start, range.end)
     })
+}
+
+/// A key: what it answers, with two places where it has some, and what stood between them in the text before.
+pub fn pressed(answer: Result<Pressed, Refusal>, before: &str) -> Said {
+    match answer {
+        Ok(Pressed { cut: Some(range), .. }) => places(Ok(Some(range)), before),
+        Ok(Pressed { outcome, .. }) => Said::plain(outcome),
+        Err(refusal) => Said::refused(refusal),
+    }
 }
 
 impl fmt::Display for Said {

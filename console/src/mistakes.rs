@@ -1,7 +1,7 @@
 //! Bad input to the console itself, each kind with its message. Nothing has changed.
 use crate::commands::{all, Command};
 use crate::nearest::nearest;
-use crate::params::{either, grouped, Param};
+use crate::params::{either, grouped, Param, KEY_WORDS};
 use crate::show::visible;
 use std::fmt;
 
@@ -18,6 +18,8 @@ pub enum Mistake<'a> {
     Unfit(&'static Command, &'a str, Vec<&'static Param>),
     Surplus(&'static Command, &'a str),
     Over(&'static Command, &'static Param, usize, &'a str),
+    /// A word that is none of a key's.
+    NoKeyWord(&'a str),
     Unclosed,
     Escape(String),
     /// Something stands right behind a closing quote.
@@ -50,6 +52,7 @@ impl fmt::Display for Mistake<'_> {
             Mistake::Over(command, param, most, word) => {
                 write!(f, "{}: {} is at most {}, not {}", command.name, param.word, grouped(*most), shown(word))
             }
+            Mistake::NoKeyWord(word) => write!(f, "{} is no word of a key; those are {KEY_WORDS}", shown(word)),
             Mistake::Unclosed => f.write_str("a quote is not closed"),
             Mistake::Escape(escape) => {
                 write!(f, "{} is no escape; those are \\n, \\t, \\r, \\\", \\\\ and \\u{{e9}}", shown(escape))

@@ -20,6 +20,8 @@ pub enum Kind {
     Character(fn(&mut Args, char)),
     /// A text in quotes, or the rest of the line.
     Text(fn(&mut Args, String)),
+    /// The bytes of a key: words to the end of the line, or a text in quotes.
+    Key(fn(&mut Args, Vec<u8>)),
     /// One of these names.
     OneOf(&'static [Named]),
     /// A movement's name; its own parameters come next.
@@ -37,6 +39,7 @@ pub struct Args {
     pub text: String,
     pub old: String,
     pub ch: char,
+    pub key: Vec<u8>,
     /// Where it is left out, the text's end.
     pub cursor: Option<usize>,
     pub pos: usize,
@@ -67,6 +70,7 @@ impl Default for Args {
             text: String::new(),
             old: String::new(),
             ch: '\0',
+            key: Vec::new(),
             cursor: None,
             pos: 0,
             start: 0,
@@ -136,6 +140,7 @@ impl Param {
             Kind::Number(most, _) => format!("a number from 0 to {}", grouped(*most)),
             Kind::Character(_) => "one character, as it is or in quotes".to_owned(),
             Kind::Text(_) => "a text in quotes, or the rest of the line".to_owned(),
+            Kind::Key(_) => format!("words to the end of the line: {KEY_WORDS}"),
             Kind::OneOf(names) => either(names.iter().map(|(name, _)| *name)),
             Kind::Movement => "a movement with its arguments".to_owned(),
             Kind::Command => "the name of a command".to_owned(),
@@ -161,6 +166,9 @@ pub fn either<'a>(names: impl Iterator<Item = &'a str>) -> String {
     }
 }
 
+/// What the words of a key are.
+pub const KEY_WORDS: &str = "ESC, C-x, SP, TAB, LF, CR, digits, a character, or x: with bytes as in x:C3A9";
+
 const COUNT_MAX: usize = u16::MAX as usize;
 const AMOUNT_MAX: usize = u8::MAX as usize;
 
@@ -181,6 +189,7 @@ pub const UPDATE_POS: Param = Param::number("pos", |a, n| a.cursor = Some(n)).or
 pub const CURSOR: Param = Param::number("cursor", |a, n| a.cursor = Some(n)).or("the text's end");
 
 pub const CH: Param = Param::new("ch", Kind::Character(|a, ch| a.ch = ch));
+pub const KEY: Param = Param::new("key", Kind::Key(|a, key| a.key = key));
 pub const TEXT: Param = Param::new("text", Kind::Text(|a, text| a.text = text));
 pub const FIRST_TEXT: Param = Param::new("text", Kind::Text(|a, text| a.text = text)).or("empty");
 pub const OLD: Param = Param::new("old", Kind::Text(|a, text| a.old = text));

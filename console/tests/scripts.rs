@@ -107,6 +107,20 @@ fn mistakes() {
     assert_eq!(run("xyzzy\nquit\n").status.code(), Some(1));
 }
 
+/// What a key is lent is the line's own ring: what one kills the next yanks.
+#[test]
+fn keys() {
+    let told = lines("start \"box 12\" 3\nkey C-k\nkey ESC 0 2 C-y\nkey \"\\u{1b}y\"\nkey C-c\n");
+    let line: Vec<_> = told.iter().filter(|line| line.starts_with("  line")).map(String::as_str).collect();
+    let wanted = [
+        "  line  \"box| 12\", cursor 3 of 6",
+        "  line  \"box|\", cursor 3 of 3",
+        "  line  \"box 12 12|\", cursor 9 of 9",
+    ];
+    assert_eq!(line, wanted);
+    assert_eq!(told.last().unwrap(), "13 unbound: the bytes are no key");
+}
+
 #[test]
 fn bytes_that_are_not_utf_8() {
     let wanted = ["> yank a\\xff\\xfe\u{e9}", "! the line is not UTF-8: 0xff at place 6"];
@@ -128,7 +142,8 @@ fn long_lines() {
     let told = lines(format!("ring_kill {long}\nring_kill b\nstart {long}\ninsert b\nstart {long}b\n"));
     let answers: Vec<_> = told.iter().filter(|line| line.starts_with(|ch: char| ch.is_ascii_digit())).collect();
     let full = "the text would be longer than its buffer";
-    let sizes = "a buffer is over its limit or a ring over 16 slots, or a text to put in is longer than the line's buffer";
+    let sizes =
+        "a buffer is over its limit or a ring over 16 slots, or a text to put in is longer than the line's buffer";
     let ring = "a slot of the ring would pass 4,096 bytes";
     let wanted = [
         "0 done",

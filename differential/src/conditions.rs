@@ -54,6 +54,13 @@ impl Conditions {
         }
     }
 
+    /// A key. It counts as its call on the line.
+    pub fn note_key(&mut self, undoes: bool) {
+        if undoes && !self.open.is_empty() {
+            self.first = None;
+        }
+    }
+
     fn note_call(&mut self, call: &Call, done: bool) {
         if call.table != Table::Undos {
             return;

@@ -5,11 +5,12 @@ use std::panic::{AssertUnwindSafe, catch_unwind};
 use crate::checks::is_text;
 use crate::edit_calls::{Entry, Input};
 use crate::edit_checks::{EditInput, edit_call};
-use crate::ffi::{EditAnswer, Line, Used};
+use crate::ffi::{EditAnswer, Line, Log, Used};
 use crate::lent::Lent;
 use crate::line_buffer::LineBuffer;
 use crate::line_calls::{self, Args, Param};
 use crate::listeners::{Ears, Heard, Witness};
+use crate::log_calls::Raw;
 use crate::log_case::{self, Damage, raw};
 use crate::log_checks::Loan;
 use crate::log_model::Bytes;
@@ -99,6 +100,29 @@ impl Case {
         Case::of(buffer, line, self.log.damaged(damages))
     }
 
+    /// The text's buffer as the library takes it.
+    pub fn raw(&mut self) -> Raw {
+        raw(&mut self.text)
+    }
+
+    /// The first place of the text's buffer that is not as it should be: this text, or what was lent where there is
+    /// none.
+    pub fn wrong(&self, due: Option<&Vec<u8>>) -> (&'static str, Option<isize>) {
+        ("text", due.map_or_else(|| self.text.changed(), |due| self.text.differs(due)))
+    }
+
+    /// The text as it stands now, with this used length as far as the buffer reaches.
+    pub fn left(&self, line: Line) -> Vec<u8> {
+        self.text.now()[..line.len.min(self.size())].to_vec()
+    }
+
+    /// What stands there now, with these states, is what is lent next.
+    pub fn keep(&mut self, line: Line, log: Log) {
+        self.line = line;
+        self.text.keep();
+        self.log.keep(log);
+    }
+
     /// A call that is lent the text alone.
     pub fn go(&mut self, entry: &line_calls::Entry, args: &Args) -> Result<u32, line_calls::Difference> {
         let mut case = line_calls::Case::new(self.buffer(), self.line.len);
@@ -127,21 +151,21 @@ pub struct Difference {
 }
 
 /// What the Rust's call changes, on a copy of the line.
-fn heard(entry: &Entry, text: &[u8], cursor: usize, args: &Args) -> Vec<Heard> {
+pub fn heard(entry: &Entry, text: &[u8], cursor: usize, args: &Args) -> Vec<Heard> {
     let mut witness = Witness::default();
     (entry.rust)(&mut oracle::line_of(text, cursor), args, &mut Ears(&mut witness));
     witness.0
 }
 
 /// The undo list's used lengths after the call, or the number of the check that fails.
-fn foreseen(entry: &Entry, case: &Case, args: &Args) -> Result<Used, u32> {
+pub fn foreseen(entry: &Entry, case: &Case, args: &Args) -> Result<Used, u32> {
     let uses = entry.uses(args);
     let touched = || oracle::touched(case.text(), case.line.cursor, args);
     edit_call(&case.input(&uses, args), touched, || heard(entry, case.text(), case.line.cursor, args))
 }
 
 /// A check's number with line and log as they were, else what the Rust decides.
-fn expected(entry: &Entry, case: &mut Case, args: &Args) -> Option<Expected> {
+pub fn expected(entry: &Entry, case: &mut Case, args: &Args) -> Option<Expected> {
     let foreseen = match catch_unwind(AssertUnwindSafe(|| foreseen(entry, case, args))).ok()? {
         Ok(foreseen) => foreseen,
         Err(number) => return Some(case.refused(number)),
@@ -176,27 +200,20 @@ pub fn ask(
     let mut buf = Lent::new(&args.buf);
     let (line, log) = (case.line, case.log.loan().log);
     let [records, texts] = case.log.raw();
-    let input = Input { text: raw(&mut case.text), records, texts, line, log, buf: raw(&mut buf) };
+    let input = Input { text: case.raw(), records, texts, line, log, buf: raw(&mut buf) };
     let got = unsafe { call(&input, args) };
 
     let due = expected.as_ref().and_then(|due| due.text.as_ref());
-    let text = due.map_or_else(|| case.text.changed(), |due| case.text.differs(due));
     let lists = expected.as_ref().and_then(|due| due.lists.as_ref());
-    let places = case.log.wrong(lists).into_iter().chain([("text", text), ("buf", buf.changed())]);
+    let places = case.log.wrong(lists).into_iter().chain([case.wrong(due), ("buf", buf.changed())]);
     let wrong: Vec<_> = places.filter_map(|(name, place)| Some((name, place?))).collect();
     match expected {
         Some(due) if due.answer == got && wrong.is_empty() => {
             record_call(name, takes, case, args, &due);
-            case.line = got.line;
-            case.text.keep();
-            case.log.keep(got.log);
+            case.keep(got.line, got.log);
             Ok(got.number)
         }
-        expected => {
-            let count = got.line.len.min(case.size());
-            let text = case.text.now()[..count].to_vec();
-            Err(Difference { text, lists: case.log.left(&got.log), got, wrong, expected })
-        }
+        expected => Err(Difference { text: case.left(got.line), lists: case.log.left(&got.log), got, wrong, expected }),
     }
 }
 

@@ -55,9 +55,9 @@ impl Shrink for Step {
 }
 
 /// A text with places in it: those behind a piece that is left out move with it.
-struct WithPlaces<'a, R> {
-    row: R,
-    places: Vec<&'a mut usize>,
+pub struct WithPlaces<'a, R> {
+    pub row: R,
+    pub places: Vec<&'a mut usize>,
 }
 
 impl<R: Row> Row for WithPlaces<'_, R> {

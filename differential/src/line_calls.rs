@@ -135,7 +135,7 @@ pub struct Entry {
     pub takes: &'static [Param],
     pub gives: &'static [u32],
     ask: unsafe fn(*const u8, usize, Line, &Args) -> LineAnswer,
-    rust: fn(&mut LineBuffer, &Args) -> Outcome,
+    pub rust: fn(&mut LineBuffer, &Args) -> Outcome,
 }
 
 impl Entry {

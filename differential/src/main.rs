@@ -16,6 +16,15 @@ mod edit_shrink;
 #[path = "../../host/src/ffi.rs"]
 mod ffi;
 mod r#gen;
+mod key_account;
+mod key_calls;
+mod key_case;
+mod key_checks;
+mod key_gen;
+mod key_lists;
+mod key_parts;
+mod key_reading;
+mod key_shrink;
 mod lent;
 mod line_calls;
 mod line_parts;
@@ -35,6 +44,8 @@ mod log_parts;
 mod log_shrink;
 mod oracle;
 mod record;
+mod record_heads;
+mod record_keys;
 mod record_lines;
 mod ring_account;
 mod ring_calls;
@@ -62,10 +73,10 @@ include!(concat!(env!("OUT_DIR"), "/rustyline.rs"));
 use std::process::ExitCode;
 use std::time::Instant;
 
-const DEFAULT: u64 = 1_200_000;
+const DEFAULT: u64 = 1_400_000;
 
 /// From here on a call must have been seen with every number that it can give.
-const ENOUGH: u64 = 840_000;
+const ENOUGH: u64 = 980_000;
 
 /// So many comparisons from a seed, each input told before its call or not; or the account of the first difference.
 type Part = fn(u64, u64, bool, &mut tally::Tally) -> Result<(), String>;
@@ -89,14 +100,15 @@ fn main() -> ExitCode {
     }
     let began = Instant::now();
     let mut tally = tally::Tally::new();
-    let share = n / 6;
+    let share = n / 7;
     let parts: [Part; 5] = [line_parts::run, log_parts::run, edit_parts::run, undo_parts::run, ring_parts::run];
     let compared = parts
         .iter()
         .try_for_each(|part| part(share, seed, trace, &mut tally).inspect(|()| record::next_part()))
-        .and_then(|()| session_parts::run(n - 5 * share, seed, trace, &mut tally));
-    let sessions = match compared {
-        Ok(sessions) => sessions,
+        .and_then(|()| session_parts::run(share, seed, trace, &mut tally).inspect(|_| record::next_part()))
+        .and_then(|sessions| Ok((sessions, key_parts::run(n - 6 * share, seed, trace, &mut tally)?)));
+    let (sessions, keys) = match compared {
+        Ok(both) => both,
         Err(account) => {
             print!("N {n}, seed {seed}: {account}");
             return ExitCode::FAILURE;
@@ -109,6 +121,8 @@ fn main() -> ExitCode {
     tally.print();
     let session_parts::Counts { sessions, calls, due, conclusions } = sessions;
     println!("{sessions} sessions of {calls} calls; at the end of {due} demand 3 is due, {conclusions} conclusions");
+    let key_parts::Counts { keys, lists, due, conclusions } = keys;
+    println!("{keys} keys, {lists} drawn lists; at the end of {due} demand 3 is due, {conclusions} conclusions");
     let [tab, cr, newline] = oracle::control_widths();
     println!("the Rust's width of U+0009, \\r, \\n: {tab}, {cr}, {newline}");
     println!("{n} comparisons, seed {seed}, no difference, {:.1} s", began.elapsed().as_secs_f64());

@@ -1,5 +1,5 @@
 //! The recorded answers: of the comparisons in which the library gives what is expected, a sample for each call and
-//! number. A Rattle program replays it; what a line means stands at the head of each data file (`STATE`, `RING`, `HEAD`).
+//! number. A Rattle program replays it; what a line means stands at the head of each data file (`record_heads.rs`).
 use std::cell::RefCell;
 use std::collections::{BTreeMap, HashSet};
 use std::path::Path;
@@ -7,10 +7,13 @@ use std::{fs, io};
 
 use crate::ffi::{EditAnswer, LineAnswer, Log, LogAnswer, Ring, RingAnswer};
 use crate::r#gen::Rng;
+use crate::key_case::Expected;
 use crate::log_model::Bytes;
+use crate::record_heads::{HEAD, KEY, RING, STATE};
+use crate::record_keys::LentKey;
 pub use crate::record_lines::{Lent, LentRing};
 use crate::tally::calls;
-use crate::{edit_calls, line_calls, log_calls, ring_calls, undo_calls};
+use crate::{edit_calls, key_calls, line_calls, log_calls, ring_calls, undo_calls};
 
 /// The longest line of a sample, and of one that has to do with a limit.
 const LONGEST: usize = 300;
@@ -55,6 +58,10 @@ fn is_edit(name: &str) -> bool {
     edit_calls::ENTRIES.iter().any(|entry| entry.name == name)
 }
 
+fn is_key(name: &str) -> bool {
+    key_calls::KINDS.iter().any(|kind| kind.name == name)
+}
+
 /// The entries of the crate `c_kill`.
 #[rustfmt::skip]
 const KILLS: [&str; 10] = [
@@ -63,7 +70,7 @@ const KILLS: [&str; 10] = [
     "tlf_line_delete_to",
 ];
 
-static FILES: [Data; 6] = [
+static FILES: [Data; 7] = [
     Data {
         file: "line.txt",
         share: Share { done: 40, nothing: 24, other: 12, at_a_limit: 2 },
@@ -100,36 +107,8 @@ static FILES: [Data; 6] = [
         form: RING,
         has: |name| ring_calls::ENTRIES.iter().any(|entry| entry.name == name),
     },
+    Data { file: "key.txt", share: Share { done: 10, nothing: 8, other: 4, at_a_limit: 1 }, form: KEY, has: is_key },
 ];
-
-/// The head of a data file, behind its first lines.
-const STATE: &str = "\
-A line is a call with all that it is lent, '>', and all that it answers and leaves:
-    NAME TEXT RECORDS TEXTS BUF NEW LEN CURSOR UR UT RR RT LEVEL ARGUMENT* > TEXT RECORDS TEXTS NUMBER FROM TO LEN CURSOR UR UT RR RT LEVEL
-TEXT, RECORDS and TEXTS are the whole lent buffers, LEN and CURSOR the line, UR and UT the used lengths of the undo
-list's records and texts, RR and RT those of the redo list, LEVEL the group level. BUF is the text that the call is
-handed, and of the log's replace the old one with NEW the new one; the other arguments stand in the order of the
-call's parameters. Of a buffer that a call is not lent nothing is written, '-', and 0 of a state.
-Behind '>' TEXT, RECORDS and TEXTS are the used parts that are left; '=' where no byte of the whole buffer may change.
-";
-
-const RING: &str = "\
-A line is a call with all that it is lent, '>', and all that it answers and leaves:
-    NAME SLOTS LENS TEXT SIZE COUNT INDEX ACTION YANKED ARGUMENT* > SLOTS LENS NUMBER SLOT SIZE SIZE COUNT INDEX ACTION YANKED
-SLOTS and LENS are the whole lent buffers, TEXT is the text that the call is handed, SIZE to YANKED the ring's record.
-Behind '>' SLOTS are the texts of the slots in use, one behind the other, and LENS their lengths; '=' where no byte of
-the whole buffer may change. The first SIZE there is the size before, which yank_pop answers.
-";
-
-const HEAD: &str = "\
-Texts are in hexadecimal, '-' where there is none; '*' and a decimal number behind it say how often the byte before it
-stands there in all, and a comma begins the next bytes: 0a61*3,62 is 0a61616162. Numbers are decimal. Where more than 8
-bytes stand behind the used part of a buffer, each of them is written as 9f: no answer depends on them.
-0 and 1 with places, text, cursor, lists and slots are the Rust's answers. From 2 on the Rust has none: number and
-what is left are the harness's reading of document 01, and so are cancel, redo's cursor and, where undo, redo or
-cancel is stopped by 9 or 12, the number. A line move that measures U+0009 or \\r is the Rust's on a text that has a
-letter for each of them, as document 01 counts them.
-";
 
 struct Sample {
     seen: u64,
@@ -144,6 +123,9 @@ struct Recorder {
     part: usize,
     samples: BTreeMap<Key, Sample>,
 }
+
+/// The part of the keys, the last. There alone keys are recorded, and nothing else.
+const KEYS: usize = 6;
 
 thread_local! {
     static RECORDER: RefCell<Option<Recorder>> = const { RefCell::new(None) };
@@ -165,8 +147,11 @@ fn data_of(name: &str) -> &'static Data {
 }
 
 impl Recorder {
-    /// A sample of all that come by, each as likely as the others, but for those whose line is too long.
+    /// A sample of all that come by in the parts that are for them, each as likely as the others, but for those whose line is too long.
     fn note(&mut self, name: &'static str, number: u32, at_a_limit: bool, line: impl FnOnce() -> String) {
+        if is_key(name) != (self.part == KEYS) {
+            return;
+        }
         let share = data_of(name).share.of(number, at_a_limit);
         let longest = if at_a_limit { LONGEST_AT_A_LIMIT } else { LONGEST };
         let key = (name, number, at_a_limit, self.part);
@@ -250,8 +235,16 @@ pub fn ring_call(name: &'static str, lent: LentRing, texts: Option<&Vec<Vec<u8>>
     note(name, answer.number, lent.is_at_a_limit(), || lent.line(short(name), texts, ring, answer));
 }
 
-/// The data files that are written by hand.
-const CASES: [&str; 2] = ["movement_cases.txt", "edit_cases.txt"];
+/// A key, what it is lent, and what it answers and leaves.
+pub fn key(name: &'static str, lent: LentKey, due: &Expected) {
+    if !lent.fits() {
+        return;
+    }
+    note(name, due.answer.number, lent.is_at_a_limit(), || lent.line(due));
+}
+
+/// The data files that are written by hand, or by tools/key_cases.
+const CASES: [&str; 3] = ["movement_cases.txt", "edit_cases.txt", "key_cases.txt"];
 
 /// What the program prints of a file where all of it agrees: its name, and how many lines of each call it has.
 fn printed(file: &str, text: &str) -> String {

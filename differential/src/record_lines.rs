@@ -1,5 +1,5 @@
 //! A recorded answer as a line: what a call is lent, '>', and what it answers and leaves, as the heads of the data files
-//! (`record.rs`) say.
+//! (`record_heads.rs`) say.
 use std::fmt::Write as _;
 
 use crate::ffi::{EditAnswer, Line, Log, Ring, RingAnswer};
@@ -41,10 +41,10 @@ impl Lent<'_> {
         [self.text, self.records, self.texts, self.buf, self.new].iter().all(|bytes| bytes.len() <= LARGEST)
     }
 
-    /// The line of a call on it, with what is left in the three buffers and the answer.
-    pub fn line(&self, name: &str, due: [Option<&[u8]>; 3], answer: &EditAnswer) -> String {
+    /// The three buffers, each with a space before it and plain bytes behind its used part.
+    pub fn buffers(&self) -> String {
         let Log { undo, redo, .. } = self.log;
-        let mut out = String::from(name);
+        let mut out = String::new();
         for (buffer, used) in [
             (self.text, self.line.len),
             (self.records, undo.records.saturating_add(redo.records)),
@@ -52,7 +52,12 @@ impl Lent<'_> {
         ] {
             let _ = write!(out, " {}", hex(&with_plain_behind(buffer, used)));
         }
-        let _ = write!(out, " {} {}", hex(self.buf), hex(self.new));
+        out
+    }
+
+    /// The line of a call on it, with what is left in the three buffers and the answer.
+    pub fn line(&self, name: &str, due: [Option<&[u8]>; 3], answer: &EditAnswer) -> String {
+        let mut out = format!("{name}{} {} {}", self.buffers(), hex(self.buf), hex(self.new));
         put_state(&mut out, &self.line, &self.log);
         put_numbers(&mut out, &self.arguments);
         let [text, records, texts] = due.map(left);
@@ -63,7 +68,7 @@ impl Lent<'_> {
     }
 }
 
-fn put_state(out: &mut String, line: &Line, log: &Log) {
+pub fn put_state(out: &mut String, line: &Line, log: &Log) {
     let &Log { undo, redo, level } = log;
     put_numbers(out, &[line.len, line.cursor, undo.records, undo.texts, redo.records, redo.texts, level]);
 }
@@ -86,7 +91,7 @@ fn with_plain_behind(buffer: &[u8], used: usize) -> Vec<u8> {
 const RUN: usize = 6;
 
 /// Bytes in hexadecimal, as the head of a data file says.
-fn hex(bytes: &[u8]) -> String {
+pub fn hex(bytes: &[u8]) -> String {
     if bytes.is_empty() {
         return "-".into();
     }
@@ -105,14 +110,14 @@ fn hex(bytes: &[u8]) -> String {
     out
 }
 
-fn put_numbers(out: &mut String, numbers: &[usize]) {
+pub fn put_numbers(out: &mut String, numbers: &[usize]) {
     for number in numbers {
         let _ = write!(out, " {number}");
     }
 }
 
 /// What is left in a buffer: '=' where no byte of it may change.
-fn left(due: Option<&[u8]>) -> String {
+pub fn left(due: Option<&[u8]>) -> String {
     due.map_or_else(|| "=".into(), hex)
 }
 
@@ -140,7 +145,7 @@ impl LentRing<'_> {
     }
 
     /// Both buffers, with plain bytes past the used length of each slot and from the count on.
-    fn buffers(&self) -> [Vec<u8>; 2] {
+    pub fn buffers(&self) -> [Vec<u8>; 2] {
         let Loan { slots, lens, ring } = self.loan;
         let count = ring.count.min(slots.len() / SLOT).min(lens.len() / LENGTH);
         let lens = with_plain_behind(lens, count * LENGTH);
@@ -168,7 +173,7 @@ impl LentRing<'_> {
     }
 }
 
-fn put_record(out: &mut String, ring: &Ring) {
+pub fn put_record(out: &mut String, ring: &Ring) {
     let &Ring { size, count, index, action, yanked } = ring;
     put_numbers(out, &[size, count, index, action, yanked]);
 }

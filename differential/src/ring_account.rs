@@ -60,12 +60,12 @@ fn answer(answer: &RingAnswer) -> String {
     format!("{number} {}, slot {slot}, size {size}", word(*number))
 }
 
-fn state(ring: &Ring) -> String {
+pub fn state(ring: &Ring) -> String {
     let Ring { size, count, index, action, yanked } = ring;
     format!("size {size}, count {count}, index {index}, last action {}, yanked {yanked}", named(&ACTIONS, *action))
 }
 
-fn slots(texts: &[Vec<u8>]) -> String {
+pub fn slots(texts: &[Vec<u8>]) -> String {
     let all: Vec<String> = texts.iter().map(|text| format!("{} of {} bytes", brief(text), text.len())).collect();
     if all.is_empty() { "no slots".into() } else { format!("slots: {}", all.join(", ")) }
 }
@@ -92,7 +92,7 @@ fn value(param: Param, args: &Args) -> String {
     }
 }
 
-fn told_damages(damages: &[Damage]) -> String {
+pub fn told_damages(damages: &[Damage]) -> String {
     let one = |damage: &Damage| match damage {
         Damage::Text(slot, text) => format!("slot {slot} {} of {} bytes", brief(text), text.len()),
         Damage::SlotsByte(place, byte) => format!("byte {byte:02X} at place {place} of slots"),

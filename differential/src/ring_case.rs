@@ -4,7 +4,7 @@ use std::panic::{AssertUnwindSafe, catch_unwind};
 use crate::ffi::{Ring, RingAnswer};
 use crate::kill_ring::{KillRing, slots};
 use crate::lent::Lent;
-use crate::log_calls::Lends;
+use crate::log_calls::{Lends, Raw};
 use crate::log_case::{raw, stale};
 use crate::record;
 use crate::ring_calls::{Args, Entry, Input, Param};
@@ -90,6 +90,18 @@ impl Case {
         (self.ring.ring, self.slots.bytes().to_vec(), self.lens.bytes().to_vec())
     }
 
+    /// Both buffers as the library takes them.
+    pub fn raw(&mut self) -> [Raw; 2] {
+        [&mut self.slots, &mut self.lens].map(raw)
+    }
+
+    /// What stands there now, with this record, is what is lent next.
+    pub fn keep(&mut self, ring: Ring) {
+        self.ring.ring = ring;
+        self.slots.keep();
+        self.lens.keep();
+    }
+
     /// A copy with these damages. It may still be sound: then the Rust's ring is that of its bytes.
     pub fn damaged(&self, damages: &[Damage]) -> Case {
         let mut all = [self.slots.bytes().to_vec(), self.lens.bytes().to_vec()];
@@ -129,7 +141,7 @@ impl Case {
 
     /// The first place of each buffer that is not as it should be: the slots of the Rust's ring with their used
     /// lengths, and what stands behind the last; or what was lent, where a call may not write.
-    fn wrong(&self, written: bool) -> [(&'static str, Option<isize>); 3] {
+    pub fn wrong(&self, written: bool) -> [(&'static str, Option<isize>); 3] {
         let guards = ("the ring's record", self.ring.guards_changed().then_some(0));
         if !written {
             return [("slots", self.slots.changed()), ("lens", self.lens.changed()), guards];
@@ -176,7 +188,7 @@ pub struct Difference {
 }
 
 /// A check's number with the ring as it was, else what the Rust decides.
-fn expected(entry: &Entry, case: &mut Case, args: &Args) -> Option<Expected> {
+pub fn expected(entry: &Entry, case: &mut Case, args: &Args) -> Option<Expected> {
     if let Some(number) = ring_call(entry, &case.loan(), args) {
         return Some(Expected { answer: RingAnswer { number, slot: 0, size: 0 }, ring: case.ring.ring, texts: None });
     }
@@ -194,7 +206,7 @@ fn expected(entry: &Entry, case: &mut Case, args: &Args) -> Option<Expected> {
 pub fn compare(entry: &Entry, case: &mut Case, args: &Args) -> Result<u32, Difference> {
     let mut text = Lent::new(&args.text);
     let expected = expected(entry, case, args);
-    let (slots, lens) = (raw(&mut case.slots), raw(&mut case.lens));
+    let [slots, lens] = case.raw();
     let before = case.ring.ring;
     let input = Input { slots, lens, ring: case.ring.pointer(), text: raw(&mut text) };
     let got = unsafe { (entry.ask)(&input, args) };
@@ -206,8 +218,7 @@ pub fn compare(entry: &Entry, case: &mut Case, args: &Args) -> Result<u32, Diffe
     match expected {
         Some(due) if due.answer == got && due.ring == ring && wrong.is_empty() => {
             record_call(entry, Loan { ring: before, ..case.loan() }, args, &due);
-            case.slots.keep();
-            case.lens.keep();
+            case.keep(ring);
             Ok(got.number)
         }
         expected => Err(Difference { texts: case.left(&ring), got, ring, wrong, expected }),

@@ -13,8 +13,10 @@ pub const MAX_SLOTS: usize = 16;
 /// Bytes of a slot, and of its used length.
 pub const SLOT: usize = MAX_TEXT;
 pub const LENGTH: usize = 2;
-/// Append and Prepend.
-pub const LAST_MODE: u32 = 1;
+/// The directions of a kill.
+pub const APPEND: u32 = 0;
+pub const PREPEND: u32 = 1;
+pub const LAST_MODE: u32 = PREPEND;
 
 /// The two buffers as they are lent, and the ring's record.
 #[derive(Clone, Copy)]

@@ -78,6 +78,12 @@ fn spoil(rng: &mut Rng, call: &mut Call) {
     }
 }
 
+/// What a drawn fault does to this ring.
+pub fn ring_damage(rng: &mut Rng, case: &Case) -> Vec<Damage> {
+    let fault = rng.pick(&FAULTS);
+    drawn_damage(rng, &case.loan(), fault)
+}
+
 /// What a fault does to this ring: nothing where there is nothing to spoil.
 fn drawn_damage(rng: &mut Rng, loan: &Loan, fault: Fault) -> Vec<Damage> {
     let Ring { size, count, .. } = loan.ring;

@@ -68,7 +68,7 @@ pub fn drawn_ring(rng: &mut Rng, size: usize, habit: Habit) -> Vec<Step> {
 }
 
 /// Any last action that the checks pass; the size of a yank need not be that of a slot.
-fn drawn_action(rng: &mut Rng, size: usize, count: usize) -> [Damage; 2] {
+pub fn drawn_action(rng: &mut Rng, size: usize, count: usize) -> [Damage; 2] {
     let few = rng.below(20);
     let action = rng.pick(&[KILL, YANK, OTHER]);
     let action = if action == KILL && size > 0 && count == 0 { YANK } else { action };

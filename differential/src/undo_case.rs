@@ -46,7 +46,7 @@ fn done(entry: &Entry, stop: Option<&Stop>, line: &mut LineBuffer, changes: &mut
 
 /// A check's number with line and log as they were, else what the Rust decides, as far as a record in the way; for redo
 /// with document 01's cursor.
-fn expected(entry: &Entry, case: &mut Case, args: &Args) -> Option<Expected> {
+pub fn expected(entry: &Entry, case: &mut Case, args: &Args) -> Option<Expected> {
     let found = lent(&case.input(entry.takes, args), Vec::new);
     let found = match found {
         Ok(found) => found,

@@ -1,6 +1,6 @@
 /*
- * Document 01's cases, P1 to P13 and the others, through the static library. A row has the case, the text and the
- * cursor, the call, and what it must answer. Prints the rows that fail, and how many there are.
+ * Document 01's cases, P1 to P13 and the others, and some of order 1's keys, through the static library. A row has the
+ * case, the text and the cursor, the call, and what it must answer. Prints the rows that fail, and how many there are.
  */
 #include "edit_line.h"
 
@@ -163,6 +163,47 @@ static void ring(struct edit_line *e)
     row("P13, pop again", gives(e, tlf_ring_yank_pop(RING(e)), 1, "c"));
 }
 
+/* The text and the cursor that a key leaves, and what stands in slot 0 of a ring of 1, which had killed q. */
+static bool presses(struct edit_line *e, const char *bytes, uint32_t number, const char *text, size_t cursor,
+                    const char *slot, size_t action)
+{
+    tlf_key_answer a = tlf_line_key(WHOLE(e), (const uint8_t *)bytes, strlen(bytes));
+    (void)pressed(e, a);
+    bool same = a.number == number && a.line.cursor == cursor && a.ring.action == action &&
+                holds(slot_text(e, 0), slot_len(e, 0), slot, strlen(slot));
+    return wanted(same && holds(e->text, a.line.len, text, strlen(text)), a.number, a.from, a.to, a.line.cursor);
+}
+
+#define KEY(name, s, at, bytes, number, left, cursor, slot, action) \
+    (start(e, s, sizeof (s) - 1, at, 1), (void)tlf_ring_kill(RING(e), BYTES("q"), TLF_MODE_APPEND), \
+     row(name, presses(e, bytes, number, left, cursor, slot, action)))
+
+static void keys(struct edit_line *e)
+{
+    KEY("x", "abc", 2, "x", 0, "abxc", 3, "q", TLF_LAST_OTHER);
+    KEY("ESC 3 x", "a", 1, "\x1B" "3x", 0, "axxx", 4, "q", TLF_LAST_OTHER);
+    KEY("a mark", "e", 1, "\xCC\x81", 0, "e\xCC\x81", 3, "q", TLF_LAST_OTHER);
+    KEY("C-a", "ab\ncd", 5, "\x01", 0, "ab\ncd", 3, "q", TLF_LAST_OTHER);
+    KEY("ESC 0 ESC f", "a b c", 2, "\x1B" "0\x1B" "f", 0, "a b c", 5, "q", TLF_LAST_OTHER);
+    KEY("ESC, a long count, C-f", "abc", 0, "\x1B" "99999999999\x06", 0, "abc", 3, "q", TLF_LAST_OTHER);
+    KEY("C-k", "ab\nc", 1, "\x0B", 0, "a\nc", 1, "qb", TLF_LAST_KILL);
+    KEY("C-k, nothing", "ab", 2, "\x0B", 1, "ab", 2, "q", TLF_LAST_KILL);
+    KEY("C-u", "ab\r\ncd", 4, "\x15", 0, "abcd", 2, "\r\nq", TLF_LAST_KILL);
+    KEY("ESC 2 C-w", "a b c", 5, "\x1B" "2\x17", 0, "a ", 2, "b cq", TLF_LAST_KILL);
+    KEY("ESC d", "ab cd", 2, "\x1B" "d", 0, "ab", 2, "q cd", TLF_LAST_KILL);
+    KEY("ESC 2 C-y", "ab", 1, "\x1B" "2\x19", 0, "aqqb", 3, "q", TLF_LAST_YANK);
+    KEY("ESC y, no yank before", "ab", 1, "\x1B" "y", 1, "ab", 1, "q", TLF_LAST_KILL);
+    KEY("ESC t, one word", "one", 0, "\x1B" "t", 1, "one", 3, "q", TLF_LAST_OTHER);
+    KEY("C-_, nothing", "ab", 2, "\x1F", 1, "ab", 2, "q", TLF_LAST_OTHER);
+    KEY("no bytes", "ab", 2, "", 13, "ab", 2, "q", TLF_LAST_KILL);
+    KEY("C-g", "ab", 2, "\x07", 13, "ab", 2, "q", TLF_LAST_KILL);
+    KEY("ESC 1 2", "ab", 2, "\x1B" "12", 13, "ab", 2, "q", TLF_LAST_KILL);
+    KEY("ESC B", "ab", 2, "\x1B" "B", 13, "ab", 2, "q", TLF_LAST_KILL);
+    KEY("two keys", "ab", 2, "xy", 13, "ab", 2, "q", TLF_LAST_KILL);
+    KEY("a character cut short", "ab", 2, "\xC3", 4, "ab", 2, "q", TLF_LAST_KILL);
+    KEY("ESC U+00B5", "ab", 2, "\x1B\xC2\xB5", 4, "ab", 2, "q", TLF_LAST_KILL);
+}
+
 int main(void)
 {
     static struct edit_line whole;
@@ -171,6 +212,7 @@ int main(void)
     undo(&whole);
     groups(&whole);
     ring(&whole);
-    printf("document 01's cases: %u rows, %u failed\n", rows, failed);
+    keys(&whole);
+    printf("document 01's and order 1's cases: %u rows, %u failed\n", rows, failed);
     return failed != 0;
 }

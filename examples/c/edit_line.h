@@ -17,12 +17,16 @@ struct edit_line {
     tlf_ring ring;
 };
 
-/* What the entries are lent, in the header's order: motions a TEXT, edits and undo an EDIT, the log's calls a LOG. */
+/* What the entries are lent, in the header's order: motions a TEXT, edits and undo an EDIT, the log's calls a LOG, a
+ * key the WHOLE. */
 #define TEXT(e) (e)->text, sizeof (e)->text, (e)->line
 #define EDIT(e) \
     (e)->text, sizeof (e)->text, (e)->records, sizeof (e)->records, (e)->texts, sizeof (e)->texts, (e)->line, (e)->log
 #define LOG(e) (e)->records, sizeof (e)->records, (e)->texts, sizeof (e)->texts, (e)->log
 #define RING(e) (e)->slots, sizeof (e)->slots, (e)->lens, sizeof (e)->lens, &(e)->ring
+#define WHOLE(e) \
+    (e)->text, sizeof (e)->text, (e)->records, sizeof (e)->records, (e)->texts, sizeof (e)->texts, \
+    (e)->slots, sizeof (e)->slots, (e)->lens, sizeof (e)->lens, (e)->line, (e)->log, (e)->ring
 
 /* A string literal as a text to put in. */
 #define BYTES(s) (const uint8_t *)(s), sizeof (s) - 1
@@ -44,6 +48,14 @@ static inline uint32_t edited(struct edit_line *e, tlf_edit_answer a)
 static inline uint32_t logged(struct edit_line *e, tlf_log_answer a)
 {
     e->log = a.log;
+    return a.number;
+}
+
+static inline uint32_t pressed(struct edit_line *e, tlf_key_answer a)
+{
+    e->line = a.line;
+    e->log = a.log;
+    e->ring = a.ring;
     return a.number;
 }
 

@@ -1,13 +1,13 @@
 /*
- * A description is typed, a suggestion dismissed, words are killed and yanked, and all of it is undone. Each step is
- * printed with what it answered and with the text, a bar where the cursor is.
+ * A description is typed, a suggestion dismissed, words are killed and yanked, by calls and by keys, and all of it is
+ * undone. Each step is printed with what it answered and with the text, a bar where the cursor is.
  */
 #include "edit_line.h"
 
 #include <stdio.h>
 
 static const char *const WORDS[] = {"done", "nothing", "sizes", "code", "foreign", "place", "split", "prompt",
-                                    "damaged", "full", "log full", "ring full", "misfit"};
+                                    "damaged", "full", "log full", "ring full", "misfit", "unbound"};
 
 static void show(const struct edit_line *e, const char *step, uint32_t number)
 {
@@ -61,6 +61,12 @@ static void yank_pop(struct edit_line *e)
     show(e, "the kill before it instead", number);
 }
 
+/* One key, a string without 0x00, and what it is called. */
+static void key(struct edit_line *e, const char *name, const char *bytes)
+{
+    show(e, name, pressed(e, tlf_line_key(WHOLE(e), (const uint8_t *)bytes, strlen(bytes))));
+}
+
 int main(void)
 {
     static struct edit_line whole;
@@ -97,6 +103,18 @@ int main(void)
     kill_word(e);
     yank(e);
     yank_pop(e);
+
+    puts("\nA key does its call on the line and the ring's, both or neither.");
+    key(e, "C-a", "\x01");
+    key(e, "ESC d, a word into the ring", "\x1B" "d");
+    key(e, "C-d, which is no kill", "\x04");
+    key(e, "ESC 2 ESC f, two words on", "\x1B" "2\x1B" "f");
+    key(e, "SP", " ");
+    key(e, "C-y", "\x19");
+    key(e, "ESC b", "\x1B" "b");
+    key(e, "ESC l", "\x1B" "l");
+    key(e, "C-g, which is no key", "\x07");
+    key(e, "ESC 2 C-_, undo", "\x1B" "2\x1F");
 
     puts("\nA refusal changes nothing.");
     show(e, "put U+4E2D in", edited(e, tlf_line_insert(EDIT(e), 0x4E2D, 1)));

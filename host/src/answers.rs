@@ -1,4 +1,4 @@
-//! What a call says: document 01's numbers as results.
+//! What a call says: document 01's numbers as results, and 13 of order 1.
 use std::error::Error;
 use std::fmt;
 
@@ -28,8 +28,8 @@ impl Outcome {
     }
 }
 
-/// A call that is refused, with document 01's word. Nothing has changed, but for `undo`, `redo` and `cancel` that stop
-/// with `Full` or `Misfit`: the records handled before the one in the way stay handled.
+/// A call that is refused, with document 01's word. Nothing has changed, but for `undo`, `redo`, `cancel` and the key that
+/// undoes where they stop with `Full` or `Misfit`: the records handled before the one in the way stay handled.
 ///
 /// `Code` and `Damaged` do not come from an `EditLine`, whose codes are enums and whose log and ring are its own.
 #[derive(Clone, Copy, Debug, PartialEq, Eq, Hash)]
@@ -45,10 +45,12 @@ pub enum Refusal {
     LogFull,
     RingFull,
     Misfit,
+    /// Of a key alone.
+    Unbound,
 }
 
 impl Refusal {
-    /// Document 01's number, 2 to 12.
+    /// Document 01's number, 2 to 12, or 13.
     #[must_use]
     pub fn number(self) -> u32 {
         self as u32
@@ -69,6 +71,7 @@ impl Refusal {
             Refusal::LogFull => "log full",
             Refusal::RingFull => "ring full",
             Refusal::Misfit => "misfit",
+            Refusal::Unbound => "unbound",
         }
     }
 }
@@ -87,6 +90,7 @@ impl fmt::Display for Refusal {
             Refusal::LogFull => "the log has no room for the change, or too many groups are open",
             Refusal::RingFull => "a slot of the ring would pass 4,096 bytes",
             Refusal::Misfit => "a record of the log does not fit the text",
+            Refusal::Unbound => "the bytes are no key",
         })
     }
 }
@@ -108,8 +112,9 @@ pub(crate) fn outcome(number: u32) -> Result<Outcome, Refusal> {
         9 => Err(Refusal::Full),
         10 => Err(Refusal::LogFull),
         11 => Err(Refusal::RingFull),
-        // 12, the last
-        _ => Err(Refusal::Misfit),
+        12 => Err(Refusal::Misfit),
+        // 13, the last
+        _ => Err(Refusal::Unbound),
     }
 }
 

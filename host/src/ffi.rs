@@ -72,6 +72,17 @@ pub struct RingAnswer {
     pub size: usize,
 }
 
+#[repr(C)]
+#[derive(Clone, Copy, Debug, PartialEq, Eq)]
+pub struct KeyAnswer {
+    pub number: u32,
+    pub from: usize,
+    pub to: usize,
+    pub line: Line,
+    pub log: Log,
+    pub ring: Ring,
+}
+
 /// E: a text and a log are lent, then come the call's own.
 macro_rules! edits {
     ($($name:ident($($own:ident: $of:ty),*);)*) => {
@@ -197,4 +208,14 @@ unsafe extern "C" {
     pub fn tlf_ring_yank_pop(
         slots: *const u8, slots_len: usize, lens: *const u8, lens_len: usize, ring: *mut Ring,
     ) -> RingAnswer;
+}
+
+// A key: a text, a log and a ring are lent, the ring's record by value.
+#[rustfmt::skip]
+unsafe extern "C" {
+    pub fn tlf_line_key(
+        text: *mut u8, text_len: usize, records: *mut u8, records_len: usize, texts: *mut u8, texts_len: usize,
+        slots: *mut u8, slots_len: usize, lens: *mut u8, lens_len: usize, line: Line, log: Log, ring: Ring,
+        key: *const u8, key_len: usize,
+    ) -> KeyAnswer;
 }

@@ -14,7 +14,7 @@ mod ring;
 pub use answers::{Outcome, Refusal};
 pub use changes::{Change, Changes};
 pub use codes::{Action, At, CharSearch, Mode, Movement, Word, WordAction};
-pub use edit_line::{EditLine, Room, RECORDS_MAX, SLOTS_MAX, TEXTS_MAX, TEXT_MAX};
+pub use edit_line::{EditLine, Pressed, Room, RECORDS_MAX, SLOTS_MAX, TEXTS_MAX, TEXT_MAX};
 pub use ring::KillRing;
 
 /// The Rust of the repository's README runs as a test.

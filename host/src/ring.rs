@@ -90,6 +90,11 @@ impl KillRing {
         str::from_utf8(text.unwrap_or_default()).unwrap_or_default()
     }
 
+    /// Both buffers, to be written, for a call that takes the record by value; each with its length.
+    pub(crate) fn buffers(&mut self) -> [(*mut u8, usize); 2] {
+        [&mut self.slots, &mut self.lens].map(|buffer| (buffer.as_mut_ptr(), buffer.len()))
+    }
+
     /// The ring's small record: a yank changes nothing else.
     pub(crate) fn record(&self) -> Ring {
         self.ring

@@ -6,7 +6,7 @@ use std::collections::HashSet;
 use tulofewa::ffi::{self, Line, Log, Used};
 use tulofewa::{EditLine, KillRing, Mode, Outcome, Refusal, Room, RECORDS_MAX, SLOTS_MAX, TEXTS_MAX, TEXT_MAX};
 
-const ALL: [Refusal; 11] = [
+const ALL: [Refusal; 12] = [
     Refusal::Sizes,
     Refusal::Code,
     Refusal::Foreign,
@@ -18,15 +18,16 @@ const ALL: [Refusal; 11] = [
     Refusal::LogFull,
     Refusal::RingFull,
     Refusal::Misfit,
+    Refusal::Unbound,
 ];
 
 #[test]
 fn each_has_its_number_a_word_and_a_sentence() {
     let numbers: Vec<_> = ALL.iter().map(|refusal| refusal.number()).collect();
-    assert_eq!(numbers, (2..=12).collect::<Vec<_>>());
+    assert_eq!(numbers, (2..=13).collect::<Vec<_>>());
     let sentences: HashSet<_> =
         ALL.iter().flat_map(|refusal| [refusal.word().to_owned(), refusal.to_string()]).collect();
-    assert_eq!(sentences.len(), 22);
+    assert_eq!(sentences.len(), 24);
     assert_eq!(
         [Outcome::Done, Outcome::Nothing].map(|outcome| (outcome.number(), outcome.word())),
         [(0, "done"), (1, "nothing")]

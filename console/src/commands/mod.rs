@@ -1,5 +1,6 @@
 //! The table of commands. What `help` lists, what is understood and what the messages say all come from it.
 mod edits;
+mod keys;
 mod log;
 mod movements;
 mod own;
@@ -54,6 +55,7 @@ pub const GROUPS: &[Group] = &[
     Group { title: "Questions", commands: questions::COMMANDS },
     Group { title: "The log", commands: log::COMMANDS },
     Group { title: "The ring", commands: ring::COMMANDS },
+    Group { title: "Keys", commands: keys::COMMANDS },
 ];
 
 pub fn all() -> impl Iterator<Item = &'static Command> {

@@ -1,12 +1,13 @@
 //! The table against the host crate's source and against calls.txt.
-use super::{all, edits, find, log, movements, own, questions, ring, Command};
+use super::{all, edits, find, keys, log, movements, own, questions, ring, Command};
 use crate::params::{Args, Kind, Param, ACTION, AT, MODE, SEARCH, WORD};
 
 const CODES: &str = include_str!("../../../host/src/codes.rs");
 const FFI: &str = include_str!("../../../host/src/ffi.rs");
-const EDIT_LINE: [&str; 4] = [
+const EDIT_LINE: [&str; 5] = [
     include_str!("../../../host/src/edit_line/mod.rs"),
     include_str!("../../../host/src/edit_line/edits.rs"),
+    include_str!("../../../host/src/edit_line/keys.rs"),
     include_str!("../../../host/src/edit_line/motions.rs"),
     include_str!("../../../host/src/edit_line/log.rs"),
 ];
@@ -56,8 +57,15 @@ fn the_host_crates_calls_are_the_tables() {
     let lines = EDIT_LINE.iter().flat_map(|source| calls(source)).map(renamed);
     let rings = calls(RING).into_iter().map(|call| format!("ring_{call}"));
     let mut host: Vec<_> = lines.chain(rings).collect();
-    let groups =
-        [own::COMMANDS, edits::COMMANDS, movements::MOTIONS, questions::COMMANDS, log::COMMANDS, ring::COMMANDS];
+    let groups = [
+        own::COMMANDS,
+        edits::COMMANDS,
+        movements::MOTIONS,
+        questions::COMMANDS,
+        log::COMMANDS,
+        ring::COMMANDS,
+        keys::COMMANDS,
+    ];
     let own = ["help", "show", "type", "quit"];
     let mut table: Vec<_> =
         groups.into_iter().flatten().filter(|command| !own.contains(&command.name)).map(usage).collect();
@@ -81,7 +89,7 @@ fn every_entry_of_the_library_is_reached() {
         assert!(find(&command).is_some(), "{entry}");
         entries += 1;
     }
-    assert_eq!(entries, 53);
+    assert_eq!(entries, 54);
 }
 
 /// The cases of an enum of codes.rs.

@@ -1,4 +1,5 @@
 //! A line of input becomes a command and its arguments.
+mod keys;
 mod quotes;
 #[cfg(test)]
 mod tests;
@@ -98,6 +99,11 @@ impl<'a> Argument<'a> {
             (Kind::Text(set), Some(text)) => set(args, text.clone()),
             (Kind::Text(set), None) => {
                 set(args, line.to_owned());
+                return Ok(Some(Taken { behind: "", next: &[] }));
+            }
+            (Kind::Key(set), Some(text)) => set(args, text.clone().into_bytes()),
+            (Kind::Key(set), None) => {
+                set(args, keys::bytes(line.split(BLANKS))?);
                 return Ok(Some(Taken { behind: "", next: &[] }));
             }
             (Kind::Character(set), text) => match only_char(text.as_deref().unwrap_or(raw)) {

@@ -117,6 +117,12 @@ fn messages() {
             "set_pos 99999999999999999999",
             "set_pos: pos is at most 18,446,744,073,709,551,615, not 99999999999999999999",
         ),
+        ("key ESC up", "up is no word of a key; those are ESC, C-x, SP, TAB, LF, CR, digits, a character, or x: with bytes as in x:C3A9"),
+        (
+            "key",
+            "key: key is missing (words to the end of the line: ESC, C-x, SP, TAB, LF, CR, digits, a character, or x: with bytes as in x:C3A9); usage: key key",
+        ),
+        ("key \"a\" b", "key: b is too much; usage: key key"),
         ("yank \"a", "a quote is not closed"),
         ("yank \"a\"b", "a blank is missing between a closing quote and b"),
         ("yank \"\\x\"", "\\x is no escape; those are \\n, \\t, \\r, \\\", \\\\ and \\u{e9}"),

@@ -21,6 +21,7 @@ use Rattle.undo.specs.Undo.{Walked, stepStateOf}
 use Rattle.undo_cancel.specs.Cancel.{opens, walkTo, beginsDown, cancelOut}
 use Rattle.undo_cancel.proofs.Cancels.{opens-within}
 use Rattle.calls.specs.Calls.{cancel}
+use Rattle.session.specs.Calls.{asked}
 use Rattle.session.specs.Runs.{below}
 use Rattle.session.proofs.Values.{openAfter}
 use Rattle.session.proofs.Invariant.{openMarks, Groups, Bound, Chain, Inv, no-redo}
@@ -107,7 +108,8 @@ module _ (R : Repertoire) (F : Format) (Q : List ℕ → Type 0) (t₀ : List �
       }))))
 
   -- cancel keeps the invariant, whether the mark is an open group's or not
-  pub cancel-keeps : (C m : ℕ) (s : State) (g : List ℕ) → Bound Q C → Inv R F Q t₀ s g → Inv R F Q t₀ (leaves (cancelOut C m s) s) (openAfter (cancel m) (cancelOut C m s) g)
+  pub cancel-keeps : (C m : ℕ) (s : State) (g : List ℕ) → Bound Q C → Inv R F Q t₀ s g
+      → Inv R F Q t₀ (leaves (cancelOut C m s) s) (openAfter (asked (cancel m)) (cancelOut C m s) g)
   unfolding cancelOut
   cancel-keeps C m s g h v =
       by-test _ (opens m (s .log .undo))

@@ -22,13 +22,13 @@ use Rattle.edit.specs.Calls.{Lent, formatOf, textOf, checked, stateOf}
 use Rattle.edit.specs.declared.EditAnswer.{EditAnswer}
 use Rattle.undo.specs.Undo.{undoCall, undoOut}
 use Rattle.undo_redo.specs.Redo.{redoCall, redoOut}
-use Rattle.calls.specs.Calls.{Asked, undo, redo, outcomeOf}
-use Rattle.calls.specs.Contracts.{Buffers, MeetsIn}
+use Rattle.calls.specs.Contracts.{Buffers}
+use Rattle.session.specs.Calls.{Call, undo, redo}
 use Rattle.session.specs.Runs.{Sized, buffersOf, Step, AnyStep, left, SameText, SameLog, HandedOn, Run, leftBy, openAfter, Allowed, Closed}
 use Rattle.session.specs.Demand3.{Starts, undos, ones, AllAnswered, Emptied, Demand3}
-use Rattle.session.proofs.Formats.{one-format, passes-in, RunIn, run-in}
+use Rattle.session.proofs.Formats.{one-format, passes-in, MeetsIn, RunIn, run-in}
 use Rattle.session.proofs.Values as values
-use Rattle.session.proofs.Values.{Handed, lentFor, Units}
+use Rattle.session.proofs.Values.{Handed, lentFor, outcomeOf, Units}
 use Rattle.session.proofs.Invariant.{Bound, Inv}
 use Rattle.session.proofs.Handed.{read-back, passes, few}
 use Rattle.session.proofs.Units.{no-marks, undo-keeps, redo-keeps, undo-cap, redo-cap, units-are, in-one, nothing-left, undo-sum, undo-redo, first-text}
@@ -41,10 +41,10 @@ use Rattle.session.proofs.HandOver.{handed-on, step-leaves, walked-leav
 -- ---- from the start to the end of a run
 module _ (R : Repertoire) (law : Lawful R) (F : Format) (one : (l : Lent) → formatOf l ≡ F) (t₀ : List ℕ) where
   -- a call keeps the invariant of the state that stands in what it is handed
-  step-kept : (l : Lent) (s : State) (g : List ℕ) (a : Asked) (x : Step a) → Stands F s l → Inv R F (Short (length (l .text))) t₀ s g → HandedOn l (x .lent)
-      → MeetsIn R F a (x .lent) (x .answer) (x .after) → Allowed a g
-      → Stands F (leaves (outcomeOf R F (x .lent) a) s) (left a x) × Inv R F (Short (length (x .after .text))) t₀ (leaves (outcomeOf R F (x .lent) a) s) (openAfter a x g)
-  step-kept l s g a x h v k m q =
+  step-kept : (l : Lent) (s : State) (g : List ℕ) (c : Call) (x : Step c) → Stands F s l → Inv R F (Short (length (l .text))) t₀ s g → HandedOn l (x .lent)
+      → MeetsIn R F c (x .lent) (x .answer) (x .after) → Allowed R c g
+      → Stands F (leaves (outcomeOf R F (x .lent) c) s) (left c x) × Inv R F (Short (length (x .after .text))) t₀ (leaves (outcomeOf R F (x .lent) c) s) (openAfter c x g)
+  step-kept l s g c x h v k m q =
       let b = x .lent in
       let C = length (b .text) in
       let hb = handed-stands F one s l b h k in
@@ -55,16 +55,16 @@ module _ (R : Repertoire) (law : Lawful R) (F : Format) (one : (l : Lent) → fo
       let text : isText R (textOf b) ≡ true = subst (λ (y : State). isText R (y .text) ≡ true) (sym is) (w .here .text) in
       let cursor : In (textOf b) (b .line .cursor) (b .line .cursor) = subst (λ (y : State). In (y .text) (y .cursor) (y .cursor)) (sym is) (w .cursor) in
       let len : b .line .len ≡ length (textOf b) = ap (λ (y : Line). y .len) (hb .line) ∙ ap length (sym (text-is F s b hb)) in
-      let z = short-keeps R law F t₀ (buffersOf l) (buffersOf b) a s g on q v in
-      let z₁ = subst (λ (y : Lent). Inv R F (Short C) t₀ (leaves (outcomeOf R F y a) s) (values.openAfter a (outcomeOf R F y a) g)) (sym e) z in
-      let z₂ = subst (Inv R F (Short C) t₀ (leaves (outcomeOf R F b a) s)) (sym (opened R F a x g m)) z₁ in (
-        step-leaves R F s a x hb is (λ y. move-keeps R F b text cursor len y) m,
-        subst (λ (n : ℕ). Inv R F (Short n) t₀ (leaves (outcomeOf R F b a) s) (openAfter a x g)) (sym (x .lengths .text)) z₂,
+      let z = short-keeps R law F t₀ (buffersOf l) (buffersOf b) c s g on q v in
+      let z₁ = subst (λ (y : Lent). Inv R F (Short C) t₀ (leaves (outcomeOf R F y c) s) (values.openAfter c (outcomeOf R F y c) g)) (sym e) z in
+      let z₂ = subst (Inv R F (Short C) t₀ (leaves (outcomeOf R F b c) s)) (sym (opened R F c x g m)) z₁ in (
+        step-leaves R F s c x hb is (λ y. move-keeps R F b text cursor len y) m,
+        subst (λ (n : ℕ). Inv R F (Short n) t₀ (leaves (outcomeOf R F b c) s) (openAfter c x g)) (sym (x .lengths .text)) z₂,
       )
 
   -- and so does a run
   run-kept : (xs : List AnyStep) (l : Lent) (s : State) (g : List ℕ) → Stands F s l → Inv R F (Short (length (l .text))) t₀ s g
-      → Sized F (buffersOf l) → RunIn R F l xs → Closed xs g
+      → Sized F (buffersOf l) → RunIn R F l xs → Closed R xs g
       → (s′ : State) × Stands F s′ (leftBy l xs) × Inv R F (Short (length (leftBy l xs .text))) t₀ s′ [] × Sized F (buffersOf (leftBy l xs))
   unfolding RunIn leftBy Closed
   run-kept [] l s g h v z r c = (s, h, subst (Inv R F (Short (length (l .text))) t₀ s) c v, z)
@@ -236,7 +236,7 @@ module _ (R : Repertoire) (F : Format) (one : (l : Lent) → formatOf l ≡ F) (
         }
 
 -- ---- after every run, from an empty log at level 0 and any text, cursor and buffers that the checks pass
-pub demand-3 : (R : Repertoire) → Lawful R → (l : Lent) → Starts R l → (xs : List AnyStep) → Run R l xs → Closed xs [] → Demand3 R l (leftBy l xs)
+pub demand-3 : (R : Repertoire) → Lawful R → (l : Lent) → Starts R l → (xs : List AnyStep) → Run R l xs → Closed R xs [] → Demand3 R l (leftBy l xs)
 demand-3 R law l z xs r c =
     let F = logFormat in
     let p = passes-in R l z in
@@ -251,5 +251,5 @@ demand-3 R law l z xs r c =
     (omega (arith, few R F (Short C) (textOf l) (buffersOf b) s [] (e .2) (buffersOf b) on (format-fit 0 .records)))
 
 -- 01's repertoire
-pub demand-3-catalogue : (l : Lent) → Starts catalogue l → (xs : List AnyStep) → Run catalogue l xs → Closed xs [] → Demand3 catalogue l (leftBy l xs)
+pub demand-3-catalogue : (l : Lent) → Starts catalogue l → (xs : List AnyStep) → Run catalogue l xs → Closed catalogue xs [] → Demand3 catalogue l (leftBy l xs)
 demand-3-catalogue = demand-3 catalogue catalogue-lawful

@@ -28,6 +28,7 @@ use Rattle.undo_step.specs.UndoStep.{misfit, exchanging, undoing}
 use Rattle.undo.specs.Undo.{walk, undoOut}
 use Rattle.undo_cancel.specs.Cancel.{opens, walkTo, beginsDown, cancelOut}
 use Rattle.calls.specs.Calls as calls
+use Rattle.session.specs.Calls.{asked}
 use Rattle.session.specs.Runs.{buffersOf, Step, AnyStep, left, SameText, SameLog, HandedOn, Run, leftBy, below, Closed}
 use Rattle.session.specs.Demand3.{Starts, ones, Demand3}
 use Rattle.session.proofs.Played.{lending}
@@ -63,7 +64,7 @@ abbrev s7 : State
 s7 = at (0x71 ∷ []) (q ∷ []) (end ∷ edit (delete 1 (0x72 ∷ [])) ∷ begin ∷ []) 0
 
 -- ---- the calls: each is lent the bytes of its state in buffers of 16, 32 and 32 bytes
-unfoldable pub typeQ : Step (calls.edit (calls.insert 0x71 1))
+unfoldable pub typeQ : Step (asked (calls.edit (calls.insert 0x71 1)))
 unfolding formatFor
 typeQ = record {
   lent = lending s0;
@@ -73,7 +74,7 @@ typeQ = record {
       { text = refl; records = refl; texts = refl };
 }
 
-unfoldable pub begins : Step (calls.log calls.begin)
+unfoldable pub begins : Step (asked (calls.log calls.begin))
 unfolding formatFor
 begins = record {
   lent = lending s1;
@@ -84,7 +85,7 @@ begins = record {
 }
 
 -- with the mark that begin answered; the log's buffers are lent to read
-unfoldable pub cancels : Step (calls.cancel (begins .answer .from))
+unfoldable pub cancels : Step (asked (calls.cancel (begins .answer .from)))
 unfolding formatFor
 cancels = record {
   lent = lending s2;
@@ -94,7 +95,7 @@ cancels = record {
       { text = refl; records = refl; texts = refl };
 }
 
-unfoldable pub typeR : Step (calls.edit (calls.insert 0x72 1))
+unfoldable pub typeR : Step (asked (calls.edit (calls.insert 0x72 1)))
 unfolding formatFor
 typeR = record {
   lent = lending s2;
@@ -104,7 +105,7 @@ typeR = record {
       { text = refl; records = refl; texts = refl };
 }
 
-unfoldable pub ends : Step (calls.log calls.end)
+unfoldable pub ends : Step (asked (calls.log calls.end))
 unfolding formatFor
 ends = record {
   lent = lending s5;
@@ -114,7 +115,7 @@ ends = record {
   lengths = record { text = refl; records = refl; texts = refl };
 }
 
-unfoldable pub undoes : Step (calls.undo 1)
+unfoldable pub undoes : Step (asked (calls.undo 1))
 unfolding formatFor
 undoes =
     record {
@@ -126,12 +127,12 @@ undoes =
 
 abbrev story : List AnyStep
 story =
-    (calls.edit (calls.insert 0x71 1), typeQ) ∷ (calls.log calls.begin, begins) ∷ (calls.cancel (begins .answer .from), cancels) ∷
-    (calls.log calls.begin, begins) ∷ (calls.edit (calls.insert 0x72 1), typeR)
-    ∷ (calls.log calls.end, ends) ∷ (calls.undo 1, undoes) ∷ []
+    (asked (calls.edit (calls.insert 0x71 1)), typeQ) ∷ (asked (calls.log calls.begin), begins) ∷ (asked (calls.cancel (begins .answer .from)), cancels) ∷
+    (asked (calls.log calls.begin), begins) ∷ (asked (calls.edit (calls.insert 0x72 1)), typeR)
+    ∷ (asked (calls.log calls.end), ends) ∷ (asked (calls.undo 1), undoes) ∷ []
 
 -- what is handed on in buffers of the same lengths
-handed : (a b : Lent) → b .line ≡ a .line → SameText a b → SameLog a b → length (a .text) ≡ 16 → length (a .records) ≡ 32 → length (a .texts) ≡ 32
+pub handed : (a b : Lent) → b .line ≡ a .line → SameText a b → SameLog a b → length (a .text) ≡ 16 → length (a .records) ≡ 32 → length (a .texts) ≡ 32
     → length (b .text) ≡ 16 → length (b .records) ≡ 32
     → length (b .texts) ≡ 32 → HandedOn a b
 unfolding formatFor
@@ -154,27 +155,27 @@ ran = (
   handed (lending s0) (typeQ .lent) refl (record { len = refl; bytes = refl }) (record { state = refl; records = refl; texts = refl }) refl refl refl refl refl refl,
   record { answer = refl; bytes = record { text = refl; log = record { records = refl; texts = refl } } },
   (
-    handed (left (calls.edit (calls.insert 0x71 1)) typeQ) (begins .lent) refl (record { len = refl; bytes = refl })
+    handed (left (asked (calls.edit (calls.insert 0x71 1))) typeQ) (begins .lent) refl (record { len = refl; bytes = refl })
         (record { state = refl; records = refl; texts = refl }) refl refl refl refl refl refl,
     (record { answer = refl; bytes = record { records = refl; texts = refl } }, refl),
     (
-      handed (left (calls.log calls.begin) begins) (cancels .lent) refl (record { len = refl; bytes = refl })
+      handed (left (asked (calls.log calls.begin)) begins) (cancels .lent) refl (record { len = refl; bytes = refl })
           (record { state = refl; records = refl; texts = refl }) refl refl refl refl refl refl,
       (record { answer = refl; bytes = record { text = refl; log = record { records = refl; texts = refl } } }, refl, refl),
       (
-        handed (left (calls.cancel 1) cancels) (begins .lent) refl (record { len = refl; bytes = refl })
+        handed (left (asked (calls.cancel 1)) cancels) (begins .lent) refl (record { len = refl; bytes = refl })
             (record { state = refl; records = refl; texts = refl }) refl refl refl refl refl refl,
         (record { answer = refl; bytes = record { records = refl; texts = refl } }, refl),
         (
-          handed (left (calls.log calls.begin) begins) (typeR .lent) refl (record { len = refl; bytes = refl })
+          handed (left (asked (calls.log calls.begin)) begins) (typeR .lent) refl (record { len = refl; bytes = refl })
               (record { state = refl; records = refl; texts = refl }) refl refl refl refl refl refl,
           record { answer = refl; bytes = record { text = refl; log = record { records = refl; texts = refl } } },
           (
-            handed (left (calls.edit (calls.insert 0x72 1)) typeR) (ends .lent) refl (record { len = refl; bytes = refl })
+            handed (left (asked (calls.edit (calls.insert 0x72 1))) typeR) (ends .lent) refl (record { len = refl; bytes = refl })
                 (record { state = refl; records = refl; texts = refl }) refl refl refl refl refl refl,
             (record { answer = refl; bytes = record { records = refl; texts = refl } }, refl),
             (
-              handed (left (calls.log calls.end) ends) (undoes .lent) refl (record { len = refl; bytes = refl })
+              handed (left (asked (calls.log calls.end)) ends) (undoes .lent) refl (record { len = refl; bytes = refl })
                   (record { state = refl; records = refl; texts = refl }) refl refl refl refl refl refl,
               (record { answer = refl; bytes = record { text = refl; log = record { records = refl; texts = refl } } }, refl, refl),
               tt,
@@ -186,7 +187,7 @@ ran = (
   ),
 )
 
-closed : Closed story []
+closed : Closed catalogue story []
 unfolding Closed below typeQ begins cancels typeR ends undoes
 closed = (tt, (tt, (tt, (tt, (tt, (tt, (refl, refl)))))))
 
@@ -203,7 +204,7 @@ story-demand = demand-3-catalogue (lending s0) starts story ran closed
 abbrev s8 : State
 s8 = record { text = []; cursor = 0; log = record { undo = []; redo = edit (delete 0 (0x71 ∷ [])) ∷ end ∷ edit (delete 1 (0x72 ∷ [])) ∷ begin ∷ []; level = 0 } }
 
-unfoldable pub last : Step (calls.undo 1)
+unfoldable pub last : Step (asked (calls.undo 1))
 unfolding formatFor
 last =
     record {
@@ -219,7 +220,7 @@ unfolding typeQ begins cancels typeR ends undoes last formatFor Run leftBy withi
     undoRecords undoTexts allNumbersFit fits endAll endsAny overSizes damaged undos redos beginOut endOut splice textAfter listAfter tooLong edited misfit
     exchanging undoing walk undoOut opens walkTo beginsDown cancelOut below
 last-ran = (
-  handed (left (calls.undo 1) undoes) (last .lent) refl (record { len = refl; bytes = refl })
+  handed (left (asked (calls.undo 1)) undoes) (last .lent) refl (record { len = refl; bytes = refl })
       (record { state = refl; records = refl; texts = refl }) refl refl refl refl refl refl,
   (record { answer = refl; bytes = record { text = refl; log = record { records = refl; texts = refl } } }, refl, refl),
   tt,

@@ -11,7 +11,13 @@ use Rattle.unicode.specs.Repertoire.{Repertoire}
 use Rattle.checks.specs.Checks.{ownTests}
 use Rattle.edit.specs.Calls.{Lent, formatOf, checked}
 use Rattle.calls.specs.Calls.{Asked, edit, move, log, undo, redo, cancel}
-use Rattle.calls.specs.Contracts.{Buffers, AnswerTo, MeetsIn, formatIn, Meets}
+use Rattle.calls.specs.Contracts as contracts
+use Rattle.calls.specs.Contracts.{Buffers, formatIn}
+use Rattle.key_press.specs.Keys.{pressOf}
+use Rattle.key_model.specs.Stands.{standsFor}
+use Rattle.key_model.specs.Keyed.{keyCall}
+use Rattle.key_model.specs.Contract.{keyBuffers, Keyed}
+use Rattle.session.specs.Calls.{Call, asked, key, AnswerTo, Meets}
 use Rattle.session.specs.Runs.{Sized, buffersOf, AnyStep, left, HandedOn, Run}
 use Rattle.session.specs.Demand3.{Starts}
 
@@ -33,13 +39,20 @@ module _ (R : Repertoire) where
   pub passes-in : (l : Lent) → Starts R l → checked R logFormat l (ownTests false false false) ≡ 0
   passes-in l z = subst (λ (F : Format). checked R F l (ownTests false false false) ≡ 0) (one-format l) (z .passes)
 
-  meets-in : (a : Asked) (l : Lent) (r : AnswerTo a) (b : Buffers) → Meets R a l r b → MeetsIn R logFormat a l r b
-  meets-in a l r b m = subst (λ (F : Format). MeetsIn R F a l r b) (of-call a l) m
+  -- what a call meets in a format
+  abbrev pub MeetsIn : Format → (c : Call) → Lent → AnswerTo c → Buffers → Type 0
+  MeetsIn F (asked a) l r b = contracts.MeetsIn R F a l r b
+  MeetsIn F (key k h) l r b =
+      Keyed R F l h (standsFor (pressOf R k)) (keyCall R F l h k) (r .answer) (keyBuffers (b .text) (b .records) (b .texts) (r .slots) (r .lens))
+
+  meets-in : (c : Call) (l : Lent) (r : AnswerTo c) (b : Buffers) → Meets R c l r b → MeetsIn logFormat c l r b
+  meets-in (asked a) l r b m = subst (λ (F : Format). MeetsIn F (asked a) l r b) (of-call a l) m
+  meets-in (key k h) l r b m = subst (λ (F : Format). MeetsIn F (key k h) l r b) (one-format l) m
 
   -- a run in one format
   unfoldable pub RunIn : Format → Lent → List AnyStep → Type 0
   RunIn F l [] = Unit {0}
-  RunIn F l (x ∷ xs) = HandedOn l (x .1 .lent) × MeetsIn R F (x .0) (x .1 .lent) (x .1 .answer) (x .1 .after) × RunIn F (left (x .0) (x .1)) xs
+  RunIn F l (x ∷ xs) = HandedOn l (x .1 .lent) × MeetsIn F (x .0) (x .1 .lent) (x .1 .answer) (x .1 .after) × RunIn F (left (x .0) (x .1)) xs
 
   pub run-in : (xs : List AnyStep) (l : Lent) → Run R l xs → RunIn logFormat l xs
   unfolding Run RunIn

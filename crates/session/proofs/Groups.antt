@@ -22,7 +22,8 @@ use Rattle.log_state.specs.Calls as logs
 use Rattle.edit.specs.Plan.{State}
 use Rattle.edit.specs.Calls.{Lent, logLent, sizesOf, stateOf}
 use Rattle.calls.specs.Calls.{Asked, loggedBy, outcomeOf}
-use Rattle.calls.specs.Calls as asked
+use Rattle.calls.specs.Calls as calls
+use Rattle.session.specs.Calls.{Call, asked}
 use Rattle.session.proofs.Values.{openAfter}
 use Rattle.session.proofs.Invariant.{Nest, Open, Groups, Chain, Inv, no-redo}
 
@@ -93,19 +94,22 @@ not-one t =
 
 module _ (R : Repertoire) (F : Format) (Q : List ℕ → Type 0) (t₀ : List ℕ) where
   -- the invariant of what an outcome leaves of a state, with the groups that are open then
+  abbrev pub KeepsCall : Call → Outcome State → State → List ℕ → Type 0
+  KeepsCall c o s g = Inv R F Q t₀ (leaves o s) (openAfter c o g)
+
   abbrev pub Keeps : Asked → Outcome State → State → List ℕ → Type 0
-  Keeps a o s g = Inv R F Q t₀ (leaves o s) (openAfter a o g)
+  Keeps a o s g = KeepsCall (asked a) o s g
 
   -- a refusal by 2 or more changes nothing, and opens and closes no group
   pub refused-keeps : (a : Asked) (k : ℕ) (s : State) (g : List ℕ) → Inv R F Q t₀ s g → Keeps a (refused (suc (suc k))) s g
-  refused-keeps (asked.edit x) k s g v = v
-  refused-keeps (asked.move x) k s g v = v
-  refused-keeps (asked.log asked.begin) k s g v = rw (lt-leb (suc (suc k)) 1 (omega arith)) v
-  refused-keeps (asked.log asked.end) k s g v = rw (lt-leb (suc (suc k)) 1 (omega arith)) v
-  refused-keeps (asked.log asked.lastInsert) k s g v = v
-  refused-keeps (asked.undo n) k s g v = v
-  refused-keeps (asked.redo n) k s g v = v
-  refused-keeps (asked.cancel m) k s g v = rw (ne-eqb (suc (suc k)) 0 (λ e. omega arith)) v
+  refused-keeps (calls.edit x) k s g v = v
+  refused-keeps (calls.move x) k s g v = v
+  refused-keeps (calls.log calls.begin) k s g v = rw (lt-leb (suc (suc k)) 1 (omega arith)) v
+  refused-keeps (calls.log calls.end) k s g v = rw (lt-leb (suc (suc k)) 1 (omega arith)) v
+  refused-keeps (calls.log calls.lastInsert) k s g v = v
+  refused-keeps (calls.undo n) k s g v = v
+  refused-keeps (calls.redo n) k s g v = v
+  refused-keeps (calls.cancel m) k s g v = rw (ne-eqb (suc (suc k)) 0 (λ e. omega arith)) v
 
   -- ---- on the log that the lent bytes hold
   module _ (l : Lent) (g : List ℕ) (v : Inv R F Q t₀ (stateOf R F l) g) where
@@ -125,10 +129,10 @@ module _ (R : Repertoire) (F : Format) (Q : List ℕ → Type 0) (t₀ : List �
         rw e (record { opened = h .opened; marks = ap (λ (m : List ℕ). length u ∷ m) (h .marks) })
 
     -- a Begin: check 10, then a group open with its mark
-    begin-made : Keeps (asked.log asked.begin) (loggedBy R F l (beginOut F (sizesOf l) (s .log))) s g
+    begin-made : Keeps (calls.log calls.begin) (loggedBy R F l (beginOut F (sizesOf l) (s .log))) s g
     unfolding beginOut fits allNumbersFit
     begin-made =
-        by-test (Keeps (asked.log asked.begin) (loggedBy R F l (beginOut F (sizesOf l) (s .log))) s g) (ltb level 255 && fits F (sizesOf l) (begin ∷ u))
+        by-test (Keeps (calls.log calls.begin) (loggedBy R F l (beginOut F (sizesOf l) (s .log))) s g) (ltb level 255 && fits F (sizesOf l) (begin ∷ u))
         (λ e. rw e
         (no-redo R F Q t₀ _ _ _ _ _ (record {
           chain = v .here .chain;
@@ -140,11 +144,11 @@ module _ (R : Repertoire) (F : Format) (Q : List ℕ → Type 0) (t₀ : List �
         (λ e. rw e v)
 
     -- the Ends: check 10, then no group open, whether one was put or not
-    end-made : Keeps (asked.log asked.end) (loggedBy R F l (endOut F (sizesOf l) (s .log))) s g
+    end-made : Keeps (calls.log calls.end) (loggedBy R F l (endOut F (sizesOf l) (s .log))) s g
     unfolding endOut fits
     end-made =
-        by-test (Keeps (asked.log asked.end) (loggedBy R F l (endOut F (sizesOf l) (s .log))) s g) (fits F (sizesOf l) (endAll level u))
-        (λ e. by-test (Keeps (asked.log asked.end) (loggedBy R F l (endOut F (sizesOf l) (s .log))) s g) (endsAny level u) (λ f. rw (e, f) (left e)) (λ f. rw (e, f) (left e)))
+        by-test (Keeps (calls.log calls.end) (loggedBy R F l (endOut F (sizesOf l) (s .log))) s g) (fits F (sizesOf l) (endAll level u))
+        (λ e. by-test (Keeps (calls.log calls.end) (loggedBy R F l (endOut F (sizesOf l) (s .log))) s g) (endsAny level u) (λ f. rw (e, f) (left e)) (λ f. rw (e, f) (left e)))
         (λ e. rw e v)
       where
         left : fits F (sizesOf l) (endAll level u) ≡ true → Inv R F Q t₀ (record { text = s .text; cursor = s .cursor; log = ended (s .log) }) []
@@ -159,7 +163,7 @@ module _ (R : Repertoire) (F : Format) (Q : List ℕ → Type 0) (t₀ : List �
             (v .cursor) (and-both (allNumbersFit (F .width) (endAll level u)) _ e .0)
 
     -- places found or none: all is as it was
-    last-insert-made : (p : Option Places) → Keeps (asked.log asked.lastInsert) (loggedBy R F l (placesOut p (s .log))) s g
+    last-insert-made : (p : Option Places) → Keeps (calls.log calls.lastInsert) (loggedBy R F l (placesOut p (s .log))) s g
     last-insert-made none = v
     last-insert-made (some p) = v
 
@@ -188,13 +192,13 @@ module _ (R : Repertoire) (F : Format) (Q : List ℕ → Type 0) (t₀ : List �
         (not-one (both (logTests R F (l .log) (l .records) (l .texts)) (ownTests false false false))) (λ e. k))
 
     -- begin opens a group with the mark that it answers
-    pub begin-keeps : Keeps (asked.log asked.begin) (outcomeOf R F l (asked.log asked.begin)) s g
-    begin-keeps = checked-keeps (asked.log asked.begin) (beginOut F (sizesOf l) (stateOf R F l .log)) (begin-made l g invariant)
+    pub begin-keeps : Keeps (calls.log calls.begin) (outcomeOf R F l (calls.log calls.begin)) s g
+    begin-keeps = checked-keeps (calls.log calls.begin) (beginOut F (sizesOf l) (stateOf R F l .log)) (begin-made l g invariant)
 
     -- end closes all groups
-    pub end-keeps : Keeps (asked.log asked.end) (outcomeOf R F l (asked.log asked.end)) s g
-    end-keeps = checked-keeps (asked.log asked.end) (endOut F (sizesOf l) (stateOf R F l .log)) (end-made l g invariant)
+    pub end-keeps : Keeps (calls.log calls.end) (outcomeOf R F l (calls.log calls.end)) s g
+    end-keeps = checked-keeps (calls.log calls.end) (endOut F (sizesOf l) (stateOf R F l .log)) (end-made l g invariant)
 
     -- last_insert changes nothing
-    pub last-insert-keeps : Keeps (asked.log asked.lastInsert) (outcomeOf R F l (asked.log asked.lastInsert)) s g
-    last-insert-keeps = checked-keeps (asked.log asked.lastInsert) (lastInsertOut (stateOf R F l .log)) (last-insert-made l g invariant (lastInsertAt (stateOf R F l .log .undo)))
+    pub last-insert-keeps : Keeps (calls.log calls.lastInsert) (outcomeOf R F l (calls.log calls.lastInsert)) s g
+    last-insert-keeps = checked-keeps (calls.log calls.lastInsert) (lastInsertOut (stateOf R F l .log)) (last-insert-made l g invariant (lastInsertAt (stateOf R F l .log .undo)))

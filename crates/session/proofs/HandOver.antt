@@ -28,13 +28,19 @@ use Rattle.log_state.specs.declared.Used.{Used}
 use Rattle.edit.specs.Plan.{State}
 use Rattle.edit.specs.Calls.{Lent, lent, formatOf, logLent, textOf, stateOf, answerOf, Stored, Edited}
 use Rattle.edit.specs.declared.EditAnswer.{EditAnswer}
-use Rattle.calls.specs.Calls as asked
-use Rattle.calls.specs.Calls.{Asked, MoveCall, moveOutcome, movedBy, logOutcome, loggedBy, outcomeOf}
-use Rattle.calls.specs.Contracts.{Buffers, MeetsIn}
+use Rattle.calls.specs.Calls as calls
+use Rattle.calls.specs.Calls.{MoveCall, moveOutcome, movedBy, logOutcome, loggedBy}
+use Rattle.calls.specs.Contracts.{Buffers}
+use Rattle.kill_ring.specs.Calls as rings
+use Rattle.key_model.specs.declared.KeyAnswer.{KeyAnswer}
+use Rattle.key_model.specs.Keyed.{KeyState, keyCall, lineOf}
+use Rattle.key_model.specs.Contract.{KeyBuffers, KeyDone}
+use Rattle.session.specs.Calls.{Call, asked, key}
 use Rattle.session.specs.Runs.{Sized, buffersOf, Step, left, usedRecords, usedTexts, SameText, SameLog, HandedOn, below, openAfter}
 use Rattle.session.specs.Demand3.{Emptied}
 use Rattle.session.proofs.Values as values
-use Rattle.session.proofs.Values.{Handed, lentFor, markIn}
+use Rattle.session.proofs.Values.{Handed, lentFor, outcomeOf, markIn}
+use Rattle.session.proofs.Formats.{MeetsIn}
 use Rattle.session.proofs.Moves.{Within}
 
 -- the state s stands in what was left
@@ -140,6 +146,18 @@ module _ (R : Repertoire) (F : Format) (s : State) (l : Lent) (h : Stands F s l)
   edited-leaves (answered k p q s′) r t rb tb e =
       record { stored = e .bytes; line = ap (λ (a : EditAnswer). a .line) (e .answer); log = ap (λ (a : EditAnswer). a .log) (e .answer) }
 
+  -- a key
+  keyed-leaves : (ring : rings.Lent) (o : Outcome KeyState) (r : KeyAnswer) (b : KeyBuffers) → KeyDone F l ring o r b
+      → Stands F (leaves (lineOf o) s) (lent (b .text) (b .records) (b .texts) (r .line) (r .log))
+  keyed-leaves ring (refused k) r b e =
+      record {
+        stored = rw (e .bytes .0 .text, e .bytes .0 .records, e .bytes .0 .texts) (h .stored);
+        line = ap (λ (a : KeyAnswer). a .line) (e .answer) ∙ h .line;
+        log = ap (λ (a : KeyAnswer). a .log) (e .answer) ∙ h .log;
+      }
+  keyed-leaves ring (answered k p q v) r b e =
+      record { stored = e .bytes .0; line = ap (λ (a : KeyAnswer). a .line) (e .answer); log = ap (λ (a : KeyAnswer). a .log) (e .answer) }
+
   -- begin, end: the text's buffer is not lent
   logged-leaves : (o : Outcome groups.Log) (r : LogAnswer) (rb tb : List ℕ) → logs.Logged F (logLent l) o r rb tb
       → Stands F (leaves (loggedBy R F l o) s) (lent (l .text) rb tb (l .line) (r .log))
@@ -197,30 +215,31 @@ module _ (R : Repertoire) (F : Format) where
       (edited-leaves R F s l h o r (b .text) (l .records) (l .texts) (m .0)))
 
   -- every call: what its outcome leaves stands in what it left
-  pub step-leaves : (s : State) (a : Asked) (x : Step a) → Stands F s (x .lent) → stateOf R F (x .lent) ≡ s
-      → ((y : MoveCall) → Within (x .lent) (moveOutcome R (x .lent .text) (x .lent .line) y)) → MeetsIn R F a (x .lent) (x .answer) (x .after)
-      → Stands F (leaves (outcomeOf R F (x .lent) a) s) (left a x)
-  step-leaves s (asked.edit y) x h is w m = edited-leaves R F s (x .lent) h _ (x .answer) _ _ _ m
-  step-leaves s (asked.move y) x h is w m =
+  pub step-leaves : (s : State) (c : Call) (x : Step c) → Stands F s (x .lent) → stateOf R F (x .lent) ≡ s
+      → ((y : MoveCall) → Within (x .lent) (moveOutcome R (x .lent .text) (x .lent .line) y)) → MeetsIn R F c (x .lent) (x .answer) (x .after)
+      → Stands F (leaves (outcomeOf R F (x .lent) c) s) (left c x)
+  step-leaves s (asked (calls.edit y)) x h is w m = edited-leaves R F s (x .lent) h _ (x .answer) _ _ _ m
+  step-leaves s (asked (calls.move y)) x h is w m =
       let o = moveOutcome R (x .lent .text) (x .lent .line) y in
       same-stands _ (x .lent) _ _ _ _ _ (m .1 .text) (m .1 .records) (m .1 .texts)
       (subst (λ (a : LineAnswer). Stands F (leaves (movedBy R F (x .lent) o) s) (lent (x .lent .text) (x .lent .records) (x .lent .texts) (a .line) (x .lent .log))) (sym (m .0))
       (moved-leaves R F s (x .lent) h is o (w y)))
-  step-leaves s (asked.log asked.begin) x h is w m = text-same _ (x .lent) _ _ _ _ _ (m .1) (logged-leaves R F s (x .lent) h _ (x .answer) _ _ (m .0))
-  step-leaves s (asked.log asked.end) x h is w m = text-same _ (x .lent) _ _ _ _ _ (m .1) (logged-leaves R F s (x .lent) h _ (x .answer) _ _ (m .0))
-  step-leaves s (asked.log asked.lastInsert) x h is w m =
+  step-leaves s (asked (calls.log calls.begin)) x h is w m = text-same _ (x .lent) _ _ _ _ _ (m .1) (logged-leaves R F s (x .lent) h _ (x .answer) _ _ (m .0))
+  step-leaves s (asked (calls.log calls.end)) x h is w m = text-same _ (x .lent) _ _ _ _ _ (m .1) (logged-leaves R F s (x .lent) h _ (x .answer) _ _ (m .0))
+  step-leaves s (asked (calls.log calls.lastInsert)) x h is w m =
       let l = x .lent in
       let n = logs.checked R F (logLent l) false in
       same-stands _ l _ _ _ _ _ (m .1 .text) (m .1 .records) (m .1 .texts)
-      (logged-leaves R F s l h (logOutcome R F (logLent l) asked.lastInsert) (x .answer) (l .records) (l .texts)
+      (logged-leaves R F s l h (logOutcome R F (logLent l) calls.lastInsert) (x .answer) (l .records) (l .texts)
       (record {
         answer = m .0;
-        bytes = read-leaves R F s l h is (logOutcome R F (logLent l) asked.lastInsert)
+        bytes = read-leaves R F s l h is (logOutcome R F (logLent l) calls.lastInsert)
             (inserted-leaves n (lastInsertAt (stateOf R F l .log .undo)) (stateOf R F l .log));
       }))
-  step-leaves s (asked.undo n) x h is w m = walked-leaves s _ (x .lent) _ (x .answer) (x .after) h m refl
-  step-leaves s (asked.redo n) x h is w m = walked-leaves s _ (x .lent) _ (x .answer) (x .after) h m refl
-  step-leaves s (asked.cancel n) x h is w m = walked-leaves s _ (x .lent) _ (x .answer) (x .after) h m refl
+  step-leaves s (asked (calls.undo n)) x h is w m = walked-leaves s _ (x .lent) _ (x .answer) (x .after) h m refl
+  step-leaves s (asked (calls.redo n)) x h is w m = walked-leaves s _ (x .lent) _ (x .answer) (x .after) h m refl
+  step-leaves s (asked (calls.cancel n)) x h is w m = walked-leaves s _ (x .lent) _ (x .answer) (x .after) h m refl
+  step-leaves s (key k ring) x h is w m = keyed-leaves R F s (x .lent) h ring (keyCall R F (x .lent) ring k) (x .answer .answer) _ (m .outcome)
 
   -- ---- the groups that are open then, by the answers and by the outcomes
   log-number : (l : Lent) (o : Outcome groups.Log) → logs.answerOf F (logLent l) o .number ≡ numberIn (loggedBy R F l o)
@@ -235,19 +254,20 @@ module _ (R : Repertoire) (F : Format) where
   edit-number l (refused k) = refl
   edit-number l (answered k p q g) = refl
 
-  pub opened : (a : Asked) (x : Step a) (g : List ℕ) → MeetsIn R F a (x .lent) (x .answer) (x .after) → openAfter a x g ≡ values.openAfter a (outcomeOf R F (x .lent) a) g
-  opened (asked.edit y) x g m = refl
-  opened (asked.move y) x g m = refl
-  opened (asked.log asked.begin) x g m =
-      let o = logOutcome R F (logLent (x .lent)) asked.begin in
+  pub opened : (c : Call) (x : Step c) (g : List ℕ) → MeetsIn R F c (x .lent) (x .answer) (x .after) → openAfter c x g ≡ values.openAfter c (outcomeOf R F (x .lent) c) g
+  opened (asked (calls.edit y)) x g m = refl
+  opened (asked (calls.move y)) x g m = refl
+  opened (asked (calls.log calls.begin)) x g m =
+      let o = logOutcome R F (logLent (x .lent)) calls.begin in
       ap₂ (λ (k i : ℕ). cond (leb k 1) (i ∷ g) g) (ap (λ (r : LogAnswer). r .number) (m .0 .answer) ∙ log-number (x .lent) o)
       (ap (λ (r : LogAnswer). r .from) (m .0 .answer) ∙ log-mark (x .lent) o)
-  opened (asked.log asked.end) x g m =
-      let o = logOutcome R F (logLent (x .lent)) asked.end in
+  opened (asked (calls.log calls.end)) x g m =
+      let o = logOutcome R F (logLent (x .lent)) calls.end in
       ap (λ (k : ℕ). cond (leb k 1) [] g) (ap (λ (r : LogAnswer). r .number) (m .0 .answer) ∙ log-number (x .lent) o)
-  opened (asked.log asked.lastInsert) x g m = refl
-  opened (asked.undo n) x g m = refl
-  opened (asked.redo n) x g m = refl
-  opened (asked.cancel n) x g m =
-      let o = outcomeOf R F (x .lent) (asked.cancel n) in
+  opened (asked (calls.log calls.lastInsert)) x g m = refl
+  opened (asked (calls.undo n)) x g m = refl
+  opened (asked (calls.redo n)) x g m = refl
+  opened (asked (calls.cancel n)) x g m =
+      let o = outcomeOf R F (x .lent) (asked (calls.cancel n)) in
       ap (λ (k : ℕ). cond (eqb k 0) (below n g) g) (ap (λ (r : EditAnswer). r .number) (m .0 .answer) ∙ edit-number (x .lent) o)
+  opened (key k ring) x g m = refl

@@ -11,6 +11,7 @@ pub mod Recorded
 pub mod Plans
 pub mod Moves
 pub mod Groups
+pub mod Keys
 pub mod Steps
 pub mod HandOver
 pub mod Starts
@@ -18,5 +19,6 @@ pub mod Demand3
 pub mod Played
 pub mod Needed
 pub mod Example
+pub mod KeyExample
 pub mod PlayedRing
 pub mod Cases

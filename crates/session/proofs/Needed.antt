@@ -26,7 +26,10 @@ use Rattle.undo_step.specs.UndoStep.{misfit, exchanging, undoing as UndoStep·u
 use Rattle.undo.specs.Undo.{walk, undoOut}
 use Rattle.undo_redo.specs.Redo.{redoOut}
 use Rattle.calls.specs.Calls as calls
-use Rattle.session.proofs.Played.{state, lendingIn, asking, typing, beginning, ending, undoing, redoing, played, after}
+use Rattle.kill_ring.specs.Calls as rings
+use Rattle.key_press.specs.Keys.{withDigit, value, behind, isCounted, countOf, keyIn, control, escaped, pressOf, foreignKey}
+use Rattle.key_model.specs.Keyed.{keyCall}
+use Rattle.session.proofs.Played.{state, lendingIn, asking, pressing, typing, beginning, ending, undoing, redoing, played, after}
 
 -- a letter, and a space, which is a record of its own
 abbrev a : ℕ
@@ -40,6 +43,8 @@ pub record Needed : Type 0 where
   pub in-group :
       (after (typing a ∷ beginning ∷ undoing 1 ∷ ending ∷ []) .log .undo ≡ end ∷ edit (insert 0 (a ∷ [])) ∷ [])
       × (after (typing a ∷ beginning ∷ undoing 1 ∷ ending ∷ undoing 1 ∷ redoing 1 ∷ []) .log .undo ≡ edit (insert 0 (a ∷ [])) ∷ [])
+  -- and C-_ is undo: type a, begin, C-_, end
+  pub key-in-group : (after (typing a ∷ beginning ∷ pressing (0x1F ∷ []) ∷ ending ∷ []) .log .undo ≡ end ∷ edit (insert 0 (a ∷ [])) ∷ [])
   -- a group open at the end: begin, type a, end, begin. Undo 1 and undo 1 empty the list, undo 2 stops behind the End
   pub group-open :
       (after (beginning ∷ typing a ∷ ending ∷ beginning ∷ undoing 1 ∷ undoing 1 ∷ []) .log .undo ≡ [])
@@ -59,5 +64,6 @@ pub needed : Needed
 unfolding formatFor within one two lead3 three lead4 four firstOf first charsFrom validFrom startBefore scalar size encode isMember isControl isMark
     isAlnum isText isChar joined clusters sizes prevPos copied refusal sizeOf textsAt changeAt wholeAt decodeAt note recordInsert recordDelete
     undoRecords undoTexts allNumbersFit fits endAll endsAny overSizes damaged undos redos beginOut endOut splice textAfter listAfter tooLong edited misfit
-    exchanging UndoStep·undoing walk undoOut redoOut
-needed = record { in-group = (refl, refl); group-open = (refl, refl); smaller = refl; above-units = (refl, refl); zero = refl }
+    exchanging UndoStep·undoing walk undoOut redoOut rings.slotsFrom rings.anyOver rings.overSizes rings.actionBreaks rings.anyForeign rings.damaged
+    withDigit value behind isCounted countOf keyIn control escaped pressOf foreignKey keyCall
+needed = record { in-group = (refl, refl); key-in-group = refl; group-open = (refl, refl); smaller = refl; above-units = (refl, refl); zero = refl }

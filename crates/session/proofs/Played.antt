@@ -11,8 +11,10 @@ use Rattle.log_model.specs.Layout.{encodeRecords, encodeTexts}
 use Rattle.log_state.specs.Calls.{row, logOf, truncateCall}
 use Rattle.edit.specs.Plan.{State}
 use Rattle.edit.specs.Calls.{Lent, lent, logLent}
+use Rattle.kill_ring.specs.Calls as rings
 use Rattle.calls.specs.Calls as calls
 use Rattle.calls.specs.Calls.{Asked, loggedBy, outcomeOf}
+use Rattle.key_model.specs.Keyed.{keyCall, lineOf}
 
 -- a text of len bytes with the cursor at a place
 abbrev pub at : ℕ → ℕ → Line
@@ -41,6 +43,10 @@ Doing = ℕ → Lent → Outcome State
 
 abbrev pub asking : Asked → Doing
 asking a from l = outcomeOf catalogue logFormat l a
+
+-- a key, with a ring of no slots
+abbrev pub pressing : List ℕ → Doing
+pressing k from l = lineOf (keyCall catalogue logFormat l (rings.lent [] [] (record { size = 0; count = 0; index = 0; action = 2; yanked = 0 })) k)
 
 -- a character typed, and the log's calls
 abbrev pub typing : ℕ → Doing

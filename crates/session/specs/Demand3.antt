@@ -7,7 +7,7 @@ use lib.ListN.{length}
 use Rattle.unicode.specs.Repertoire.{Repertoire}
 use Rattle.checks.specs.Checks.{ownTests}
 use Rattle.edit.specs.Calls.{Lent, formatOf, checked}
-use Rattle.calls.specs.Calls.{undo, redo}
+use Rattle.session.specs.Calls.{undo, redo}
 use Rattle.session.specs.Runs.{Step, AnyStep, left, SameText, SameLog, Run, leftBy}
 
 -- "the list of calls starts with both lists of the log empty, level 0, and a text, cursor and buffers that checks 2 to 6 pass"

@@ -1,5 +1,5 @@
 -- A run of the program: calls on one text, cursor and log, one after the other, each known by the contract of its entry for C alone. Document 01, "The list of
--- demand 3", said of answers and of the bytes in the buffers.
+-- demand 3", said of answers and of the bytes in the buffers; keys (order 1 of document 02) are calls of the list.
 use Prim.Native.Nat.{ℕ, _+_, _≤_}
 use mathlib.Core.Path.{_≡_}
 use mathlib.Core.Bool.{cond}
@@ -11,8 +11,12 @@ use Rattle.checks.specs.declared.Line.{Line}
 use Rattle.formats.specs.declared.Format.{Format}
 use Rattle.log_state.specs.declared.Log.{Log}
 use Rattle.edit.specs.Calls.{Lent, lent, formatOf, textOf}
-use Rattle.calls.specs.Calls.{Asked, edit, move, log, begin, end, lastInsert, undo, redo, cancel}
-use Rattle.calls.specs.Contracts.{Buffers, AnswerTo, Meets}
+use Rattle.calls.specs.Calls.{edit, move, log, begin, end, lastInsert, undo, redo, cancel}
+use Rattle.calls.specs.Contracts.{Buffers}
+use Rattle.key_press.specs.declared.Press.{Press}
+use Rattle.key_press.specs.declared.Press.the-variants as p
+use Rattle.key_press.specs.Keys.{pressOf}
+use Rattle.session.specs.Calls.{Call, asked, key, AnswerTo, Meets}
 
 -- ---- what is lent
 -- as long as these or longer
@@ -38,34 +42,36 @@ pub record SameLengths (a b : Buffers) : Type 0 where
   pub texts : length (b .texts) ≡ length (a .texts)
 
 -- what was lent, the answer, and the bytes of the buffers afterwards
-pub record Step (a : Asked) : Type 0 where
+pub record Step (c : Call) : Type 0 where
   pub lent : Lent
-  pub answer : AnswerTo a
+  pub answer : AnswerTo c
   pub after : Buffers
   pub lengths : SameLengths (buffersOf lent) after
 
 abbrev pub AnyStep : Type 0
-AnyStep = (a : Asked) × Step a
+AnyStep = (c : Call) × Step c
 
 -- what it leaves: the bytes of the buffers, and the line and the log's state as answered, where the answer has them
-abbrev pub lineLeft : (a : Asked) → Step a → Line
-lineLeft (edit x) s = s .answer .line
-lineLeft (move x) s = s .answer .line
-lineLeft (log x) s = s .lent .line
-lineLeft (undo n) s = s .answer .line
-lineLeft (redo n) s = s .answer .line
-lineLeft (cancel mark) s = s .answer .line
+abbrev pub lineLeft : (c : Call) → Step c → Line
+lineLeft (asked (edit x)) s = s .answer .line
+lineLeft (asked (move x)) s = s .answer .line
+lineLeft (asked (log x)) s = s .lent .line
+lineLeft (asked (undo n)) s = s .answer .line
+lineLeft (asked (redo n)) s = s .answer .line
+lineLeft (asked (cancel mark)) s = s .answer .line
+lineLeft (key k h) s = s .answer .answer .line
 
-abbrev pub logLeft : (a : Asked) → Step a → Log
-logLeft (edit x) s = s .answer .log
-logLeft (move x) s = s .lent .log
-logLeft (log x) s = s .answer .log
-logLeft (undo n) s = s .answer .log
-logLeft (redo n) s = s .answer .log
-logLeft (cancel mark) s = s .answer .log
+abbrev pub logLeft : (c : Call) → Step c → Log
+logLeft (asked (edit x)) s = s .answer .log
+logLeft (asked (move x)) s = s .lent .log
+logLeft (asked (log x)) s = s .answer .log
+logLeft (asked (undo n)) s = s .answer .log
+logLeft (asked (redo n)) s = s .answer .log
+logLeft (asked (cancel mark)) s = s .answer .log
+logLeft (key k h) s = s .answer .answer .log
 
-abbrev pub left : (a : Asked) → Step a → Lent
-left a s = lent (s .after .text) (s .after .records) (s .after .texts) (lineLeft a s) (logLeft a s)
+abbrev pub left : (c : Call) → Step c → Lent
+left c s = lent (s .after .text) (s .after .records) (s .after .texts) (lineLeft c s) (logLeft c s)
 
 -- ---- the same
 -- the used bytes of the two buffers of the log: the undo list's in front, the redo list's right behind it
@@ -112,26 +118,37 @@ below m [] = []
 below m (b ∷ bs) = cond (leb m b) (below m bs) (b ∷ below m bs)
 
 -- "a group is open from a begin that is not refused until the next end that is not refused, or a cancel answered 0 whose mark is no higher than that begin's"
-abbrev pub openAfter : (a : Asked) → Step a → List ℕ → List ℕ
-openAfter (edit x) s g = g
-openAfter (move x) s g = g
-openAfter (log begin) s g = cond (leb (s .answer .number) 1) (s .answer .from ∷ g) g
-openAfter (log end) s g = cond (leb (s .answer .number) 1) [] g
-openAfter (log lastInsert) s g = g
-openAfter (undo n) s g = g
-openAfter (redo n) s g = g
-openAfter (cancel mark) s g = cond (eqb (s .answer .number) 0) (below mark g) g
+abbrev pub openAfter : (c : Call) → Step c → List ℕ → List ℕ
+openAfter (asked (edit x)) s g = g
+openAfter (asked (move x)) s g = g
+openAfter (asked (log begin)) s g = cond (leb (s .answer .number) 1) (s .answer .from ∷ g) g
+openAfter (asked (log end)) s g = cond (leb (s .answer .number) 1) [] g
+openAfter (asked (log lastInsert)) s g = g
+openAfter (asked (undo n)) s g = g
+openAfter (asked (redo n)) s g = g
+openAfter (asked (cancel mark)) s g = cond (eqb (s .answer .number) 0) (below mark g) g
+openAfter (key k h) s g = g
 
--- undo and redo come only where no group is open
-abbrev pub Allowed : Asked → List ℕ → Type 0
-Allowed (edit x) g = Unit {0}
-Allowed (move x) g = Unit {0}
-Allowed (log x) g = Unit {0}
-Allowed (undo n) g = g ≡ []
-Allowed (redo n) g = g ≡ []
-Allowed (cancel m) g = Unit {0}
+-- undo and redo come only where no group is open; of the keys, C-_ is undo
+abbrev pub AllowedKey : Press → List ℕ → Type 0
+AllowedKey p.Unbound g = Unit {0}
+AllowedKey (p.Move k) g = Unit {0}
+AllowedKey (p.Edit k) g = Unit {0}
+AllowedKey (p.Undo n) g = g ≡ []
+AllowedKey (p.Kill k) g = Unit {0}
+AllowedKey (p.Yank n) g = Unit {0}
+AllowedKey p.YankPop g = Unit {0}
+
+abbrev pub Allowed : Repertoire → Call → List ℕ → Type 0
+Allowed R (asked (edit x)) g = Unit {0}
+Allowed R (asked (move x)) g = Unit {0}
+Allowed R (asked (log x)) g = Unit {0}
+Allowed R (asked (undo n)) g = g ≡ []
+Allowed R (asked (redo n)) g = g ≡ []
+Allowed R (asked (cancel m)) g = Unit {0}
+Allowed R (key k h) g = AllowedKey (pressOf R k) g
 
 -- and at the end none is
-unfoldable pub Closed : List AnyStep → List ℕ → Type 0
-Closed [] g = g ≡ []
-Closed (x ∷ xs) g = Allowed (x .0) g × Closed xs (openAfter (x .0) (x .1) g)
+unfoldable pub Closed : Repertoire → List AnyStep → List ℕ → Type 0
+Closed R [] g = g ≡ []
+Closed R (x ∷ xs) g = Allowed R (x .0) g × Closed R xs (openAfter (x .0) (x .1) g)

@@ -1,5 +1,5 @@
 // Replays the files of data/, each below its name: the recorded answers that `differential/record` writes, and the cases that are
-// written by hand.
+// written by hand or by `tools/key_cases`.
 mod counts;
 mod replay;
 
@@ -18,6 +18,8 @@ fn main() {
     replay_file(b"log.txt");
     replay_file(b"undo.txt");
     replay_file(b"ring.txt");
+    replay_file(b"key.txt");
     replay_file(b"movement_cases.txt");
     replay_file(b"edit_cases.txt");
+    replay_file(b"key_cases.txt");
 }

@@ -9,6 +9,7 @@ use super::counts::DIFFERS;
 use super::counts::counted;
 use super::counts::print_count;
 use super::counts::report;
+use check::same;
 use test_fields::is_at;
 use test_fields::is_of;
 use test_fields::past;
@@ -25,6 +26,9 @@ fn parts_agree(s: &[u8], end: usize, middle: usize) -> bool
     let due = &s[after..];
     if is_of(name, b"ring") {
         return test_ring_line::agrees(name, lent, due);
+    }
+    if same(name, b"line_key") {
+        return test_key_line::agrees(lent, due);
     }
     test_state_line::agrees(name, lent, due)
 }

@@ -1,4 +1,7 @@
 // What a ring's call leaves, and answers, beside what a line says: the fields behind '>'.
+ghost use Prim.Native.Nat.{_≤_};
+ghost use lib.ListN.{length};
+use super::record::is_record;
 use check::same;
 use kill_ring::AnswerAndRing;
 use numbers::wide;
@@ -17,16 +20,11 @@ const ANSWER: usize = 8;
 // Are an answer and the record what the numbers behind '>' say? No call answers NO_CALL.
 fn is_answer(l: AnswerAndRing, v: &[usize; 12]) -> bool {
     let a = l.answer;
-    let r = l.ring;
     (a.number < NO_CALL)
         & (a.number as usize == v[0])
         & (a.slot == v[1])
         & (a.size == v[2])
-        & (r.size == v[3])
-        & (r.count == v[4])
-        & (r.index == v[5])
-        & (r.action == v[6])
-        & (r.yanked == v[7])
+        & is_record(l.ring, v, 3)
 }
 
 // Are the texts of the slots in use these bytes, one behind the other?
@@ -89,6 +87,30 @@ fn are_slots_left(
     holds_slots(&due[from..to], slots, lens, count, scratch)
 }
 
+// The end of the slots and their lengths, the first two fields.
+pub fn end_of_ring(s: &[u8]) -> usize
+    ensures { λ r. ⌜ r ≤ length (now (s .entry)) ⌝ }
+{
+    end_of_field(s, end_of_field(s, 0))
+}
+
+// Are the slots and their lengths left as the first two fields of `due` say, with so many slots in use?
+pub fn is_ring_left(
+    lent: &[u8],
+    due: &[u8],
+    slots: &[u8],
+    lens: &[u8],
+    count: usize,
+    scratch: &mut [u8],
+) -> bool {
+    let d1 = end_of_field(due, 0);
+    let l1 = end_of_field(lent, 0);
+    if !is_field_left(due, d1, lent, l1, lens, sum(count, count), scratch) {
+        return false;
+    }
+    are_slots_left(due, lent, slots, lens, count, scratch)
+}
+
 // Is all left, and answered, as a line says?
 pub fn is_all_left(
     lent: &[u8],
@@ -99,20 +121,13 @@ pub fn is_all_left(
     scratch: &mut [u8],
 ) -> bool {
     let mut v = [0usize; 12];
-    let d1 = end_of_field(due, 0);
-    let d2 = end_of_field(due, d1);
-    let l1 = end_of_field(lent, 0);
     let ring = l.ring;
-    let count = ring.count;
-    let numbers = numbers_of(due, d2, &mut v);
+    let numbers = numbers_of(due, end_of_ring(due), &mut v);
     if numbers != ANSWER {
         return false;
     }
     if !is_answer(l, &v) {
         return false;
     }
-    if !is_field_left(due, d1, lent, l1, lens, sum(count, count), scratch) {
-        return false;
-    }
-    are_slots_left(due, lent, slots, lens, count, scratch)
+    is_ring_left(lent, due, slots, lens, ring.count, scratch)
 }

@@ -1,32 +1,21 @@
 // A line of a call that is lent a ring:
 //     NAME SLOTS LENS TEXT SIZE COUNT INDEX ACTION YANKED ARGUMENT* > SLOTS LENS NUMBER SLOT SIZE SIZE COUNT INDEX ACTION YANKED
 // The head of a data file of `test_answers` says what its fields are.
-mod left;
+pub mod left;
+pub mod record;
 mod ring_calls;
 
 use kill_ring::AnswerAndRing;
 use kill_ring::Ring;
 use kill_ring::RingAnswer;
 use left::is_all_left;
+use record::RECORD;
+use record::ring_of;
 use test_fields::NO_CALL;
 use test_fields::least;
 use test_fields::method_at;
 use test_fields::numbers_of;
 use test_fields::text_behind;
-use test_fields::value_at;
-
-// The numbers of a ring's record.
-const RECORD: usize = 5;
-
-fn ring_of(v: &[usize]) -> Ring {
-    Ring {
-        size: value_at(v, 0),
-        count: value_at(v, 1),
-        index: value_at(v, 2),
-        action: value_at(v, 3),
-        yanked: value_at(v, 4),
-    }
-}
 
 fn no_call(ring: Ring) -> AnswerAndRing {
     let answer = RingAnswer {
@@ -38,20 +27,26 @@ fn no_call(ring: Ring) -> AnswerAndRing {
 }
 
 // The lengths of what a line lends and hands over, and how many numbers it has.
-struct Lent {
-    slots: usize,
-    lens: usize,
-    text: usize,
-    numbers: usize,
+pub struct LentRing {
+    pub slots: usize,
+    pub lens: usize,
+    pub text: usize,
+    pub numbers: usize,
 }
 
-// Fills the buffers as a line says.
-fn lend(lent: &[u8], slots: &mut [u8], lens: &mut [u8], text: &mut [u8], v: &mut [usize]) -> Lent {
+// Fills a ring's buffers and a text as the first three fields say, and reads the numbers behind them.
+pub fn lend(
+    lent: &[u8],
+    slots: &mut [u8],
+    lens: &mut [u8],
+    text: &mut [u8],
+    v: &mut [usize],
+) -> LentRing {
     let a = text_behind(lent, 0, slots);
     let b = text_behind(lent, a.next, lens);
     let c = text_behind(lent, b.next, text);
     let numbers = numbers_of(lent, c.next, v);
-    Lent {
+    LentRing {
         slots: a.value,
         lens: b.value,
         text: c.value,
@@ -65,7 +60,7 @@ fn call_lent(
     slots: &mut [u8],
     lens: &mut [u8],
     text: &[u8],
-    l: Lent,
+    l: LentRing,
     v: &[usize],
 ) -> AnswerAndRing {
     let i = least(l.slots, slots.len());
@@ -73,7 +68,7 @@ fn call_lent(
     let k = least(l.text, text.len());
     let end = least(l.numbers, v.len());
     let from = method_at(name);
-    let ring = ring_of(v);
+    let ring = ring_of(v, 0);
     if end < RECORD {
         return no_call(ring);
     }
@@ -97,7 +92,7 @@ fn is_lent_left(
     due: &[u8],
     slots: &[u8],
     lens: &[u8],
-    l: Lent,
+    l: LentRing,
     left: AnswerAndRing,
 ) -> bool {
     let mut scratch = io::large_buffer();

@@ -1,8 +1,10 @@
 // A line of a call that is lent a text or a log:
 //     NAME TEXT RECORDS TEXTS BUF NEW LEN CURSOR UR UT RR RT LEVEL ARGUMENT* > TEXT RECORDS TEXTS NUMBER FROM TO LEN CURSOR UR UT RR RT LEVEL
 // The head of a data file of `test_answers` says what its fields are.
-mod left;
+pub mod left;
 
+ghost use Prim.Native.Nat.{_≤_};
+ghost use lib.ListN.{length};
 use checks::Line;
 use edit::EditAnswer;
 use left::is_all_left;
@@ -17,16 +19,18 @@ use test_fields::text_behind;
 use test_fields::value_at;
 
 // The numbers of a state.
-const STATE: usize = 7;
+pub const STATE: usize = 7;
 
-fn line_of(v: &[usize]) -> Line {
+// The line of a state's numbers.
+pub fn line_of(v: &[usize]) -> Line {
     Line {
         len: value_at(v, 0),
         cursor: value_at(v, 1),
     }
 }
 
-fn log_of(v: &[usize]) -> Log {
+// The log of a state's numbers.
+pub fn log_of(v: &[usize]) -> Log {
     let undo = Used {
         records: value_at(v, 2),
         texts: value_at(v, 3),
@@ -39,6 +43,29 @@ fn log_of(v: &[usize]) -> Log {
         undo,
         redo,
         level: value_at(v, 6),
+    }
+}
+
+// The lengths of a text and of a log's two buffers as a line lends them, and the place after them.
+pub struct LentState {
+    pub text: usize,
+    pub records: usize,
+    pub texts: usize,
+    pub next: usize,
+}
+
+// Fills a text and a log's two buffers as the first three fields say.
+pub fn lend_state(lent: &[u8], text: &mut [u8], records: &mut [u8], texts: &mut [u8]) -> LentState
+    ensures { λ r. ⌜ r .next ≤ length (now (lent .entry)) ⌝ }
+{
+    let a = text_behind(lent, 0, text);
+    let b = text_behind(lent, a.next, records);
+    let c = text_behind(lent, b.next, texts);
+    LentState {
+        text: a.value,
+        records: b.value,
+        texts: c.value,
+        next: c.next,
     }
 }
 
@@ -62,18 +89,16 @@ fn lend(
     new: &mut [u8],
     v: &mut [usize],
 ) -> Lent {
-    let a = text_behind(lent, 0, text);
-    let b = text_behind(lent, a.next, records);
-    let c = text_behind(lent, b.next, texts);
-    let d = text_behind(lent, c.next, buf);
-    let e = text_behind(lent, d.next, new);
-    let numbers = numbers_of(lent, e.next, v);
+    let a = lend_state(lent, text, records, texts);
+    let b = text_behind(lent, a.next, buf);
+    let c = text_behind(lent, b.next, new);
+    let numbers = numbers_of(lent, c.next, v);
     Lent {
-        text: a.value,
-        records: b.value,
-        texts: c.value,
-        buf: d.value,
-        new: e.value,
+        text: a.text,
+        records: a.records,
+        texts: a.texts,
+        buf: b.value,
+        new: c.value,
         numbers,
     }
 }

@@ -94,8 +94,11 @@ macro_rules! record {
 }
 
 mod edits;
+mod keys;
 mod log;
 mod motions;
+
+pub use keys::Pressed;
 
 impl EditLine {
     /// An empty line. `Sizes` where a buffer would be over its limit.
