@@ -1,15 +1,16 @@
 /*
  * Tulofewa, the catalogue edit line: text and cursor, motions and edits, undo with groups, a kill ring, keys. These are
- * the entries of target/libtulofewa.a, which ./library builds; include/check holds this file against their source.
+ * the entries of libtulofewa, which ./library builds; include/check holds this file against their source.
  *
- * State. All of it is the caller's; an entry keeps nothing and allocates nothing. A text is a buffer and a tlf_line, a
- * log is two buffers and a tlf_log, a ring is two buffers and a tlf_ring. tlf_line and tlf_log go in by value and come
- * back in the answer, whatever its number: put them where the old ones stood. A tlf_ring goes in by pointer, save with
- * tlf_line_key, which takes and gives it as the others.
+ * State. All of it is the caller's; an entry keeps nothing and allocates nothing, so calls that share no buffer may run
+ * at once in any threads. A text is a buffer and a tlf_line, a log is two buffers and a tlf_log, a ring is two buffers
+ * and a tlf_ring. tlf_line and tlf_log go in by value and come back in the answer, whatever its number: put them where
+ * the old ones stood. A tlf_ring goes in by pointer, save with tlf_line_key, which takes and gives it as the others.
  *
- * Buffers. A buffer is a pointer and its length in bytes. No pointer is null, with length 0 either. The buffers of one
- * call, and a tlf_ring, do not overlap. A buffer lent as const is only read. Any bytes, lengths and numbers may come:
- * what is unfit is refused. Bytes past a used length mean nothing, and a call that is not refused may change them.
+ * Buffers. A buffer is a pointer and its length in bytes. The pointer of a buffer of length 0 may be null or any other:
+ * it is not followed. That of a tlf_ring is not null. The buffers of one call, and a tlf_ring, do not overlap. A buffer
+ * lent as const is only read. Any bytes, lengths and numbers may come: what is unfit is refused. Bytes past a used
+ * length mean nothing, and a call that is not refused may change them.
  *
  * Texts are UTF-8, of document 01's repertoire. Places, sizes and lengths are in bytes. C is text_len, the room of the
  * text. A character is a code point, n a repeat count.
@@ -32,14 +33,31 @@
 extern "C" {
 #endif
 
+/*
+ * ---- Version. It is MAJOR.MINOR.PATCH; the shared library's soname is libtulofewa.so.MAJOR. 0 is a MAJOR like any
+ * other. MAJOR rises where a program built with the header before may not run: an entry goes, its parameters or a
+ * struct are others, or an entry needs more stack than was said. MINOR rises where an entry, a number, a code or a
+ * limit is added, or a call answers something else than before. PATCH rises else. A number or a code keeps its meaning
+ * for ever. A number that a program does not know is a refusal, which changed nothing.
+ */
+
+#define TLF_VERSION_MAJOR 0
+#define TLF_VERSION_MINOR 1
+#define TLF_VERSION_PATCH 0
+#define TLF_VERSION 100 /* MAJOR * 10000 + MINOR * 100 + PATCH */
+#define TLF_VERSION_STRING "0.1.0"
+
 /* ---- Limits */
 
-#define TLF_TEXT_MAX 4096     /* C at most, and the bytes of one slot of a ring */
-#define TLF_RECORDS_MAX 32768 /* a records buffer at most */
-#define TLF_TEXTS_MAX 65535   /* a log texts buffer at most */
-#define TLF_SLOTS_MAX 16      /* a ring's size at most */
-#define TLF_PROMPT_MAX 1024   /* a prompt column at most */
-#define TLF_LEVEL_MAX 255     /* a group level at most */
+#define TLF_TEXT_MAX 4096      /* C at most, and the bytes of one slot of a ring */
+#define TLF_RECORDS_MAX 32768  /* a records buffer at most */
+#define TLF_TEXTS_MAX 65535    /* a log texts buffer at most */
+#define TLF_SLOTS_MAX 16       /* a ring's size at most */
+#define TLF_PROMPT_MAX 1024    /* a prompt column at most */
+#define TLF_LEVEL_MAX 255      /* a group level at most */
+#define TLF_STACK_MAX 49152    /* bytes of stack that tlf_log_undo, tlf_log_redo, tlf_log_cancel and tlf_line_key need
+                                  at most, 4,096 for the C library's memcpy and memset among them */
+#define TLF_STACK_OTHERS 16384 /* the same of the other entries */
 
 /* ---- Numbers */
 
@@ -61,6 +79,28 @@ enum tlf_number {
     TLF_MISFIT = 12,    /* undo, redo or cancel meets a record whose range leaves the text or cuts a character */
     TLF_UNBOUND = 13    /* bytes that are no key: tlf_line_key alone */
 };
+
+/* The word of a number, as document 01 and the orders have it; "unknown" for a number that is not above. */
+static inline const char *tlf_number_word(uint32_t number)
+{
+    switch (number) {
+    case TLF_DONE: return "done";
+    case TLF_NOTHING: return "nothing";
+    case TLF_SIZES: return "sizes";
+    case TLF_CODE: return "code";
+    case TLF_FOREIGN: return "foreign";
+    case TLF_PLACE: return "place";
+    case TLF_SPLIT: return "split";
+    case TLF_PROMPT: return "prompt";
+    case TLF_DAMAGED: return "damaged";
+    case TLF_FULL: return "full";
+    case TLF_LOG_FULL: return "log full";
+    case TLF_RING_FULL: return "ring full";
+    case TLF_MISFIT: return "misfit";
+    case TLF_UNBOUND: return "unbound";
+    default: return "unknown";
+    }
+}
 
 /* ---- Codes. Only those that a call or its movement uses are looked at. */
 

@@ -1,6 +1,7 @@
 /*
- * Document 01's cases, P1 to P13 and the others, and some of order 1's keys, through the static library. A row has the
- * case, the text and the cursor, the call, and what it must answer. Prints the rows that fail, and how many there are.
+ * Document 01's cases, P1 to P13 and the others, some of order 1's keys, and the numbers' words, through the static
+ * library. A row has the case, the text and the cursor, the call, and what it must answer. Prints the rows that fail,
+ * and how many there are.
  */
 #include "edit_line.h"
 
@@ -204,6 +205,16 @@ static void keys(struct edit_line *e)
     KEY("ESC U+00B5", "ab", 2, "\x1B\xC2\xB5", 4, "ab", 2, "q", TLF_LAST_KILL);
 }
 
+static void words(void)
+{
+    static const char *const all[] = {"done", "nothing", "sizes", "code", "foreign", "place", "split", "prompt",
+                                      "damaged", "full", "log full", "ring full", "misfit", "unbound", "unknown"};
+    for (uint32_t number = 0; number < sizeof all / sizeof all[0]; number++) {
+        row(all[number], strcmp(tlf_number_word(number), all[number]) == 0);
+    }
+    row("the word of the last number", strcmp(tlf_number_word(UINT32_MAX), "unknown") == 0);
+}
+
 int main(void)
 {
     static struct edit_line whole;
@@ -213,6 +224,7 @@ int main(void)
     groups(&whole);
     ring(&whole);
     keys(&whole);
+    words();
     printf("document 01's and order 1's cases: %u rows, %u failed\n", rows, failed);
     return failed != 0;
 }

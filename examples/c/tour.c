@@ -6,14 +6,11 @@
 
 #include <stdio.h>
 
-static const char *const WORDS[] = {"done", "nothing", "sizes", "code", "foreign", "place", "split", "prompt",
-                                    "damaged", "full", "log full", "ring full", "misfit", "unbound"};
-
 static void show(const struct edit_line *e, const char *step, uint32_t number)
 {
     int before = (int)e->line.cursor, behind = (int)(e->line.len - e->line.cursor);
     const char *text = (const char *)e->text;
-    printf("%-32s %-8s %.*s|%.*s\n", step, WORDS[number], before, text, behind, text + before);
+    printf("%-32s %-8s %.*s|%.*s\n", step, tlf_number_word(number), before, text, behind, text + before);
 }
 
 /* Types a text of ASCII. */
