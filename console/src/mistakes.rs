@@ -37,7 +37,11 @@ impl fmt::Display for Mistake<'_> {
                 write!(f, "no movement {}; {}", shown(word), hint(word, |command| command.movement().is_some()))
             }
             Mistake::NotAlone(command) => {
-                write!(f, "{} does not move the cursor: it goes behind copy, kill or indent", command.name)
+                write!(
+                    f,
+                    "{} does not move the cursor: it goes behind copy, kill, kill_to_ring or indent",
+                    command.name
+                )
             }
             Mistake::Missing(command, param) => {
                 write!(f, "{}: {} is missing ({}); usage: {}", command.name, param.word, param.what(), command.usage())

@@ -50,6 +50,7 @@ pub struct Args {
     pub len: usize,
     pub size: usize,
     pub prompt: usize,
+    pub column: usize,
     pub word: Word,
     pub at: At,
     pub search: fn(char) -> CharSearch,
@@ -80,6 +81,7 @@ impl Default for Args {
             len: 0,
             size: 0,
             prompt: 0,
+            column: 0,
             word: Word::Emacs,
             at: At::AfterEnd,
             search: CharSearch::Forward,
@@ -184,6 +186,7 @@ pub const LEN: Param = Param::number("len", |a, n| a.len = n);
 pub const SIZE: Param = Param::number("size", |a, n| a.size = n);
 pub const YANK_SIZE: Param = Param::number("yank_size", |a, n| a.size = n);
 pub const PROMPT: Param = Param::number("prompt", |a, n| a.prompt = n).or("0");
+pub const COLUMN: Param = Param::number("column", |a, n| a.column = n).or("0");
 /// A cursor in a text that is given with it.
 pub const UPDATE_POS: Param = Param::number("pos", |a, n| a.cursor = Some(n)).or("the text's end");
 pub const CURSOR: Param = Param::number("cursor", |a, n| a.cursor = Some(n)).or("the text's end");

@@ -121,6 +121,32 @@ fn keys() {
     assert_eq!(told.last().unwrap(), "13 unbound: the bytes are no key");
 }
 
+/// 2, 4 and 5 say what was too large, which character and where, which place.
+#[test]
+fn causes() {
+    let rows = [
+        ("room 4097", "2 sizes: a text's buffer has at most 4,096 bytes, not 4,097"),
+        ("room 1 32769", "2 sizes: the buffer for records has at most 32,768 bytes, not 32,769"),
+        ("room 1 1 65536", "2 sizes: the buffer for the records' texts has at most 65,535 bytes, not 65,536"),
+        ("ring_new 17", "2 sizes: a ring has at most 16 slots, not 17"),
+        ("yank \"bo\u{17e}e\"", "4 foreign: U+017E '\u{17e}' at place 2 is outside the catalogue's repertoire"),
+        ("type é\u{334}", "4 foreign: U+0334 '\\u{334}' at place 2 is outside the catalogue's repertoire"),
+        (
+            "log_replace 0 \"a\" \"b\\u{7f}\"",
+            "4 foreign: U+007F '\\u{7f}' at place 1 is outside the catalogue's repertoire",
+        ),
+        ("key x:C3", "4 foreign: 0xC3 at place 0 is not UTF-8"),
+        ("key ESC 2 x:C2B5", "4 foreign: U+00B5 'µ' at place 2 is outside the catalogue's repertoire"),
+        ("set_pos 9", "5 place: 9 lies beyond the text, which has 2 bytes"),
+        ("delete_range 2 1", "5 place: the start, 2, is after the end, 1"),
+        ("yank_pop 3 x", "5 place: the yank has 3 bytes, before the cursor stand 2"),
+    ];
+    for (line, wanted) in rows {
+        let told = lines(format!("start é\n{line}\n"));
+        assert_eq!(told.iter().find(|told| told.starts_with(['2', '4', '5'])).unwrap(), wanted, "{line}");
+    }
+}
+
 #[test]
 fn bytes_that_are_not_utf_8() {
     let wanted = ["> yank a\\xff\\xfe\u{e9}", "! the line is not UTF-8: 0xff at place 6"];
@@ -130,7 +156,7 @@ fn bytes_that_are_not_utf_8() {
 
 #[test]
 fn control_characters_are_seen() {
-    let foreign = "4 foreign: a character is outside the catalogue's repertoire";
+    let foreign = "4 foreign: U+001B '\\u{1b}' at place 0 is outside the catalogue's repertoire";
     assert_eq!(lines("yank \u{1b}[2J\u{0}\n"), ["> yank \\u{1b}[2J\\u{0}", foreign]);
     assert_eq!(lines("start \"\\t|\\u{301}\" 1\n")[2], "  line  \"\\t|\\u{7c}\\u{301}\", cursor 1 of 4");
 }
@@ -142,8 +168,7 @@ fn long_lines() {
     let told = lines(format!("ring_kill {long}\nring_kill b\nstart {long}\ninsert b\nstart {long}b\n"));
     let answers: Vec<_> = told.iter().filter(|line| line.starts_with(|ch: char| ch.is_ascii_digit())).collect();
     let full = "the text would be longer than its buffer";
-    let sizes =
-        "a buffer is over its limit or a ring over 16 slots, or a text to put in is longer than the line's buffer";
+    let sizes = "the text has 4,097 bytes, the line takes 4,096";
     let ring = "a slot of the ring would pass 4,096 bytes";
     let wanted = [
         "0 done",

@@ -5,11 +5,33 @@ use std::str;
 /// A record of the log.
 #[derive(Clone, Copy, Debug, PartialEq, Eq, Hash)]
 pub enum Change<'a> {
+    /// A group was opened.
     Begin,
+    /// A group was closed.
     End,
-    Insert { at: usize, text: &'a str },
-    Delete { at: usize, text: &'a str },
-    Replace { at: usize, old: &'a str, new: &'a str },
+    /// A text was put in.
+    Insert {
+        /// Its place.
+        at: usize,
+        /// The text.
+        text: &'a str,
+    },
+    /// A text was cut.
+    Delete {
+        /// Its place.
+        at: usize,
+        /// The text.
+        text: &'a str,
+    },
+    /// A text was put in for another.
+    Replace {
+        /// Their place.
+        at: usize,
+        /// The text that was cut.
+        old: &'a str,
+        /// The text that was put in.
+        new: &'a str,
+    },
 }
 
 impl fmt::Display for Change<'_> {

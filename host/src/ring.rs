@@ -1,8 +1,9 @@
 //! The kill ring with its buffers.
 use crate::answers::{found, outcome, Outcome, Refusal};
+use crate::causes::{Handed, Size};
 use crate::codes::{Action, Mode};
 use crate::ffi::{self, Ring};
-use crate::TEXT_MAX;
+use crate::{SLOTS_MAX, TEXT_MAX};
 use std::{fmt, str};
 
 /// Texts that were killed, in at most 16 slots of 4,096 bytes.
@@ -29,9 +30,15 @@ impl KillRing {
     pub fn new(size: usize) -> Result<KillRing, Refusal> {
         let mut ring = Ring::default();
         // SAFETY: the one pointer is to a value of this function.
-        outcome(unsafe { ffi::tlf_ring_new(&mut ring, size) })?;
-        let bytes = |each: usize| vec![0; each.saturating_mul(size)].into_boxed_slice();
-        Ok(KillRing { slots: bytes(TEXT_MAX), lens: bytes(2), ring })
+        let number = unsafe { ffi::tlf_ring_new(&mut ring, size) };
+        Handed { sizes: &[Size::Slots { len: size }], ..Handed::default() }.outcome(number)?;
+        Ok(KillRing::with(ring))
+    }
+
+    /// The buffers that a ring's size asks for.
+    fn with(ring: Ring) -> KillRing {
+        let bytes = |each: usize| vec![0; each.saturating_mul(ring.size)].into_boxed_slice();
+        KillRing { slots: bytes(TEXT_MAX), lens: bytes(2), ring }
     }
 
     /// The next kill takes a new slot, and there is no yank to pop.
@@ -41,7 +48,8 @@ impl KillRing {
 
     /// Keeps a text: after a kill in the same slot, else in the next one.
     pub fn kill(&mut self, text: &str, mode: Mode) -> Result<Outcome, Refusal> {
-        outcome(ring!(self, tlf_ring_kill, as_mut_ptr, text.as_ptr(), text.len(), mode as u32).number)
+        let answer = ring!(self, tlf_ring_kill, as_mut_ptr, text.as_ptr(), text.len(), mode as u32);
+        Handed { texts: &[text], ..Handed::default() }.outcome(answer.number)
     }
 
     /// The text of the last kill, or of the slot that `yank_pop` has gone to since.
@@ -73,6 +81,7 @@ impl KillRing {
         self.ring.index
     }
 
+    /// What was last done to it.
     #[must_use]
     pub fn last_action(&self) -> Action {
         match self.ring.action {
@@ -102,6 +111,16 @@ impl KillRing {
 
     pub(crate) fn put_back(&mut self, record: Ring) {
         self.ring = record;
+    }
+}
+
+/// An empty ring of 16 slots.
+impl Default for KillRing {
+    fn default() -> KillRing {
+        let mut ring = Ring::default();
+        // SAFETY: the one pointer is to a value of this function. The size is the largest that is taken.
+        unsafe { ffi::tlf_ring_new(&mut ring, SLOTS_MAX) };
+        KillRing::with(ring)
     }
 }
 

@@ -3,7 +3,7 @@ mod common;
 
 use common::{line, undo_words};
 use tulofewa::{
-    Action, At, CharSearch, EditLine, KillRing, Mode, Movement, Outcome, Refusal, Word, WordAction, TEXT_MAX,
+    Action, At, CharSearch, EditLine, KillRing, Mode, Movement, Outcome, Place, Refusal, Word, WordAction, TEXT_MAX,
 };
 
 /// What a motion answers, and the cursor afterwards.
@@ -137,7 +137,8 @@ fn a_full_text_takes_no_more() {
 #[test]
 fn the_other_cases() {
     assert_eq!(line("\u{A0}a", 0).indent(Movement::WholeLine, 1, true), Err(Refusal::Split));
-    assert_eq!(line("   abc", 1).copy(Movement::ViFirstPrint), Err(Refusal::Place));
+    let after = Refusal::Place(Place::StartAfterEnd { start: 3, end: 1 });
+    assert_eq!(line("   abc", 1).copy(Movement::ViFirstPrint), Err(after));
     moves("a\nb", 3, |line| line.move_to_line_up(1, 1_024), DONE, 0);
     moves("a\nb", 3, |line| line.move_to_line_up(1, 1_025), Err(Refusal::Prompt), 3);
     moves("a\nb", 0, |line| line.move_to_line_down(1, 1_024), DONE, 3);

@@ -2,7 +2,7 @@
 mod common;
 
 use common::{line, line_in, text_and_log, undo_words, Rng};
-use tulofewa::{Action, EditLine, Mode, Outcome, Pressed, Refusal, Room};
+use tulofewa::{Action, EditLine, Foreign, Mode, Outcome, Place, Pressed, Refusal, Room, Size};
 
 const DONE: Outcome = Outcome::Done;
 const NOTHING: Outcome = Outcome::Nothing;
@@ -14,8 +14,11 @@ fn with_killed(text: &str, cursor: usize) -> EditLine {
     line
 }
 
-/// Each key once. A row: text, cursor, the key, then what it answers, the text, the cursor and the ring's last action.
-const ROWS: &[(&str, usize, &[u8], Outcome, &str, usize, Action)] = &[
+/// Text, cursor, the key, then what it answers, the text, the cursor and the ring's last action.
+type Row = (&'static str, usize, &'static [u8], Outcome, &'static str, usize, Action);
+
+/// Each key once.
+const ROWS: &[Row] = &[
     ("ab", 1, b"x", DONE, "axb", 2, Action::Other),
     ("ab", 1, "é".as_bytes(), DONE, "aéb", 3, Action::Other),
     ("ab", 1, b"\t", DONE, "a\tb", 2, Action::Other),
@@ -110,11 +113,19 @@ fn typing_and_control_underscore() {
 fn refusals() {
     let full = "x".repeat(4_095);
     let unbound: [&[u8]; 9] = [b"", b"\x1b", b"\x1b12", b"\x07", b"\x7f", b"\x1bB", b"xy", b"\x1b1\x1b2\x06", b"\r\n"];
-    let foreign: [&[u8]; 4] = [b"\xff", b"\xc3", "µ".as_bytes(), b"\x1b\xc2\x80"];
+    let foreign: [(&[u8], Foreign); 8] = [
+        (b"\xff", Foreign::Byte { byte: 0xFF, at: 0 }),
+        (b"\xc3", Foreign::Byte { byte: 0xC3, at: 0 }),
+        (b"\xc3\x1b\xa9", Foreign::Byte { byte: 0xC3, at: 0 }),
+        ("é\u{301}\u{20AC}\u{FF}".as_bytes(), Foreign::Char { ch: '\u{20AC}', at: 4 }),
+        (b"a\x1b\xe2\x82\xff", Foreign::Byte { byte: 0xE2, at: 2 }),
+        ("µ\u{4E2D}".as_bytes(), Foreign::Char { ch: 'µ', at: 0 }),
+        (b"\x1b\xc2\x80", Foreign::Char { ch: '\u{80}', at: 1 }),
+        (b"\x00\x7f\xc2\xad\xff", Foreign::Char { ch: '\u{AD}', at: 2 }),
+    ];
     let rows = unbound.map(|key| (key, Refusal::Unbound)).into_iter();
-    for (key, wanted) in
-        rows.chain(foreign.map(|key| (key, Refusal::Foreign))).chain([(&b"\x0b"[..], Refusal::RingFull)])
-    {
+    let rows = rows.chain(foreign.map(|(key, what)| (key, Refusal::Foreign(what))));
+    for (key, wanted) in rows.chain([(&b"\x0b"[..], Refusal::RingFull)]) {
         let mut line = line("ab", 0);
         line.ring_mut().kill(&full, Mode::Append).unwrap();
         let before = format!("{line:?}");
@@ -126,6 +137,34 @@ fn refusals() {
     assert_eq!(small.key(b"\x14"), Err(Refusal::LogFull));
     assert_eq!(small.key(b"\x0b").map(|pressed| pressed.outcome), Ok(DONE));
     assert_eq!(killed(&small), ["b"]);
+}
+
+/// What a yank takes from the ring can be too long for the line, and what it is put in for to be longer than what stands
+/// before the cursor, or to start inside a character.
+#[test]
+fn refused_yanks() {
+    let mut small = line_in(Room { text: 3, ..Room::default() }, "é", 2);
+    for text in ["1234", "é", "567"] {
+        small.ring_mut().kill(text, Mode::Append).unwrap();
+        small.ring_mut().reset().unwrap();
+    }
+    let too_long = Refusal::Sizes(Size::Given { len: 4, room: 3 });
+    assert_eq!(small.key(b"\x19"), Err(Refusal::Full));
+    assert_eq!(small.ring_mut().yank(), Ok(Some("567")));
+    let before = format!("{small:?}");
+    assert_eq!(small.key(b"\x1by"), Err(Refusal::Place(Place::YankSize { size: 3, cursor: 2 })));
+    assert_eq!(format!("{small:?}"), before);
+    assert_eq!(small.ring_mut().yank_pop(), Ok(Some((3, "é"))));
+    assert_eq!(small.key(b"\x1by"), Err(too_long));
+    assert_eq!(small.ring_mut().yank_pop(), Ok(Some((2, "1234"))));
+    let before = format!("{small:?}");
+    assert_eq!(small.key(b"\x1b9\x19"), Err(too_long));
+    assert_eq!(small.key(b"\x1by"), Err(Refusal::Place(Place::YankSize { size: 4, cursor: 2 })));
+    assert_eq!(format!("{small:?}"), before);
+    let mut split = line("aé", 3);
+    split.ring_mut().kill("2", Mode::Append).unwrap();
+    assert_eq!(split.ring_mut().yank(), Ok(Some("2")));
+    assert_eq!(split.key(b"\x1by"), Err(Refusal::Split));
 }
 
 /// A stopped control underscore leaves the text that it has reached, and the ring's last action.

@@ -125,3 +125,17 @@ fn another_line_has_an_empty_log_and_the_same_ring() -> Result<(), Refusal> {
     assert_eq!(line.ring_mut().yank()?, Some("kept"));
     Ok(())
 }
+
+/// By the names that rustyline's LineBuffer has, and as a text.
+#[test]
+fn the_text_by_other_names() -> Result<(), Refusal> {
+    let mut line = EditLine::default();
+    assert_eq!((line.room(), line.ring().size(), line.is_empty(), line.len()), (Room::default(), 16, true, 0));
+    line.yank("é, box", 1)?;
+    line.set_pos(2)?;
+    assert_eq!((line.as_str(), line.as_ref(), line.text()), ("é, box", "é, box", "é, box"));
+    assert_eq!((line.pos(), line.cursor(), line.len(), line.is_empty()), (2, 2, 7, false));
+    assert_eq!((line.to_string(), format!("{line:>8}|{line:.1}")), ("é, box".to_owned(), "  é, box|é".to_owned()));
+    assert_eq!(line.into_string(), "é, box");
+    Ok(())
+}

@@ -46,6 +46,7 @@ pub const COMMANDS: &[Command] = &[
         outcome(l.delete_range(a.start..a.end))
     }),
     call("kill", &[MOVEMENT], "cuts what a movement goes over", |l, a| outcome(l.kill(a.movement()))),
+    call("kill_to_ring", &[MOVEMENT], "kill and ring_kill in one", |l, a| outcome(l.kill_to_ring(a.movement()))),
     call("indent", &[MOVEMENT, AMOUNT, DEDENT], "indents or dedents the lines that a movement goes over", |l, a| {
         outcome(l.indent(a.movement(), a.amount, a.dedent))
     }),

@@ -30,7 +30,7 @@ pub type Call = fn(&mut EditLine, &Args) -> Said;
 pub enum Does {
     /// Calls the library.
     Call(Call),
-    /// Is a movement behind copy, kill and indent, and moves the cursor alone, where there is a call for that.
+    /// Is a movement behind copy, kill, kill_to_ring and indent, and moves the cursor alone, where there is a call for that.
     Movement(fn(&Args) -> Movement, Option<Call>),
     Help,
     Show,
@@ -48,7 +48,7 @@ pub const GROUPS: &[Group] = &[
     Group { title: "The console", commands: own::COMMANDS },
     Group { title: "Edits", commands: edits::COMMANDS },
     Group {
-        title: "Movements: behind copy, kill and indent what they go over, alone a motion of the cursor",
+        title: "Movements: behind copy, kill, kill_to_ring and indent what they go over, alone a motion of the cursor",
         commands: movements::COMMANDS,
     },
     Group { title: "Motions by the Rust's names", commands: movements::MOTIONS },
@@ -73,7 +73,7 @@ impl Command {
         format!("{}{}", self.name, words.collect::<String>())
     }
 
-    /// The movement that it is behind copy, kill and indent, if it is one.
+    /// The movement that it is behind copy, kill, kill_to_ring and indent, if it is one.
     pub fn movement(&self) -> Option<fn(&Args) -> Movement> {
         match self.does {
             Does::Movement(movement, _) => Some(movement),

@@ -2,7 +2,7 @@
 use super::{call, Command, Does};
 use crate::answers::{outcome, Said};
 use crate::params::{Args, COMMAND, CURSOR, FIRST_TEXT, ROOM_RECORDS, ROOM_SLOTS, ROOM_TEXT, ROOM_TEXTS, TEXT};
-use tulofewa::{EditLine, Outcome};
+use tulofewa::{EditLine, Foreign, Outcome, Refusal};
 
 pub const COMMANDS: &[Command] = &[
     Command { name: "help", takes: &[COMMAND], about: "lists the commands, or explains one", does: Does::Help },
@@ -22,8 +22,14 @@ fn start(line: &mut EditLine, args: &Args) -> Said {
     outcome(line.start(&args.text, args.cursor_in_text()).map(|()| Outcome::Done))
 }
 
+/// The place of a foreign character is that in the text.
 fn type_in(line: &mut EditLine, args: &Args) -> Said {
-    outcome(args.text.chars().try_fold(Outcome::Nothing, |_, ch| line.insert(ch, 1)))
+    outcome(args.text.char_indices().try_fold(Outcome::Nothing, |_, (at, ch)| {
+        line.insert(ch, 1).map_err(|refusal| match refusal {
+            Refusal::Foreign(_) => Refusal::Foreign(Foreign::Char { ch, at }),
+            other => other,
+        })
+    }))
 }
 
 /// New buffers of the sizes given, in the order of `room`'s parameters; the others as large as they are.

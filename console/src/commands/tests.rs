@@ -4,12 +4,13 @@ use crate::params::{Args, Kind, Param, ACTION, AT, MODE, SEARCH, WORD};
 
 const CODES: &str = include_str!("../../../host/src/codes.rs");
 const FFI: &str = include_str!("../../../host/src/ffi.rs");
-const EDIT_LINE: [&str; 5] = [
+const EDIT_LINE: [&str; 6] = [
     include_str!("../../../host/src/edit_line/mod.rs"),
     include_str!("../../../host/src/edit_line/edits.rs"),
     include_str!("../../../host/src/edit_line/keys.rs"),
     include_str!("../../../host/src/edit_line/motions.rs"),
     include_str!("../../../host/src/edit_line/log.rs"),
+    include_str!("../../../host/src/edit_line/with_ring.rs"),
 ];
 const RING: &str = include_str!("../../../host/src/ring.rs");
 const CALLS: &str = include_str!("../../calls.txt");
@@ -66,7 +67,8 @@ fn the_host_crates_calls_are_the_tables() {
         ring::COMMANDS,
         keys::COMMANDS,
     ];
-    let own = ["help", "show", "type", "quit"];
+    // the console's own, and the host crate's questions of a text alone
+    let own = ["help", "show", "type", "quit", "foreign", "width"];
     let mut table: Vec<_> =
         groups.into_iter().flatten().filter(|command| !own.contains(&command.name)).map(usage).collect();
     host.sort();
@@ -149,7 +151,7 @@ fn what_is_left_out_is_the_default() {
         }
         let shown =
             |a: &Args| format!("{:?} {:?} {:?} {:?} {:?}", a.n, a.word, a.at, (a.search)('x'), (a.mode, a.dedent));
-        assert_eq!((shown(&args), args.prompt), (shown(&Args::default()), 0), "{}", param.word);
+        assert_eq!((shown(&args), args.prompt, args.column), (shown(&Args::default()), 0, 0), "{}", param.word);
     }
 }
 
@@ -175,7 +177,7 @@ fn names_are_told_apart() {
 
 #[test]
 fn calls_txt_has_every_command() {
-    let behind = ["copy", "kill", "indent"];
+    let behind = ["copy", "kill", "kill_to_ring", "indent"];
     for command in all() {
         let used = CALLS.lines().any(|line| {
             let mut words = line.split(' ');

@@ -90,7 +90,7 @@ fn messages() {
         (&"é".repeat(41), &format!("no command {}...; help lists them", "é".repeat(40))),
         ("kill undo", "no movement undo; help lists them"),
         ("copy line_dwon", "no movement line_dwon; is it line_down?"),
-        ("whole_line", "whole_line does not move the cursor: it goes behind copy, kill or indent"),
+        ("whole_line", "whole_line does not move the cursor: it goes behind copy, kill, kill_to_ring or indent"),
         ("cancel", "cancel: mark is missing (a number); usage: cancel mark"),
         ("copy", "copy: movement is missing (a movement with its arguments); usage: copy movement"),
         (

@@ -1,45 +1,42 @@
 //! The edits. What is cut and put in is recorded, and the redo list is dropped.
 use super::EditLine;
 use crate::answers::{found, outcome, Outcome, Refusal};
+use crate::causes::{Handed, Place, Size};
 use crate::codes::{At, CharSearch, Movement, Word, WordAction};
 use crate::ffi;
 use std::ops::Range;
 
 impl EditLine {
+    /// A text to put in, beside the room that there is for it.
+    fn given(&self, text: &str) -> Size {
+        Size::Given { len: text.len(), room: self.text.len() }
+    }
+
     /// The whole text becomes another, the cursor `pos`.
     pub fn update(&mut self, text: &str, pos: usize) -> Result<Outcome, Refusal> {
-        outcome(edit!(self, tlf_line_update, text.as_ptr(), text.len(), pos).number)
+        let answer = edit!(self, tlf_line_update, text.as_ptr(), text.len(), pos);
+        let (sizes, places) = ([self.given(text)], [Place::Beyond { place: pos, len: text.len() }]);
+        Handed { sizes: &sizes, texts: &[text], places: &places, ..Handed::default() }.outcome(answer.number)
     }
 
     /// Puts a character in n times; the cursor goes behind.
     pub fn insert(&mut self, ch: char, n: u16) -> Result<Outcome, Refusal> {
-        outcome(edit!(self, tlf_line_insert, ch.into(), n).number)
+        let answer = edit!(self, tlf_line_insert, ch.into(), n);
+        Handed { ch: Some(ch), ..Handed::default() }.outcome(answer.number)
     }
 
     /// Puts a text in n times; the cursor goes behind. `Nothing` where it is empty.
     pub fn yank(&mut self, text: &str, n: u16) -> Result<Outcome, Refusal> {
-        outcome(edit!(self, tlf_line_yank, text.as_ptr(), text.len(), n).number)
+        let answer = edit!(self, tlf_line_yank, text.as_ptr(), text.len(), n);
+        Handed { sizes: &[self.given(text)], texts: &[text], ..Handed::default() }.outcome(answer.number)
     }
 
     /// Puts a text in for the `yank_size` bytes before the cursor. An empty one is `Nothing`, and cuts all the same.
     pub fn yank_pop(&mut self, yank_size: usize, text: &str) -> Result<Outcome, Refusal> {
-        outcome(edit!(self, tlf_line_yank_pop, yank_size, text.as_ptr(), text.len()).number)
-    }
-
-    /// The ring's `yank` and the line's in one: a refusal by the line leaves the ring as it was.
-    pub fn yank_killed(&mut self, n: u16) -> Result<Outcome, Refusal> {
-        let before = self.ring.record();
-        let Some(text) = self.ring.yank()? else { return Ok(Outcome::Nothing) };
-        let answer = edit!(self, tlf_line_yank, text.as_ptr(), text.len(), n);
-        outcome(answer.number).inspect_err(|_| self.ring.put_back(before))
-    }
-
-    /// The ring's `yank_pop` and the line's in one: a refusal by the line leaves the ring as it was.
-    pub fn yank_pop_killed(&mut self) -> Result<Outcome, Refusal> {
-        let before = self.ring.record();
-        let Some((yank_size, text)) = self.ring.yank_pop()? else { return Ok(Outcome::Nothing) };
         let answer = edit!(self, tlf_line_yank_pop, yank_size, text.as_ptr(), text.len());
-        outcome(answer.number).inspect_err(|_| self.ring.put_back(before))
+        let places = [Place::YankSize { size: yank_size, cursor: self.line.cursor }];
+        let handed = Handed { sizes: &[self.given(text)], texts: &[text], places: &places, ..Handed::default() };
+        handed.outcome(answer.number)
     }
 
     /// Cuts n clusters from the cursor on. The places between which it cut, in the text as it was.
@@ -91,7 +88,8 @@ impl EditLine {
     /// Cuts to the n-th match.
     pub fn delete_to(&mut self, search: CharSearch, n: u16) -> Result<Outcome, Refusal> {
         let (search, ch) = search.codes();
-        outcome(edit!(self, tlf_line_delete_to, search, ch, n).number)
+        let answer = edit!(self, tlf_line_delete_to, search, ch.into(), n);
+        Handed { ch: Some(ch), ..Handed::default() }.outcome(answer.number)
     }
 
     /// Gives the next word another case.
@@ -106,24 +104,33 @@ impl EditLine {
 
     /// Puts a text in for a range, as one record.
     pub fn replace(&mut self, range: Range<usize>, text: &str) -> Result<Outcome, Refusal> {
-        outcome(edit!(self, tlf_line_replace, range.start, range.end, text.as_ptr(), text.len()).number)
+        let answer = edit!(self, tlf_line_replace, range.start, range.end, text.as_ptr(), text.len());
+        let (sizes, places) = ([self.given(text)], self.places(range));
+        Handed { sizes: &sizes, texts: &[text], places: &places, ..Handed::default() }.outcome(answer.number)
     }
 
     /// Cuts a range; the cursor goes to its start.
     pub fn delete_range(&mut self, range: Range<usize>) -> Result<Outcome, Refusal> {
-        outcome(edit!(self, tlf_line_delete_range, range.start, range.end).number)
+        let answer = edit!(self, tlf_line_delete_range, range.start, range.end);
+        Handed { places: &self.places(range), ..Handed::default() }.outcome(answer.number)
+    }
+
+    fn places(&self, range: Range<usize>) -> [Place; 2] {
+        let Range { start, end } = range;
+        [Place::Beyond { place: end, len: self.line.len }, Place::StartAfterEnd { start, end }]
     }
 
     /// Cuts what a movement goes over.
     pub fn kill(&mut self, movement: Movement) -> Result<Outcome, Refusal> {
         let m = movement.codes();
-        outcome(edit!(self, tlf_line_kill, m.mvt, m.n, m.at, m.word, m.search, m.ch).number)
+        let answer = edit!(self, tlf_line_kill, m.mvt, m.n, m.at, m.word, m.search, m.ch);
+        Handed { ch: movement.searched(), ..Handed::default() }.outcome(answer.number)
     }
 
     /// Indents or dedents the lines from the movement's first to the last that a newline ends.
     pub fn indent(&mut self, movement: Movement, amount: u8, dedent: bool) -> Result<Outcome, Refusal> {
         let m = movement.codes();
         let answer = edit!(self, tlf_line_indent, m.mvt, m.n, m.at, m.word, m.search, m.ch, amount, dedent.into());
-        outcome(answer.number)
+        Handed { ch: movement.searched(), ..Handed::default() }.outcome(answer.number)
     }
 }

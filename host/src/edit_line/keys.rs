@@ -1,12 +1,14 @@
 //! Keys: the bytes of one key do what its call on the line does, and to the ring what belongs to it.
 use super::EditLine;
-use crate::answers::{outcome, Outcome, Refusal};
+use crate::answers::{Outcome, Refusal};
+use crate::causes::{Handed, Place, Size};
 use crate::ffi;
 use std::ops::Range;
 
 /// What a key did.
 #[derive(Clone, Debug, PartialEq, Eq, Hash)]
 pub struct Pressed {
+    /// What the call on the line says that the key stands for.
     pub outcome: Outcome,
     /// The places between which control d cut, in the text as it was. No other key has any.
     pub cut: Option<Range<usize>>,
@@ -36,8 +38,26 @@ impl EditLine {
         self.line = answer.line;
         self.log = answer.log;
         self.ring.put_back(answer.ring);
-        let outcome = outcome(answer.number)?;
+        let outcome = self.pressed(answer.number, key)?;
         let cut = answer.from..answer.to;
         Ok(Pressed { outcome, cut: (!cut.is_empty()).then_some(cut) })
+    }
+
+    /// What a number says of a key. 4 is of its bytes; 2 and 5 are of what the ring gives to control y and to ESC y.
+    fn pressed(&mut self, number: u32, key: &[u8]) -> Result<Outcome, Refusal> {
+        if number < 2 {
+            return Handed::default().outcome(number);
+        }
+        let before = self.ring.record();
+        let given = if key.ends_with(b"y") {
+            self.ring.yank_pop().map(|given| given.map(|(size, text)| (size, text.len())))
+        } else {
+            self.ring.yank().map(|given| given.map(|text| (0, text.len())))
+        };
+        self.ring.put_back(before);
+        let (size, len) = given.ok().flatten().unwrap_or_default();
+        let sizes = [Size::Given { len, room: self.text.len() }];
+        let places = [Place::YankSize { size, cursor: self.line.cursor }];
+        Handed { sizes: &sizes, key, places: &places, ..Handed::default() }.outcome(number)
     }
 }

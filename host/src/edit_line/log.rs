@@ -2,6 +2,7 @@
 //! text on its own: what they record may not fit this one, and then undo stops with `Misfit`.
 use super::EditLine;
 use crate::answers::{found, outcome, Outcome, Refusal};
+use crate::causes::Handed;
 use crate::ffi;
 use std::str;
 
@@ -44,22 +45,26 @@ impl EditLine {
 
     /// Records a character, typed at `idx`.
     pub fn log_insert(&mut self, idx: usize, ch: char) -> Result<Outcome, Refusal> {
-        outcome(record!(self, tlf_log_insert, idx, ch.into()).number)
+        let answer = record!(self, tlf_log_insert, idx, ch.into());
+        Handed { ch: Some(ch), ..Handed::default() }.outcome(answer.number)
     }
 
     /// Records a text, put in at `idx`.
     pub fn log_insert_str(&mut self, idx: usize, text: &str) -> Result<Outcome, Refusal> {
-        outcome(record!(self, tlf_log_insert_str, idx, text.as_ptr(), text.len()).number)
+        let answer = record!(self, tlf_log_insert_str, idx, text.as_ptr(), text.len());
+        Handed { texts: &[text], ..Handed::default() }.outcome(answer.number)
     }
 
     /// Records a text, cut at `idx`.
     pub fn log_delete(&mut self, idx: usize, text: &str) -> Result<Outcome, Refusal> {
-        outcome(record!(self, tlf_log_delete, idx, text.as_ptr(), text.len()).number)
+        let answer = record!(self, tlf_log_delete, idx, text.as_ptr(), text.len());
+        Handed { texts: &[text], ..Handed::default() }.outcome(answer.number)
     }
 
     /// Records that one text became another at `idx`.
     pub fn log_replace(&mut self, idx: usize, old: &str, new: &str) -> Result<Outcome, Refusal> {
-        outcome(record!(self, tlf_log_replace, idx, old.as_ptr(), old.len(), new.as_ptr(), new.len()).number)
+        let answer = record!(self, tlf_log_replace, idx, old.as_ptr(), old.len(), new.as_ptr(), new.len());
+        Handed { texts: &[old, new], ..Handed::default() }.outcome(answer.number)
     }
 
     /// Keeps the undo list's first `len` records. Text, level and redo list stay: `cancel` takes a group back.

@@ -1,5 +1,6 @@
 //! The edit line: a text with its cursor, its log and a kill ring, and the buffers that the library is lent.
-use crate::answers::{outcome, Refusal};
+use crate::answers::Refusal;
+use crate::causes::{Handed, Place, Size};
 use crate::changes::Changes;
 use crate::ffi::{self, Line, Log};
 use crate::ring::KillRing;
@@ -97,33 +98,42 @@ mod edits;
 mod keys;
 mod log;
 mod motions;
+mod with_ring;
 
 pub use keys::Pressed;
 
 impl EditLine {
     /// An empty line. `Sizes` where a buffer would be over its limit.
     pub fn new(room: Room) -> Result<EditLine, Refusal> {
-        if room.text > TEXT_MAX || room.records > RECORDS_MAX || room.texts > TEXTS_MAX {
-            return Err(Refusal::Sizes);
+        let Room { text, records, texts, slots } = room;
+        let sizes = [Size::Text { len: text }, Size::Records { len: records }, Size::Texts { len: texts }];
+        match (Handed { sizes: &sizes, ..Handed::default() }).size() {
+            Some(size) => Err(Refusal::Sizes(size)),
+            None => Ok(EditLine::with(room, KillRing::new(slots)?)),
         }
+    }
+
+    /// An empty line with buffers that are within their limits, and a ring.
+    fn with(room: Room, ring: KillRing) -> EditLine {
         let buffer = |len| vec![0; len].into_boxed_slice();
-        Ok(EditLine {
+        EditLine {
             text: buffer(room.text),
             records: buffer(room.records),
             texts: buffer(room.texts),
             line: Line::default(),
             log: Log::default(),
-            ring: KillRing::new(room.slots)?,
-        })
+            ring,
+        }
     }
 
     /// Another line begins: this text, this cursor, an empty log. The ring stays.
     pub fn start(&mut self, text: &str, cursor: usize) -> Result<(), Refusal> {
-        let buffer = self.text.get_mut(..text.len()).ok_or(Refusal::Sizes)?;
-        let line = Line { len: text.len(), cursor: 0 };
+        let (len, room) = (text.len(), self.text.len());
+        let buffer = self.text.get_mut(..len).ok_or(Refusal::Sizes(Size::Given { len, room }))?;
         // SAFETY: one buffer, with its length, borrowed for the call.
-        let answer = unsafe { ffi::tlf_line_set_pos(text.as_ptr(), text.len(), line, cursor) };
-        outcome(answer.number)?;
+        let answer = unsafe { ffi::tlf_line_set_pos(text.as_ptr(), len, Line { len, cursor: 0 }, cursor) };
+        let places = [Place::Beyond { place: cursor, len }];
+        Handed { texts: &[text], places: &places, ..Handed::default() }.outcome(answer.number)?;
         buffer.copy_from_slice(text.as_bytes());
         self.line = answer.line;
         // SAFETY: nothing is lent.
@@ -138,15 +148,49 @@ impl EditLine {
         Room { text, records, texts, slots: self.ring.size() }
     }
 
+    /// The text.
     #[must_use]
     pub fn text(&self) -> &str {
         let used = self.text.get(..self.line.len).unwrap_or_default();
         str::from_utf8(used).unwrap_or_default()
     }
 
+    /// [`text`](EditLine::text), by the name that it has in rustyline.
+    #[must_use]
+    pub fn as_str(&self) -> &str {
+        self.text()
+    }
+
+    /// The text, as a `String`. Nothing is copied.
+    #[must_use]
+    pub fn into_string(self) -> String {
+        let mut text = self.text.into_vec();
+        text.truncate(self.line.len);
+        String::from_utf8(text).unwrap_or_default()
+    }
+
+    /// The text's length in bytes.
+    #[must_use]
+    pub fn len(&self) -> usize {
+        self.line.len
+    }
+
+    /// Is there no text?
+    #[must_use]
+    pub fn is_empty(&self) -> bool {
+        self.line.len == 0
+    }
+
+    /// The cursor's place in the text, a byte offset.
     #[must_use]
     pub fn cursor(&self) -> usize {
         self.line.cursor
+    }
+
+    /// [`cursor`](EditLine::cursor), by the name that it has in rustyline.
+    #[must_use]
+    pub fn pos(&self) -> usize {
+        self.cursor()
     }
 
     /// The level of open groups.
@@ -172,13 +216,35 @@ impl EditLine {
         Changes::new(records.unwrap_or_default(), texts.unwrap_or_default())
     }
 
+    /// What was killed.
     #[must_use]
     pub fn ring(&self) -> &KillRing {
         &self.ring
     }
 
+    /// The ring, for its own calls, or to put another in its place.
     pub fn ring_mut(&mut self) -> &mut KillRing {
         &mut self.ring
+    }
+}
+
+/// An empty line with the largest buffers.
+impl Default for EditLine {
+    fn default() -> EditLine {
+        EditLine::with(Room::default(), KillRing::default())
+    }
+}
+
+/// The text.
+impl fmt::Display for EditLine {
+    fn fmt(&self, f: &mut fmt::Formatter<'_>) -> fmt::Result {
+        self.text().fmt(f)
+    }
+}
+
+impl AsRef<str> for EditLine {
+    fn as_ref(&self) -> &str {
+        self.text()
     }
 }
 

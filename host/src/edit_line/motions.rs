@@ -1,8 +1,9 @@
 //! Motions and questions. At most the cursor changes.
 use super::EditLine;
 use crate::answers::{found, outcome, Outcome, Refusal};
+use crate::causes::{Handed, Place};
 use crate::codes::{At, CharSearch, Movement, Word};
-use crate::ffi::{self, LineAnswer};
+use crate::ffi::{self, Line, LineAnswer};
 use std::ops::Range;
 
 impl EditLine {
@@ -13,12 +14,28 @@ impl EditLine {
     }
 
     /// The places between which a movement's text stands.
+    ///
+    /// With `ViFirstPrint` they are the first word's and the cursor: [`Place`] where the cursor stands before it.
     pub fn copy(&self, movement: Movement) -> Result<Option<Range<usize>>, Refusal> {
         let m = movement.codes();
         let answer = look!(self, tlf_line_copy, m.mvt, m.n, m.at, m.word, m.search, m.ch);
-        found(answer.number, answer.from..answer.to)
+        let start = if movement == Movement::ViFirstPrint { self.first_print() } else { 0 };
+        let places = [Place::StartAfterEnd { start, end: self.line.cursor }];
+        let handed = Handed { ch: movement.searched(), places: &places, ..Handed::default() };
+        handed.found(answer.number, answer.from..answer.to)
     }
 
+    /// Where `copy` of `ViFirstPrint` starts.
+    fn first_print(&self) -> usize {
+        let first = Line { cursor: 0, ..self.line };
+        let (at, word) = (At::Start as u32, Word::Big as u32);
+        // SAFETY: one buffer, with its length.
+        let answer =
+            unsafe { ffi::tlf_line_move_to_next_word(self.text.as_ptr(), self.text.len(), first, at, word, 1) };
+        answer.line.cursor
+    }
+
+    /// Does the cursor stand at the text's end?
     pub fn is_cursor_at_end(&self) -> Result<bool, Refusal> {
         Ok(outcome(look!(self, tlf_line_is_cursor_at_end).number)? == Outcome::Done)
     }
@@ -33,9 +50,12 @@ impl EditLine {
         outcome(answer.number)
     }
 
-    /// `Done` also where the cursor stands there.
+    /// To a place. `Done` also where the cursor stands there.
     pub fn set_pos(&mut self, pos: usize) -> Result<Outcome, Refusal> {
-        self.moved(look!(self, tlf_line_set_pos, pos))
+        let answer = look!(self, tlf_line_set_pos, pos);
+        self.line = answer.line;
+        let places = [Place::Beyond { place: pos, len: self.line.len }];
+        Handed { places: &places, ..Handed::default() }.outcome(answer.number)
     }
 
     /// n clusters on.
@@ -48,10 +68,12 @@ impl EditLine {
         self.moved(look!(self, tlf_line_move_backward, n))
     }
 
+    /// To the start of the text.
     pub fn move_buffer_start(&mut self) -> Result<Outcome, Refusal> {
         self.moved(look!(self, tlf_line_move_buffer_start))
     }
 
+    /// To the end of the text.
     pub fn move_buffer_end(&mut self) -> Result<Outcome, Refusal> {
         self.moved(look!(self, tlf_line_move_buffer_end))
     }
@@ -89,6 +111,8 @@ impl EditLine {
     /// To the n-th match.
     pub fn move_to(&mut self, search: CharSearch, n: u16) -> Result<Outcome, Refusal> {
         let (search, ch) = search.codes();
-        self.moved(look!(self, tlf_line_move_to, search, ch, n))
+        let answer = look!(self, tlf_line_move_to, search, ch.into(), n);
+        self.line = answer.line;
+        Handed { ch: Some(ch), ..Handed::default() }.outcome(answer.number)
     }
 }

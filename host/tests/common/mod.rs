@@ -60,6 +60,19 @@ impl Rng {
         (0..self.below(6)).map(|_| self.character()).collect()
     }
 
+    /// A key, or bytes that are none: now and then some byte, before the end of it or behind it.
+    pub fn key(&mut self) -> Vec<u8> {
+        const KEYS: [&[u8]; 8] = [b"\x04", b"\x0b", b"\x17", b"\x19", b"\x19", b"\x1by", b"\x1b2\x1by", b"\x1b3\x1f"];
+        let mut key = match self.below(3) {
+            0 => self.character().to_string().into_bytes(),
+            _ => self.pick(&KEYS).to_vec(),
+        };
+        if self.below(5) == 0 {
+            key.insert(self.below(key.len() + 1), self.next() as u8);
+        }
+        key
+    }
+
     /// A repeat count, mostly small.
     pub fn count(&mut self) -> u16 {
         self.pick(&[0, 1, 1, 1, 2, 3, 5, u16::MAX])
