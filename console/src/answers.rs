@@ -19,6 +19,11 @@ impl Said {
         Said { number: refusal.number(), word: refusal.word(), more: Some(refusal.to_string()) }
     }
 
+    /// Is it the number of bytes that are no key?
+    pub fn is_unbound(&self) -> bool {
+        self.number == Refusal::Unbound.number()
+    }
+
     fn with(outcome: Outcome, more: String) -> Said {
         Said { more: Some(more), ..Said::plain(outcome) }
     }

@@ -7,6 +7,10 @@ use std::fmt;
 
 #[derive(Debug)]
 pub enum Mistake<'a> {
+    /// A line's bytes, and the most that are taken.
+    Overlong(usize, usize),
+    /// A line of as many bytes, as a terminal cuts it.
+    Cut(usize),
     /// The first byte that is no part of a character, and its place.
     NotUtf8(u8, usize),
     NoCommand(&'a str),
@@ -29,6 +33,13 @@ pub enum Mistake<'a> {
 impl fmt::Display for Mistake<'_> {
     fn fmt(&self, f: &mut fmt::Formatter<'_>) -> fmt::Result {
         match self {
+            Mistake::Overlong(len, most) => {
+                write!(f, "the line has {} bytes, at most {} are taken", grouped(*len), grouped(*most))
+            }
+            Mistake::Cut(len) => {
+                let len = grouped(*len);
+                write!(f, "a terminal hands over {len} bytes of a line at most: its end may be missing; ./run < FILE takes it")
+            }
             Mistake::NotUtf8(byte, place) => write!(f, "the line is not UTF-8: 0x{byte:02x} at place {place}"),
             Mistake::NoCommand(word) => {
                 write!(f, "no command {}; {}", shown(word), hint(word, |_| true))

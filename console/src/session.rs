@@ -10,6 +10,12 @@ use tulofewa::{EditLine, Room};
 const PROMPT: &str = "> ";
 /// What begins the answer to bad input.
 const MISTAKE: &str = "! ";
+/// The longest line that is taken, with its end: room for two texts, each of their characters an escape.
+const LONGEST: usize = 131_072;
+/// As much is kept of a longer one, to be shown.
+const SHOWN: usize = 40;
+/// A terminal that edits the line itself hands over as many bytes of it, and cuts off what comes behind.
+const CUT: usize = 4_095;
 const GREETING: &str = "The catalogue edit line. One call to a line: help lists them, quit ends.";
 
 pub struct Session<W> {
@@ -31,21 +37,21 @@ impl<W: Write> Session<W> {
         if terminal {
             writeln!(self.out, "{GREETING}")?;
         }
-        let mut bytes = Vec::new();
         loop {
             if terminal {
                 write!(self.out, "{PROMPT}")?;
             }
             self.out.flush()?;
-            bytes.clear();
-            if input.read_until(b'\n', &mut bytes)? == 0 {
-                break;
-            }
+            let Some((bytes, len)) = read_line(&mut input)? else { break };
             let line = without_line_end(&bytes);
             if !terminal {
                 self.echo(line)?;
             }
-            if !self.answer(line)? {
+            if len > LONGEST {
+                self.mistake(&Mistake::Overlong(len, LONGEST))?;
+            } else if terminal && line.len() >= CUT {
+                self.mistake(&Mistake::Cut(CUT))?;
+            } else if !self.answer(line)? {
                 return self.out.flush();
             }
         }
@@ -75,11 +81,15 @@ impl<W: Write> Session<W> {
         match asked {
             Ok((command, args)) => self.obey(command, &args),
             Err(mistake) => {
-                self.mistakes = self.mistakes.saturating_add(1);
-                writeln!(self.out, "{MISTAKE}{mistake}")?;
+                self.mistake(&mistake)?;
                 Ok(true)
             }
         }
+    }
+
+    fn mistake(&mut self, mistake: &Mistake<'_>) -> io::Result<()> {
+        self.mistakes = self.mistakes.saturating_add(1);
+        writeln!(self.out, "{MISTAKE}{mistake}")
     }
 
     fn obey(&mut self, command: &Command, args: &Args) -> io::Result<bool> {
@@ -105,6 +115,29 @@ impl<W: Write> Session<W> {
         let said = call(&mut self.line, args);
         writeln!(self.out, "{said}")?;
         show::changed(&before, &self.line, &mut self.out)
+    }
+}
+
+/// The next line with its end, and how many bytes it has: of one over the limit only its beginning is kept.
+fn read_line(input: &mut impl BufRead) -> io::Result<Option<(Vec<u8>, usize)>> {
+    let mut line = Vec::new();
+    let mut len: usize = 0;
+    loop {
+        let bytes = match input.fill_buf() {
+            Err(e) if e.kind() == io::ErrorKind::Interrupted => continue,
+            bytes => bytes?,
+        };
+        let end = bytes.iter().position(|byte| *byte == b'\n');
+        let taken = end.map_or(bytes.len(), |end| end.saturating_add(1));
+        len = len.saturating_add(taken);
+        let kept = if len > LONGEST { SHOWN } else { LONGEST };
+        line.extend(bytes.iter().take(taken).take(kept.saturating_sub(line.len())));
+        line.truncate(kept);
+        let none = bytes.is_empty();
+        input.consume(taken);
+        if none || end.is_some() {
+            return Ok((len > 0).then_some((line, len)));
+        }
     }
 }
 

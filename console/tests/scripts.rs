@@ -196,11 +196,49 @@ fn a_reader_that_has_gone_ends_it_quietly() {
     assert_eq!((output.status.code(), output.stderr.as_slice()), (Some(0), &b""[..]));
 }
 
+fn with_words(words: &[&str]) -> Output {
+    Command::new(env!("CARGO_BIN_EXE_console")).args(words).stdin(Stdio::null()).output().unwrap()
+}
+
 #[test]
-fn arguments_are_not_taken() {
-    let output = Command::new(env!("CARGO_BIN_EXE_console")).arg("story.txt").output().unwrap();
-    assert_eq!((output.status.code(), output.stdout.as_slice()), (Some(2), &b""[..]));
-    assert!(!output.stderr.is_empty());
+fn other_words_are_refused() {
+    for words in [&["story.txt"][..], &["--call"], &["--calls", "--keys"], &[""]] {
+        let output = with_words(words);
+        assert_eq!((output.status.code(), output.stdout.as_slice()), (Some(2), &b""[..]));
+        assert!(output.stderr.starts_with(b"usage: "));
+    }
+}
+
+#[test]
+fn words() {
+    for (word, begins) in [("--help", "usage: "), ("--keys", "The line\n  Enter "), ("--calls", "")] {
+        let output = with_words(&[word]);
+        assert_eq!((output.status.code(), output.stderr.as_slice()), (Some(0), &b""[..]));
+        assert!(String::from_utf8(output.stdout).unwrap().starts_with(begins));
+    }
+}
+
+/// A line over the limit is told, its beginning is shown, and nothing has changed.
+#[test]
+fn overlong_lines() {
+    let wanted = |len: &str| format!("! the line has {len} bytes, at most 131,072 are taken");
+    let told = lines(format!("type a\nyank {}\nshow\n", "b".repeat(131_067)));
+    let shown = format!("> yank {}", "b".repeat(35));
+    let at = told.iter().position(|line| *line == shown).unwrap();
+    assert_eq!((told[at + 1].as_str(), told[at + 2].as_str()), (wanted("131,073").as_str(), "> show"));
+    assert_eq!(told[at + 3], "  line  \"a|\", cursor 1 of 1");
+    // as many as are taken, with the line's end; the last line may lack it
+    assert!(!lines(format!("yank {}\n", "b".repeat(131_066))).concat().contains("at most"));
+    assert_eq!(lines("#".repeat(200_000)).last(), Some(&wanted("200,000")));
+}
+
+/// A line without end is not held: there is less memory than it has bytes.
+#[test]
+fn a_line_without_end() {
+    let script = "ulimit -v 200000; head -c 300000000 /dev/zero | \"$0\"";
+    let output = Command::new("sh").args(["-c", script, env!("CARGO_BIN_EXE_console")]).output().unwrap();
+    assert_eq!((output.status.code(), output.stderr.as_slice()), (Some(1), &b""[..]));
+    assert!(output.stdout.ends_with(b"! the line has 300,000,000 bytes, at most 131,072 are taken\n"));
 }
 
 #[test]
