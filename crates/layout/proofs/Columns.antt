@@ -12,6 +12,7 @@ use Rattle.utf8.specs.Chars.{chars}
 use Rattle.utf8.proofs.Chars.{chars-step, chars-bad}
 use Rattle.unicode.specs.Repertoire.{Repertoire, Lawful}
 use Rattle.unicode.proofs.Text.{within-at}
+use Rattle.unicode.proofs.Widths.{width-most}
 use Rattle.cluster.specs.Clusters.{clustersOf}
 use Rattle.cluster.proofs.Clusters.{clusters-concat}
 use Rattle.layout.specs.Width.{advance, mostColumns, columnAfter, columnsAfter, width}
@@ -82,4 +83,4 @@ module _ (R : Repertoire) where
 -- in a lawful repertoire
 pub lawful-reach : (R : Repertoire) → Lawful R → (col c : ℕ) → Reach mostColumns R col c
 unfolding advance
-lawful-reach R law col c = record { low = omega arith; high = omega (arith, law .columns c) }
+lawful-reach R law col c = record { low = omega arith; high = omega (arith, width-most R law c) }

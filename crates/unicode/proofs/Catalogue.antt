@@ -5,7 +5,7 @@ use mathlib.Core.List.{List, [], _∷_}
 use Prim.Native.Nat.{ℕ, _+_, _-_, _<_, _≤_}
 use native.Mathlib.Omega.{arith}
 use borrow.Author.Tests.{eq-eqb, ne-eqb, leb-true, not-true}
-use lib.Dec.{T, leb}
+use lib.Dec.{T, eqb, leb}
 use lib.ListN.{length}
 use Rattle.lists.specs.Lists.{all}
 use Rattle.lists.proofs.Bools.{by-less, never, and-both}
@@ -14,7 +14,7 @@ use Rattle.utf8.specs.Utf8.{within}
 use Rattle.utf8.specs.Encode.{scalar, size, encode, encodeAll}
 use Rattle.utf8.proofs.Forms.{within-below, within-above}
 use Rattle.utf8.proofs.Encode.{scalar-low, size-encode, encode-single}
-use Rattle.unicode.specs.Repertoire.{Lawful, catalogue, isMember, isMark, isAlnum, isWhite, isLowercase, isUppercase, upperOf, lowerOf, widthOf}
+use Rattle.unicode.specs.Repertoire.{Lawful, catalogue, isMember, isControl, isMark, isAlnum, isWhite, isLowercase, isUppercase, upperOf, lowerOf, widthOf}
 use Rattle.unicode.specs.declared.Case.{Case}
 use Rattle.unicode.specs.declared.Case.the-variants.{Upper, Lower}
 use Rattle.unicode.specs.Case.{caseOf, cased}
@@ -132,6 +132,14 @@ space-member : isMember 0x20 ≡ true
 unfolding isMember within
 space-member = refl
 
+space-white : isWhite 0x20 ≡ true
+unfolding isWhite within
+space-white = refl
+
+space-unmarked : isMark 0x20 ≡ false
+unfolding isMark within
+space-unmarked = refl
+
 white-low : (c : ℕ) → isWhite c ≡ true → c ≤ 160
 unfolding isWhite
 white-low c e =
@@ -150,14 +158,14 @@ white-other c e =
     let h = white-low c e in
     not-true (isAlnum c) (not-or (isWhite c) (not (isAlnum c)) (at-each white-test 161 tt c (omega arith)) e)
 
--- ---- marks take no column, all others one
-column : (b : Bool) → cond b 0 1 ≤ 1
-column true = omega arith
-column false = omega arith
+-- ---- controls are white space
+control-white : (c : ℕ) → isControl c ≡ true → isWhite c ≡ true
+unfolding isControl isWhite
+control-white c e = simp e
 
-width-le : (c : ℕ) → widthOf c ≤ 1
+widths-rule : (c : ℕ) → widthOf c ≡ cond (isMark c) 0 1
 unfolding widthOf
-width-le c = column (isMark c)
+widths-rule c = refl
 
 pub catalogue-lawful : Lawful catalogue
 catalogue-lawful =
@@ -168,8 +176,11 @@ catalogue-lawful =
       upperSizes = case-shrinks Upper;
       lowerSizes = case-shrinks Lower;
       space = space-member;
+      spaceWhite = space-white;
+      spaceUnmarked = space-unmarked;
       whites = white-other;
-      columns = width-le;
+      controls = control-white;
+      widths = widths-rule;
     }
 
 pub cased-le : (k : Case) (s : List ℕ) → length (cased catalogue k s) ≤ length s

@@ -4,3 +4,4 @@ pub mod Cased
 pub mod Catalogue
 pub mod Written
 pub mod Typed
+pub mod Widths

@@ -32,12 +32,15 @@ pub record Lawful (R : Repertoire) : Type 0 where
   -- no mapping is longer in bytes than its character, and each has a form in UTF-8
   pub upperSizes : (c : ℕ) → scalar c ≡ true → (length (encodeAll (R .upper c)) ≤ size c) × (all scalar (R .upper c) ≡ true)
   pub lowerSizes : (c : ℕ) → scalar c ≡ true → (length (encodeAll (R .lower c)) ≤ size c) × (all scalar (R .lower c) ≡ true)
-  -- U+0020, which indent puts in, is a member
+  -- U+0020, which indent puts in, is a member; it is white space, and no mark
   pub space : R .member 0x20 ≡ true
-  -- white space, which dedent cuts, is not alphanumeric
+  pub spaceWhite : R .white 0x20 ≡ true
+  pub spaceUnmarked : R .mark 0x20 ≡ false
+  -- white space, which dedent cuts, is not alphanumeric; controls are white space
   pub whites : (c : ℕ) → R .white c ≡ true → R .alnum c ≡ false
-  -- no character takes more than a column
-  pub columns : (c : ℕ) → R .width c ≤ 1
+  pub controls : (c : ℕ) → R .control c ≡ true → R .white c ≡ true
+  -- a mark takes no column, every other character one
+  pub widths : (c : ℕ) → R .width c ≡ cond (R .mark c) 0 1
 
 -- document 01, "Repertoire and clusters"
 
