@@ -1,0 +1,14 @@
+pub mod Columns
+pub mod Words
+pub mod Cut
+pub mod Complete
+pub mod Lines
+pub mod Fits
+pub mod Ends
+pub mod Next
+pub mod Page
+pub mod Inked
+pub mod Bound
+pub mod Promises
+pub mod Examples
+pub mod Long

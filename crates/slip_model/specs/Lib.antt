@@ -1,0 +1,2 @@
+pub mod Slip
+pub mod Promised
