@@ -17,6 +17,16 @@ module _ {A : Type 0} where
   every-append P [] b h k = k
   every-append P (x ∷ a) b h k = (h .0, every-append P a b (h .1) k)
 
+  pub every-parts : (P : A → Type 0) (a b : List A) → Every P (a ++ b) → Every P a × Every P b
+  every-parts P [] b h = (tt, h)
+  every-parts P (x ∷ a) b h =
+      let rest = every-parts P a b (h .1) in
+      ((h .0, rest .0), rest .1)
+
+  pub every-both : (P Q : A → Type 0) (l : List A) → Every P l → Every Q l → Every (λ (x : A). P x × Q x) l
+  every-both P Q [] h k = tt
+  every-both P Q (x ∷ l) h k = ((h .0, k .0), every-both P Q l (h .1) (k .1))
+
   pub every-take : (P : A → Type 0) (n : ℕ) (l : List A) → Every P l → Every P (take n l)
   every-take P zero l h = tt
   every-take P (suc n) [] h = tt

@@ -5,3 +5,4 @@ pub mod Alls
 pub mod Ends
 pub mod Stores
 pub mod Every
+pub mod Concat

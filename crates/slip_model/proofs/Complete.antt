@@ -1,10 +1,11 @@
 -- The words' clusters come out complete and in order, every \n ends a line in its place, and nothing else does so. Assumes nothing.
 use Prim.Native.Nat.{ℕ, _+_}
-use mathlib.Core.Path.{_≡_, refl, sym, ap, _∙_}
+use mathlib.Core.Path.{_≡_, refl, ap, _∙_}
 use mathlib.Core.Bool.{Bool, true, false, cond}
-use mathlib.Core.List.{List, [], _∷_, _++_, map, append-assoc}
+use mathlib.Core.List.{List, [], _∷_, _++_, map}
 use lib.Dec.{leb}
 use Rattle.lists.specs.Lists.{concat}
+use Rattle.lists.proofs.Concat.{concat-append}
 use Rattle.unicode.specs.Repertoire.{Repertoire}
 use Rattle.slip_model.specs.Slip.{Word, Row, Item, word, gap, newline, columns, onto, pieces}
 use Rattle.slip_model.specs.Slip.{before, Line, emptyLine, put, Filled, fresh, blank, upTo, with, spaced, closing, laid, linesFrom}
@@ -104,11 +105,6 @@ rows-whole R f [] = closing-whole f
 rows-whole R f (word w ∷ is) = laid-whole R (concat (map (pieces R 0) (wordsIn is))) (λ g. linesFrom R g is) (λ g. rows-whole R g is) f (pieces R 0 w)
 rows-whole R f (gap ∷ is) = rows-whole R (spaced f) is
 rows-whole R f (newline ∷ is) = rows-whole R fresh is
-
--- lists of lists, one behind the other
-pub concat-append : {A : Type 0} (a b : List (List A)) → concat (a ++ b) ≡ concat a ++ concat b
-concat-append [] b = refl
-concat-append {A} (x ∷ a) b = ap (λ (l : List A). x ++ l) (concat-append a b) ∙ sym (append-assoc x (concat a) (concat b))
 
 -- and so the words' clusters are complete
 pub words-whole : (R : Repertoire) (is : List Item) → concat (concat (map (pieces R 0) (wordsIn is))) ≡ concat (wordsIn is)

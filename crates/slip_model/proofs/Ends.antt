@@ -6,6 +6,7 @@ use mathlib.Core.List.{List, [], _∷_, _++_}
 use native.Mathlib.Omega.{arith}
 use lib.Dec.{leb}
 use Rattle.lists.specs.Lists.{concat}
+use Rattle.lists.proofs.Concat.{concat-append}
 use Rattle.lists.proofs.Every.{Every, every-weaken}
 use Rattle.unicode.specs.Repertoire.{Repertoire, Lawful}
 use Rattle.layout.specs.Width.{columnAfter}
@@ -13,7 +14,6 @@ use Rattle.slip_model.specs.Slip.{Word, Row, Item, word, gap, newline, c
 use Rattle.slip_model.specs.Slip.{Filled, fresh, blank, upTo, with, spaced, closing, laid, linesFrom, rowColumns}
 use Rattle.slip_model.specs.Promised.{Rightly, EndsLast, CutAt60, wordsIn}
 use Rattle.slip_model.proofs.Columns.{columns-append, word-columns, row-one}
-use Rattle.slip_model.proofs.Complete.{concat-append}
 use Rattle.slip_model.proofs.Lines.{Kept, every-line}
 use Rattle.slip_model.proofs.Fits.{with-row}
 

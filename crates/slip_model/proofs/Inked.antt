@@ -8,13 +8,13 @@ use lib.Dec.{eqb}
 use borrow.Author.Tests.{eqb-false, ne-eqb}
 use Rattle.lists.specs.Lists.{all, any, concat}
 use Rattle.lists.proofs.Bools.{or-none}
+use Rattle.lists.proofs.Concat.{concat-append}
 use Rattle.lists.proofs.Every.{Every}
 use Rattle.utf8.specs.Encode.{scalar, encode, encodeAll}
 use Rattle.utf8.proofs.Encode.{encodeAll-append}
 use Rattle.unicode.specs.Repertoire.{Repertoire}
 use Rattle.slip_model.specs.Slip.{Word, Row, Line, spaces, spelled, rowColumns, padded, printed}
 use Rattle.slip_model.specs.Promised.{inked}
-use Rattle.slip_model.proofs.Complete.{concat-append}
 use Rattle.slip_model.proofs.Page.{ascii-bytes}
 
 -- a piece that a word of a text has: characters, and neither a space nor \n among them

@@ -1,13 +1,13 @@
 -- The word that a line of a slip ends before is the one that comes next: the whole of a text's word, or the rest of one that is cut. Assumes nothing.
 use mathlib.Core.Path.{_≡_, refl, sym, ap, _∙_}
 use mathlib.Core.Bool.{Bool, true, false, cond}
-use mathlib.Core.List.{List, [], _∷_, _++_, map, append-assoc}
+use mathlib.Core.List.{List, [], _∷_, _++_, append-assoc}
 use lib.Dec.{leb}
 use Rattle.lists.specs.Lists.{concat}
 use Rattle.unicode.specs.Repertoire.{Repertoire}
-use Rattle.slip_model.specs.Slip.{Word, Item, word, gap, newline, columns, pieces, Ends, atNewline, atTextEnd, before, Line, emptyLine, put}
+use Rattle.slip_model.specs.Slip.{Word, Item, word, gap, newline, columns, pieces, before, Line, emptyLine, put}
 use Rattle.slip_model.specs.Slip.{Filled, fresh, blank, upTo, with, spaced, closing, laid, linesFrom}
-use Rattle.slip_model.specs.Promised.{readBack, cutItems, Next, AllNext}
+use Rattle.slip_model.specs.Promised.{cutItems, Next, AllNext}
 use Rattle.slip_model.proofs.Complete.{read-put, laid-read, read-back}
 
 module _ (R : Repertoire) (all : List Item) where

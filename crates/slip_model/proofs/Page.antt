@@ -1,7 +1,7 @@
 -- A printed line: its bytes before the closing \n have 60 columns, and none of them is \n. Over any lawful repertoire.
 use Prim.Native.Nat.{ℕ, zero, suc, _+_, _-_, _≤_, _/_, _%_}
 use mathlib.Core.Path.{_≡_, refl, sym, ap, _∙_}
-use mathlib.Core.Bool.{Bool, true, false, cond, _&&_, _||_, or-false}
+use mathlib.Core.Bool.{Bool, true, false, cond, or-false}
 use mathlib.Core.List.{List, [], _∷_, _++_}
 use native.Mathlib.Omega.{arith}
 use lib.Dec.{leb, eqb}
@@ -11,7 +11,7 @@ use Rattle.lists.proofs.Alls.{all-append, any-append}
 use Rattle.lists.proofs.Bools.{by-test}
 use Rattle.lists.proofs.Every.{Every, every-weaken}
 use Rattle.utf8.specs.Chars.{chars}
-use Rattle.utf8.specs.Encode.{scalar, oneByte, twoBytes, threeBytes, fourBytes, encode, encodeAll}
+use Rattle.utf8.specs.Encode.{scalar, twoBytes, threeBytes, fourBytes, encode, encodeAll}
 use Rattle.utf8.proofs.Encode.{scalar-low, encodeAll-append, chars-encode}
 use Rattle.unicode.specs.Repertoire.{Repertoire, Lawful}
 use Rattle.layout.specs.Width.{columnAfter, width}

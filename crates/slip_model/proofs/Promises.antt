@@ -6,9 +6,10 @@ use mathlib.Core.List.{List, [], _∷_, _++_, map}
 use lib.Dec.{eqb}
 use borrow.Author.Tests.{eqb-true}
 use Rattle.lists.specs.Lists.{all, any, concat}
-use Rattle.lists.proofs.Bools.{and-both, or-none, never, by-test}
-use Rattle.lists.proofs.Alls.{all-append, any-append}
-use Rattle.lists.proofs.Every.{Every, every-weaken, every-append}
+use Rattle.lists.proofs.Bools.{or-none, never, by-test}
+use Rattle.lists.proofs.Alls.{all-append, all-both, all-parts, any-none, any-parts}
+use Rattle.lists.proofs.Concat.{concat-append}
+use Rattle.lists.proofs.Every.{Every, every-weaken, every-append, every-parts, every-both}
 use Rattle.utf8.specs.Chars.{chars}
 use Rattle.utf8.specs.Encode.{scalar, encodeAll}
 use Rattle.utf8.proofs.Encode.{scalar-low, chars-scalar}
@@ -19,29 +20,14 @@ use native.Mathlib.Omega.{arith}
 use Rattle.slip_model.specs.Slip.{Word, Row, Item, word, gap, newline, grown, itemsOf, pieces}
 use Rattle.slip_model.specs.Slip.{Line, fresh, linesFrom, textItems, linesOf, spelled, rowColumns, slip}
 use Rattle.slip_model.specs.Promised.{wordsIn, CutAt60, Rightly, EndsLast, AllNext, readBack, cutItems, inked, Promised}
-use Rattle.slip_model.proofs.Words.{Plain, items-by, words-plain, any-none}
+use Rattle.slip_model.proofs.Words.{Plain, items-by, words-plain}
 use Rattle.slip_model.proofs.Cut.{words-cut}
-use Rattle.slip_model.proofs.Complete.{pieces-whole, rows-whole, words-whole, read-back, concat-append}
+use Rattle.slip_model.proofs.Complete.{pieces-whole, rows-whole, words-whole, read-back}
 use Rattle.slip_model.proofs.Fits.{lines-fit}
 use Rattle.slip_model.proofs.Ends.{ends-rightly, ends-last}
 use Rattle.slip_model.proofs.Next.{ends-next}
 use Rattle.slip_model.proofs.Page.{lines-wide}
 use Rattle.slip_model.proofs.Inked.{Bare, inked-lines}
-
--- ---- parts of what has, and of what has none
--- every element of lists one behind the other, list by list
-every-parts : {A : Type 0} (P : A → Type 0) (a b : List A) → Every P (a ++ b) → Every P a × Every P b
-every-parts P [] b h = (tt, h)
-every-parts P (x ∷ a) b h =
-    let rest = every-parts P a b (h .1) in
-    ((h .0, rest .0), rest .1)
-
--- a test that no element of the whole meets is met by none of a part
-any-parts : (f : ℕ → Bool) (a b : List ℕ) → any f (a ++ b) ≡ false → (any f a ≡ false) × (any f b ≡ false)
-any-parts f a b e = or-none (any f a) (any f b) (sym (any-append f a b) ∙ e)
-
-all-parts : (f : ℕ → Bool) (a b : List ℕ) → all f (a ++ b) ≡ true → (all f a ≡ true) × (all f b ≡ true)
-all-parts f a b e = and-both (all f a) (all f b) (sym (all-append f a b) ∙ e)
 
 -- white space is not there, so no space is
 no-space : (R : Repertoire) → Lawful R → (cs : List ℕ) → any (R .white) cs ≡ false → any (eqb 0x20) cs ≡ false
@@ -58,14 +44,11 @@ module _ (R : Repertoire) where
   abbrev Spelt : List Item → Type 0
   Spelt is = Every (λ (w : Word). all scalar (concat w) ≡ true) (wordsIn is)
 
-  all-both : (a b : List ℕ) → all scalar a ≡ true → all scalar b ≡ true → all scalar (a ++ b) ≡ true
-  all-both a b p q = all-append scalar a b ∙ rw p q
-
   grown-spelt : (k : List ℕ) (is : List Item) → all scalar k ≡ true → Spelt is → Spelt (grown k is)
-  grown-spelt k [] h p = (all-both k [] h refl, tt)
-  grown-spelt k (word w ∷ is) h p = (all-both k (concat w) h (p .0), p .1)
-  grown-spelt k (gap ∷ is) h p = (all-both k [] h refl, p)
-  grown-spelt k (newline ∷ is) h p = (all-both k [] h refl, p)
+  grown-spelt k [] h p = (all-both scalar k [] h refl, tt)
+  grown-spelt k (word w ∷ is) h p = (all-both scalar k (concat w) h (p .0), p .1)
+  grown-spelt k (gap ∷ is) h p = (all-both scalar k [] h refl, p)
+  grown-spelt k (newline ∷ is) h p = (all-both scalar k [] h refl, p)
 
   items-spelt : (ks : List (List ℕ)) → all scalar (concat ks) ≡ true → Spelt (itemsOf R ks)
   unfolding itemsOf
@@ -115,10 +98,6 @@ row-newlines : (r : Row) → Every Bare r → any (eqb 0x0A) (spelled r) ≡ fal
 row-newlines [] h = refl
 row-newlines (p ∷ []) h = h .0 .noNewline
 row-newlines (p ∷ (q ∷ r)) h = any-none (eqb 0x0A) (concat p) (0x20 ∷ spelled (q ∷ r)) (h .0 .noNewline) (row-newlines (q ∷ r) (h .1))
-
-every-both : (P Q : Line → Type 0) (ls : List Line) → Every P ls → Every Q ls → Every (λ (l : Line). P l × Q l) ls
-every-both P Q [] h k = tt
-every-both P Q (l ∷ ls) h k = ((h .0, k .0), every-both P Q ls (h .1) (k .1))
 
 -- ---- the slip of every text
 module _ (R : Repertoire) (law : Lawful R) (s : List ℕ) where

@@ -1,14 +1,14 @@
 -- The words of a text: each has a cluster, and none has white space or \n in it. Assumes nothing.
 use Prim.Native.Nat.{ℕ, _<_}
-use mathlib.Core.Path.{_≡_, refl, ap, _∙_}
-use mathlib.Core.Bool.{Bool, true, false, cond, _||_}
-use mathlib.Core.List.{List, [], _∷_, _++_}
+use mathlib.Core.Path.{_≡_, refl}
+use mathlib.Core.Bool.{Bool, true, false, cond}
+use mathlib.Core.List.{List, [], _∷_}
 use native.Mathlib.Omega.{arith}
 use lib.Dec.{eqb}
 use lib.ListN.{length}
 use Rattle.lists.specs.Lists.{any, concat}
 use Rattle.lists.proofs.Every.{Every}
-use Rattle.lists.proofs.Alls.{any-append}
+use Rattle.lists.proofs.Alls.{any-none}
 use Rattle.unicode.specs.Repertoire.{Repertoire}
 use Rattle.slip_model.specs.Slip.{Word, Item, word, gap, newline, grown, itemsOf}
 use Rattle.slip_model.specs.Promised.{wordsIn}
@@ -23,10 +23,6 @@ pub record Plain (R : Repertoire) (w : Word) : Type 0 where
 pub record Clear (R : Repertoire) (k : List ℕ) : Type 0 where
   pub noNewline : any (eqb 0x0A) k ≡ false
   pub noWhite : any (R .white) k ≡ false
-
--- what has none in either part has none
-pub any-none : (f : ℕ → Bool) (a b : List ℕ) → any f a ≡ false → any f b ≡ false → any f (a ++ b) ≡ false
-any-none f a b p q = any-append f a b ∙ (ap (λ (x : Bool). x || any f b) p ∙ q)
 
 -- one test after the other, each kept as a fact
 by-tests : (P : List Item → Type 0) (a b : Bool) (x y z : List Item) → P x → P y → (a ≡ false → b ≡ false → P z) → P (cond a x (cond b y z))

@@ -1,6 +1,6 @@
 -- Document 02, order 2, "A slip for the box lid": a text as lines of exactly 60 columns, each padded with spaces and closed by \n.
 use Prim.Native.Nat.{ℕ, zero, suc, _+_, _-_}
-use mathlib.Core.Bool.{Bool, true, false, cond}
+use mathlib.Core.Bool.{cond}
 use mathlib.Core.List.{List, [], _∷_, _++_, map}
 use lib.Dec.{eqb, leb}
 use Rattle.lists.specs.Lists.{any, concat}

@@ -1,6 +1,5 @@
 -- The columns of a character, over any lawful repertoire. Assumes nothing.
 use Prim.Native.Nat.{ℕ, _≤_}
-use mathlib.Core.Path.{_≡_, sym, subst}
 use mathlib.Core.Bool.{Bool, true, false, cond}
 use native.Mathlib.Omega.{arith}
 use Rattle.unicode.specs.Repertoire.{Repertoire, Lawful}
