@@ -1,11 +1,12 @@
 /*
- * Tulofewa, the catalogue edit line: text and cursor, motions and edits, undo with groups, a kill ring, keys. These are
- * the entries of libtulofewa, which ./library builds; include/check holds this file against their source.
+ * Tulofewa, the catalogue edit line: text and cursor, motions and edits, undo with groups, a kill ring, keys, slips.
+ * These are the entries of libtulofewa, which ./library builds; include/check holds this file against their source.
  *
  * State. All of it is the caller's; an entry keeps nothing and allocates nothing, so calls that share no buffer may run
  * at once in any threads. A text is a buffer and a tlf_line, a log is two buffers and a tlf_log, a ring is two buffers
  * and a tlf_ring. tlf_line and tlf_log go in by value and come back in the answer, whatever its number: put them where
- * the old ones stood. A tlf_ring goes in by pointer, save with tlf_line_key, which takes and gives it as the others.
+ * the old ones stood. A tlf_ring goes in by pointer, save with tlf_line_key, which takes and gives it as the others. To
+ * the entries named tlf_text_ a text is a buffer alone, all of it used, without a cursor.
  *
  * Buffers. A buffer is a pointer and its length in bytes. The pointer of a buffer of length 0 may be null or any other:
  * it is not followed. That of a tlf_ring is not null. The buffers of one call, and a tlf_ring, do not overlap. A buffer
@@ -21,7 +22,7 @@
  * then 9, at each record and stop before the one in the way. The records handled earlier stay handled, and text, line
  * and log are those reached; a stopped cancel drops nothing.
  *
- * from, to, slot and size hold what an entry says that it answers, on number 0 alone. All else is 0.
+ * from, to, slot, size and value hold what an entry says that it answers, on number 0 alone. All else is 0.
  */
 #ifndef TULOFEWA_H
 #define TULOFEWA_H
@@ -42,10 +43,10 @@ extern "C" {
  */
 
 #define TLF_VERSION_MAJOR 0
-#define TLF_VERSION_MINOR 1
+#define TLF_VERSION_MINOR 2
 #define TLF_VERSION_PATCH 0
-#define TLF_VERSION 100 /* MAJOR * 10000 + MINOR * 100 + PATCH */
-#define TLF_VERSION_STRING "0.1.0"
+#define TLF_VERSION 200 /* MAJOR * 10000 + MINOR * 100 + PATCH */
+#define TLF_VERSION_STRING "0.2.0"
 
 /* ---- Limits */
 
@@ -77,7 +78,8 @@ enum tlf_number {
                            or a group would open above level 255 */
     TLF_RING_FULL = 11, /* a slot would pass 4,096 bytes */
     TLF_MISFIT = 12,    /* undo, redo or cancel meets a record whose range leaves the text or cuts a character */
-    TLF_UNBOUND = 13    /* bytes that are no key: tlf_line_key alone */
+    TLF_UNBOUND = 13,   /* bytes that are no key: tlf_line_key alone */
+    TLF_PAGE_FULL = 14  /* a slip longer than its page: tlf_text_slip alone */
 };
 
 /* The word of a number, as document 01 and the orders have it; "unknown" for a number that is not above. */
@@ -98,6 +100,7 @@ static inline const char *tlf_number_word(uint32_t number)
     case TLF_RING_FULL: return "ring full";
     case TLF_MISFIT: return "misfit";
     case TLF_UNBOUND: return "unbound";
+    case TLF_PAGE_FULL: return "page full";
     default: return "unknown";
     }
 }
@@ -234,6 +237,11 @@ typedef struct tlf_key_answer {
     tlf_log log;
     tlf_ring ring;
 } tlf_key_answer;
+
+typedef struct tlf_value_answer {
+    uint32_t number;
+    size_t value;
+} tlf_value_answer;
 
 /*
  * ---- Edits. The text and the log are lent. What is cut and put in is recorded in the undo list, and the redo list is
@@ -541,6 +549,19 @@ tlf_key_answer tlf_line_key(
     uint8_t *text, size_t text_len, uint8_t *records, size_t records_len, uint8_t *texts, size_t texts_len,
     uint8_t *slots, size_t slots_len, uint8_t *lens, size_t lens_len, tlf_line line, tlf_log log, tlf_ring ring,
     const uint8_t *key, size_t key_len);
+
+/*
+ * ---- Texts without a cursor. A text is lent and only read, all text_len bytes of it. Each may answer 0, 2 and 4; in
+ * brackets what else.
+ */
+
+/* Lays the text out on the page as a slip: lines of exactly 60 columns, each padded with spaces and closed by \n. A
+ * word is a longest run of clusters without white space. A line takes as many words as fit, one space between; a word
+ * over 60 columns starts a line and is cut between clusters at 60, its rest being taken as a word. A \n, also in \r\n,
+ * ends the line, and a line without words is 60 spaces; after a \n that ends the text, or for an empty text, no line
+ * follows. value: the slip's length in bytes, 61 * text_len at most. The page's bytes behind the slip stay as they
+ * were; 14 where the slip is longer than the page. [14] */
+tlf_value_answer tlf_text_slip(const uint8_t *text, size_t text_len, uint8_t *page, size_t page_len);
 
 #ifdef __cplusplus
 }

@@ -83,6 +83,9 @@ CALL(ring_kill, NOTED(tlf_ring_kill)(RING(e), BYTES("box 12"), TLF_MODE_PREPEND)
 static const char *bytes;
 CALL(line_key, pressed(e, NOTED(tlf_line_key)(WHOLE(e), (const uint8_t *)bytes, strlen(bytes))))
 
+static uint8_t page[61 * TLF_TEXT_MAX];
+CALL(text_slip, NOTED(tlf_text_slip)(e->text, sizeof e->text, page, sizeof page).number)
+
 #define MEASURE(name) ((void)printf("tlf_%s %zu\n", #name, depth(call_##name)))
 
 /* A group with as many records as the log has room for, made by turns at both ends of the text. */
@@ -130,6 +133,9 @@ int main(void)
     must("begin", logged(e, tlf_log_begin(LOG(e))));
     must("insert", edited(e, tlf_line_insert(EDIT(e), 'a', 1)));
     MEASURE(log_end);
+
+    start(e, lines, FULL, 0, 2);
+    MEASURE(text_slip);
 
     start(e, text, FULL, 0, 2);
     fill_log();

@@ -14,6 +14,7 @@ mod rows;
 mod rustyline;
 mod scenes;
 mod sizes;
+mod slips;
 mod tables;
 mod timing;
 
@@ -31,11 +32,14 @@ enum Table {
     Scan,
     Undo,
     Keys,
+    Slips,
 }
 use Table::*;
 
-const TABLES: [(&str, Table); 5] =
-    [("rustyline", Rustyline), ("growth", Growth), ("scan", Scan), ("undo", Undo), ("keys", Keys)];
+#[rustfmt::skip]
+const TABLES: [(&str, Table); 6] = [
+    ("rustyline", Rustyline), ("growth", Growth), ("scan", Scan), ("undo", Undo), ("keys", Keys), ("slips", Slips),
+];
 
 /// Tables whose figures are measured together, and the word by which this program is told to measure them.
 struct Sheet {
@@ -48,7 +52,8 @@ const FIRST_TWO: Sheet = Sheet { word: "growth", measure: || compared::measure(t
 const SCAN: Sheet = Sheet { word: "scan", measure: apart::measure_scan };
 const UNDO: Sheet = Sheet { word: "undo", measure: apart::measure_undo };
 const KEYS: Sheet = Sheet { word: "keys", measure: keys::measure };
-const SHEETS: [Sheet; 5] = [FIRST, FIRST_TWO, SCAN, UNDO, KEYS];
+const SLIPS: Sheet = Sheet { word: "slips", measure: slips::measure };
+const SHEETS: [Sheet; 6] = [FIRST, FIRST_TWO, SCAN, UNDO, KEYS, SLIPS];
 
 /// In a run of this program: the figures, one to a line.
 fn tell(word: &str) {
@@ -106,6 +111,9 @@ fn print(tables: &[Table], runs: usize) -> Option<()> {
     if asked(Keys) {
         keys::print(&figures(&KEYS, runs)?);
     }
+    if asked(Slips) {
+        slips::print(&figures(&SLIPS, runs)?);
+    }
     Some(())
 }
 
@@ -128,7 +136,7 @@ fn main() -> ExitCode {
         return ExitCode::SUCCESS;
     }
     let Some((runs, tables)) = asked(&words) else {
-        eprintln!("usage: bench/run [RUNS] [rustyline] [growth] [scan] [undo] [keys]");
+        eprintln!("usage: bench/run [RUNS] [rustyline] [growth] [scan] [undo] [keys] [slips]");
         return ExitCode::from(2);
     };
     print(&tables, runs).map_or(ExitCode::FAILURE, |()| ExitCode::SUCCESS)

@@ -24,6 +24,11 @@ impl Figure {
     pub fn of_runs(runs: &[Figure]) -> Figure {
         if let [run] = runs { *run } else { Figure::of(runs.iter().map(|run| run.median).collect()) }
     }
+
+    /// The same of one of so many parts.
+    pub fn by(&self, parts: f64) -> Figure {
+        Figure { median: self.median / parts, least: self.least / parts, most: self.most / parts }
+    }
 }
 
 /// C's timespec.

@@ -60,6 +60,14 @@ pub fn places(answer: Result<Option<Range<usize>>, Refusal>, text: &str) -> Said
     })
 }
 
+/// A slip: how many lines and bytes it has, and below that its lines, between bars.
+pub fn slip(answer: Result<String, Refusal>) -> Said {
+    found(answer.map(Some), |slip| {
+        let lines: String = slip.lines().map(|line| format!("\n  |{line}|")).collect();
+        format!("lines {}, bytes {}{lines}", slip.lines().count(), slip.len())
+    })
+}
+
 /// A key: what it answers, with two places where it has some, and what stood between them in the text before.
 pub fn pressed(answer: Result<Pressed, Refusal>, before: &str) -> Said {
     match answer {

@@ -121,6 +121,24 @@ fn keys() {
     assert_eq!(told.last().unwrap(), "13 unbound: the bytes are no key");
 }
 
+/// The slip is the whole text's, wherever the cursor is; nothing changes, and every line stands between bars.
+#[test]
+fn slips() {
+    let long = "x".repeat(61);
+    let told = lines(format!("start \"{long} é\\r\\n\\nbox 12\" 3\nslip\nshow\nstart\nslip\n"));
+    let at = told.iter().position(|line| line == "> slip").unwrap();
+    let wanted = [
+        "0 done: lines 4, bytes 245".to_owned(),
+        format!("  |{}|", &long[1..]),
+        format!("  |{:60}|", "x é"),
+        format!("  |{:60}|", ""),
+        format!("  |{:60}|", "box 12"),
+        "> show".to_owned(),
+    ];
+    assert_eq!(told[at + 1..][..6], wanted);
+    assert_eq!(told[told.len() - 2..], ["> slip", "0 done: lines 0, bytes 0"]);
+}
+
 /// 2, 4 and 5 say what was too large, which character and where, which place.
 #[test]
 fn causes() {
@@ -252,7 +270,7 @@ fn input_that_cannot_be_read() {
 /// Lines put together at random from pieces of commands: no line ends the program, and each gets one answer.
 #[test]
 fn any_lines() {
-    const PIECES: [&str; 40] = [
+    const PIECES: [&str; 41] = [
         "insert",
         "yank",
         "undo",
@@ -264,6 +282,7 @@ fn any_lines() {
         "kill",
         "copy",
         "indent",
+        "slip",
         "word_back",
         "search",
         "line_down",

@@ -6,9 +6,9 @@ use crate::ffi::LineAnswer;
 use crate::line_calls::{Args, Case, Difference, Entry, Param};
 
 #[rustfmt::skip]
-const WORDS: [&str; 14] = [
+const WORDS: [&str; 15] = [
     "done", "nothing", "sizes", "code", "foreign", "place", "split", "prompt", "damaged", "full", "log full",
-    "ring full", "misfit", "unbound",
+    "ring full", "misfit", "unbound", "page full",
 ];
 #[rustfmt::skip]
 const MOVEMENTS: [&str; 14] = [

@@ -47,6 +47,7 @@ mod record;
 mod record_heads;
 mod record_keys;
 mod record_lines;
+mod record_slips;
 mod ring_account;
 mod ring_calls;
 mod ring_case;
@@ -60,6 +61,13 @@ mod runner;
 mod session_gen;
 mod session_parts;
 mod shrink;
+mod slip_account;
+mod slip_case;
+mod slip_gen;
+mod slip_lists;
+mod slip_parts;
+mod slip_reading;
+mod slip_shrink;
 mod tally;
 mod undo_calls;
 mod undo_case;
@@ -73,10 +81,10 @@ include!(concat!(env!("OUT_DIR"), "/rustyline.rs"));
 use std::process::ExitCode;
 use std::time::Instant;
 
-const DEFAULT: u64 = 1_400_000;
+const DEFAULT: u64 = 1_600_000;
 
 /// From here on a call must have been seen with every number that it can give.
-const ENOUGH: u64 = 980_000;
+const ENOUGH: u64 = 1_120_000;
 
 /// So many comparisons from a seed, each input told before its call or not; or the account of the first difference.
 type Part = fn(u64, u64, bool, &mut tally::Tally) -> Result<(), String>;
@@ -100,13 +108,15 @@ fn main() -> ExitCode {
     }
     let began = Instant::now();
     let mut tally = tally::Tally::new();
-    let share = n / 7;
+    let share = n / 8;
     let parts: [Part; 5] = [line_parts::run, log_parts::run, edit_parts::run, undo_parts::run, ring_parts::run];
     let compared = parts
         .iter()
         .try_for_each(|part| part(share, seed, trace, &mut tally).inspect(|()| record::next_part()))
         .and_then(|()| session_parts::run(share, seed, trace, &mut tally).inspect(|_| record::next_part()))
-        .and_then(|sessions| Ok((sessions, key_parts::run(n - 6 * share, seed, trace, &mut tally)?)));
+        .and_then(|sessions| Ok((sessions, key_parts::run(share, seed, trace, &mut tally)?)))
+        .inspect(|_| record::next_part())
+        .and_then(|both| slip_parts::run(n - 7 * share, seed, trace, &mut tally).map(|()| both));
     let (sessions, keys) = match compared {
         Ok(both) => both,
         Err(account) => {

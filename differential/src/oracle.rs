@@ -154,6 +154,11 @@ pub fn control_widths() -> [u16; 3] {
     ["\t", "\r", "\n"].map(|c| Layout::new(GraphemeClusterMode::Unicode).width(c))
 }
 
+/// The columns of a cluster.
+pub fn columns(cluster: &str) -> usize {
+    Layout::new(GraphemeClusterMode::Unicode).width(cluster).into()
+}
+
 /// The Rust's lists in bytes, the undo list in front, and the state of the log that they are.
 pub fn laid_out(changes: &Changeset) -> (Log, Bytes) {
     let mut bytes = Bytes::default();

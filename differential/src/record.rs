@@ -9,11 +9,12 @@ use crate::ffi::{EditAnswer, LineAnswer, Log, LogAnswer, Ring, RingAnswer};
 use crate::r#gen::Rng;
 use crate::key_case::Expected;
 use crate::log_model::Bytes;
-use crate::record_heads::{HEAD, KEY, RING, STATE};
+use crate::record_heads::{ANSWERS, HEAD, KEY, RING, SLIP, STATE};
 use crate::record_keys::LentKey;
 pub use crate::record_lines::{Lent, LentRing};
+use crate::record_slips::LentSlip;
 use crate::tally::calls;
-use crate::{edit_calls, key_calls, line_calls, log_calls, ring_calls, undo_calls};
+use crate::{edit_calls, key_calls, line_calls, log_calls, ring_calls, slip_case, undo_calls};
 
 /// The longest line of a sample, and of one that has to do with a limit.
 const LONGEST: usize = 300;
@@ -62,6 +63,10 @@ fn is_key(name: &str) -> bool {
     key_calls::KINDS.iter().any(|kind| kind.name == name)
 }
 
+fn is_slip(name: &str) -> bool {
+    name == slip_case::NAME
+}
+
 /// The entries of the crate `c_kill`.
 #[rustfmt::skip]
 const KILLS: [&str; 10] = [
@@ -70,7 +75,7 @@ const KILLS: [&str; 10] = [
     "tlf_line_delete_to",
 ];
 
-static FILES: [Data; 7] = [
+static FILES: [Data; 8] = [
     Data {
         file: "line.txt",
         share: Share { done: 40, nothing: 24, other: 12, at_a_limit: 2 },
@@ -108,6 +113,12 @@ static FILES: [Data; 7] = [
         has: |name| ring_calls::ENTRIES.iter().any(|entry| entry.name == name),
     },
     Data { file: "key.txt", share: Share { done: 10, nothing: 8, other: 4, at_a_limit: 1 }, form: KEY, has: is_key },
+    Data {
+        file: "slip.txt",
+        share: Share { done: 200, nothing: 0, other: 40, at_a_limit: 8 },
+        form: SLIP,
+        has: is_slip,
+    },
 ];
 
 struct Sample {
@@ -124,8 +135,18 @@ struct Recorder {
     samples: BTreeMap<Key, Sample>,
 }
 
-/// The part of the keys, the last. There alone keys are recorded, and nothing else.
+/// The parts of the keys and of the slips, the last. There alone they are recorded, and nothing else.
 const KEYS: usize = 6;
+const SLIPS: usize = 7;
+
+/// Is a part of the run the one in which this call is recorded?
+fn is_part_of(name: &str, part: usize) -> bool {
+    match part {
+        KEYS => is_key(name),
+        SLIPS => is_slip(name),
+        _ => !is_key(name) && !is_slip(name),
+    }
+}
 
 thread_local! {
     static RECORDER: RefCell<Option<Recorder>> = const { RefCell::new(None) };
@@ -149,7 +170,7 @@ fn data_of(name: &str) -> &'static Data {
 impl Recorder {
     /// A sample of all that come by in the parts that are for them, each as likely as the others, but for those whose line is too long.
     fn note(&mut self, name: &'static str, number: u32, at_a_limit: bool, line: impl FnOnce() -> String) {
-        if is_key(name) != (self.part == KEYS) {
+        if !is_part_of(name, self.part) {
             return;
         }
         let share = data_of(name).share.of(number, at_a_limit);
@@ -243,8 +264,19 @@ pub fn key(name: &'static str, lent: LentKey, due: &Expected) {
     note(name, due.answer.number, lent.is_at_a_limit(), || lent.line(due));
 }
 
-/// The data files that are written by hand, or by tools/key_cases.
-const CASES: [&str; 3] = ["movement_cases.txt", "edit_cases.txt", "key_cases.txt"];
+/// A slip, what it is lent, and what it answers and leaves.
+pub fn slip(lent: LentSlip, due: &slip_case::Expected) {
+    if !lent.fits() {
+        return;
+    }
+    note(slip_case::NAME, due.answer.number, lent.is_at_a_limit(), || lent.line(short(slip_case::NAME), due));
+}
+
+/// The data files that are written by hand, or by tools/key_cases and tools/slip_cases.
+const CASES: [&str; 4] = ["movement_cases.txt", "edit_cases.txt", "key_cases.txt", "slip_cases.txt"];
+
+/// What the program prints of the longest slips, which no data file has.
+const LONGEST_SLIPS: &str = "longest slips: 2 agree\n";
 
 /// What the program prints of a file where all of it agrees: its name, and how many lines of each call it has.
 fn printed(file: &str, text: &str) -> String {
@@ -275,6 +307,9 @@ pub fn write(program: &Path, n: u64, seed: u64) -> io::Result<()> {
             let mut file = commented(&format!("Written by `differential/record {n} {seed}`; {}.", env!("VERSIONS")));
             file += &commented(data.form);
             file += &commented(HEAD);
+            if data.form != SLIP {
+                file += &commented(ANSWERS);
+            }
             for (name, gives) in calls().filter(|(name, _)| (data.has)(name)) {
                 for &number in gives {
                     let lines: Vec<String> =
@@ -292,6 +327,7 @@ pub fn write(program: &Path, n: u64, seed: u64) -> io::Result<()> {
         for file in CASES {
             stdout += &printed(file, &fs::read_to_string(program.join("data").join(file))?);
         }
+        stdout += LONGEST_SLIPS;
         files.push((program.join("stdout"), stdout));
         files.iter().try_for_each(|(path, text)| fs::write(path, text))
     })

@@ -32,11 +32,24 @@ behind the other, and LENS their lengths; '=' where no byte of the whole buffer 
 of order 1, as are the two calls that a key stands for.
 ";
 
+/// Of a slip.
+pub const SLIP: &str = "\
+A line is a slip with all that it is lent, '>', and all that it answers and leaves:
+    NAME TEXT PAGE > PAGE NUMBER VALUE
+TEXT is the lent text, PAGE the whole lent page. Behind '>' PAGE is the whole page too, the slip at its front and what
+stands behind it; '=' where no byte of it may change. The Rust has no such call: number, value and page are the
+harness's reading of order 2, with the Rust's clusters and columns.
+";
+
 /// Of every file.
 pub const HEAD: &str = "\
 Texts are in hexadecimal, '-' where there is none; '*' and a decimal number behind it say how often the byte before it
 stands there in all, and a comma begins the next bytes: 0a61*3,62 is 0a61616162. Numbers are decimal. Where more than 8
 bytes stand behind the used part of a buffer, each of them is written as 9f: no answer depends on them.
+";
+
+/// Of every file but that of slips.
+pub const ANSWERS: &str = "\
 0 and 1 with places, text, cursor, lists and slots are the Rust's answers. From 2 on the Rust has none: number and
 what is left are the harness's reading of document 01, and so are cancel, redo's cursor and, where undo, redo or
 cancel is stopped by 9 or 12, the number. A line move that measures U+0009 or \\r is the Rust's on a text that has a

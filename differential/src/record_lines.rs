@@ -7,7 +7,7 @@ use crate::ring_checks::{LENGTH, Loan, MAX_SLOTS, SLOT};
 use crate::{checks, log_checks};
 
 /// The largest buffer that a program has: calls with larger ones are not recorded.
-const LARGEST: usize = 65_536;
+pub const LARGEST: usize = 65_536;
 
 /// What a call is lent, but for a ring.
 #[derive(Default)]
@@ -78,7 +78,7 @@ const BEHIND: u8 = 0x9F;
 /// So many of them are written as they are.
 const KEPT_BEHIND: usize = 8;
 
-fn with_plain_behind(buffer: &[u8], used: usize) -> Vec<u8> {
+pub fn with_plain_behind(buffer: &[u8], used: usize) -> Vec<u8> {
     let mut bytes = buffer.to_vec();
     let behind = bytes.get_mut(used..).unwrap_or_default();
     if behind.len() > KEPT_BEHIND {

@@ -1,8 +1,8 @@
 //! How often each call, and each kind of key, gave each number, and whether each was seen with every number that it can give.
 
-use crate::{edit_calls, key_calls, line_calls, log_calls, ring_calls, undo_calls};
+use crate::{edit_calls, key_calls, line_calls, log_calls, ring_calls, slip_case, undo_calls};
 
-const NUMBERS: usize = 14;
+const NUMBERS: usize = 15;
 
 /// The first rows of the tables in `calls`.
 pub const LOGS: usize = line_calls::ENTRIES.len();
@@ -10,6 +10,7 @@ pub const EDITS: usize = LOGS + log_calls::ENTRIES.len();
 pub const UNDOS: usize = EDITS + edit_calls::ENTRIES.len();
 pub const RINGS: usize = UNDOS + undo_calls::ENTRIES.len();
 pub const KEYS: usize = RINGS + ring_calls::ENTRIES.len();
+pub const SLIPS: usize = KEYS + key_calls::KINDS.len();
 
 /// All calls and kinds of keys in the order of their tables, each with the numbers that it can give.
 pub fn calls() -> impl Iterator<Item = (&'static str, &'static [u32])> {
@@ -19,7 +20,8 @@ pub fn calls() -> impl Iterator<Item = (&'static str, &'static [u32])> {
     let undos = undo_calls::ENTRIES.iter().map(|entry| (entry.name, entry.gives));
     let rings = ring_calls::ENTRIES.iter().map(|entry| (entry.name, entry.gives));
     let keys = key_calls::KINDS.iter().map(|kind| (kind.name, kind.gives));
-    lines.chain(logs).chain(edits).chain(undos).chain(rings).chain(keys)
+    let slips = [(slip_case::NAME, slip_case::GIVES)];
+    lines.chain(logs).chain(edits).chain(undos).chain(rings).chain(keys).chain(slips)
 }
 
 pub struct Row {

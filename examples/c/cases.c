@@ -1,7 +1,7 @@
 /*
- * Document 01's cases, P1 to P13 and the others, some of order 1's keys, and the numbers' words, through the static
- * library. A row has the case, the text and the cursor, the call, and what it must answer. Prints the rows that fail,
- * and how many there are.
+ * Document 01's cases, P1 to P13 and the others, some of order 1's keys and of order 2's slips, and the numbers' words,
+ * through the static library. A row has the case, the text and the cursor, the call, and what it must answer. Prints the
+ * rows that fail, and how many there are.
  */
 #include "edit_line.h"
 
@@ -205,10 +205,52 @@ static void keys(struct edit_line *e)
     KEY("ESC U+00B5", "ab", 2, "\x1B\xC2\xB5", 4, "ab", 2, "q", TLF_LAST_KILL);
 }
 
+/* Number, value and page of a slip, whose lines are given without their padding, of ASCII. No other byte changes. */
+static bool lays(const char *text, size_t n, size_t page_len, uint32_t number, const char *const *lines, size_t count)
+{
+    static uint8_t page[512], due[512];
+    memset(page, 0x9F, sizeof page);
+    memset(due, 0x9F, sizeof due);
+    for (size_t i = 0; i < count; i++) {
+        memset(due + 61 * i, ' ', 60);
+        memcpy(due + 61 * i, lines[i], strlen(lines[i]));
+        due[61 * i + 60] = '\n';
+    }
+    tlf_value_answer a = tlf_text_slip((const uint8_t *)text, n, page, page_len);
+    bool same = a.number == number && a.value == 61 * count && memcmp(page, due, sizeof page) == 0;
+    return wanted(same, a.number, a.value, 0, 0);
+}
+
+#define LINES(...) ((const char *const[]){__VA_ARGS__}), sizeof (const char *const[]){__VA_ARGS__} / sizeof (char *)
+#define NO_LINES NULL, 0
+#define SLIP(name, s, page_len, number, ...) row(name, lays(s, sizeof (s) - 1, page_len, number, __VA_ARGS__))
+#define X58 "xxxxxxxxxxxxxxxxxxxxxxxxxxxxxxxxxxxxxxxxxxxxxxxxxxxxxxxxxx"
+
+static void slips(void)
+{
+    static char long_text[TLF_TEXT_MAX + 2];
+    memset(long_text, 'a', TLF_TEXT_MAX + 1);
+    SLIP("an empty text", "", 0, 0, NO_LINES);
+    SLIP("a page as long as the slip", "deeds", 61, 0, LINES("deeds"));
+    SLIP("a page one byte short", "deeds", 60, 14, NO_LINES);
+    SLIP("a \\n at the end", "deeds\r\n", 512, 0, LINES("deeds"));
+    SLIP("a blank line", "a\n\nb", 512, 0, LINES("a", "", "b"));
+    SLIP("white space behind the last \\n", "a\n ", 512, 0, LINES("a", ""));
+    SLIP("white space between words", "a\t b\xC2\xA0" "c\rd", 512, 0, LINES("a b c d"));
+    SLIP("58 columns and a word", X58 " a", 512, 0, LINES(X58 " a"));
+    SLIP("59 columns and a word", X58 "x a", 512, 0, LINES(X58 "x", "a"));
+    SLIP("a word of 60 columns", X58 "xx a", 512, 0, LINES(X58 "xx", "a"));
+    SLIP("a word over 60 columns", "a " X58 "xxx b", 512, 0, LINES("a", X58 "xx", "x b"));
+    SLIP("a mark behind a space", "e \xCC\x81" "f", 512, 0, LINES("e f"));
+    SLIP("U+00B5 before a page that is full", "a\xC2\xB5", 0, 4, NO_LINES);
+    SLIP("4,097 bytes", long_text, 512, 2, NO_LINES);
+}
+
 static void words(void)
 {
     static const char *const all[] = {"done", "nothing", "sizes", "code", "foreign", "place", "split", "prompt",
-                                      "damaged", "full", "log full", "ring full", "misfit", "unbound", "unknown"};
+                                      "damaged", "full", "log full", "ring full", "misfit", "unbound",
+                                      "page full", "unknown"};
     for (uint32_t number = 0; number < sizeof all / sizeof all[0]; number++) {
         row(all[number], strcmp(tlf_number_word(number), all[number]) == 0);
     }
@@ -224,7 +266,8 @@ int main(void)
     groups(&whole);
     ring(&whole);
     keys(&whole);
+    slips();
     words();
-    printf("document 01's and order 1's cases: %u rows, %u failed\n", rows, failed);
+    printf("document 01's, order 1's and order 2's cases: %u rows, %u failed\n", rows, failed);
     return failed != 0;
 }

@@ -13,7 +13,7 @@
 #endif
 
 static struct state {
-    uint8_t text[32], records[32], texts[32], slots[2 * TLF_TEXT_MAX], lens[4], buf[3], key[2];
+    uint8_t text[32], records[32], texts[32], slots[2 * TLF_TEXT_MAX], lens[4], buf[3], key[2], page[64];
     tlf_line line;
     tlf_log log;
     tlf_ring ring;
@@ -105,6 +105,11 @@ static struct flat of_key(tlf_key_answer a)
     size_t ring[] = {a.ring.size, a.ring.count, a.ring.index, a.ring.action, a.ring.yanked};
     memcpy(f.of + 10, ring, sizeof ring);
     return f;
+}
+
+static struct flat of_value(tlf_value_answer a)
+{
+    return flat(a.number, a.value, 0, NULL, NULL);
 }
 
 static void row(const char *name, int filled, const struct flat *with, const struct flat *without)
@@ -207,12 +212,18 @@ static void ring_and_keys(void)
     }
 }
 
+static void texts_without_a_cursor(void)
+{
+    TRY(2, of_value, tlf_text_slip, LENT(0, buf), LENT(1, page))
+}
+
 int main(void)
 {
     edits();
     motions();
     log_and_undo();
     ring_and_keys();
+    texts_without_a_cursor();
     printf("buffers of length 0: %u rows, %u of them not refused, %u failed\n", rows, not_refused, failed);
     return failed != 0 || not_refused == 0;
 }

@@ -1,4 +1,4 @@
-//! What a call says: document 01's numbers as results, and 13 of order 1.
+//! What a call says: document 01's numbers as results, and those of document 02's orders, 13 and 14.
 use crate::causes::{Foreign, Handed, Place, Size};
 use std::error::Error;
 use std::fmt;
@@ -41,7 +41,8 @@ impl fmt::Display for Outcome {
 /// `Misfit`: the records handled before the one in the way stay handled.
 ///
 /// `Code` and `Damaged` do not come from an `EditLine`, whose codes are enums and whose log and ring are its own. Where
-/// a number has two causes at once, the first of its cases is told.
+/// a number has two causes at once, the first of its cases is told. `PageFull` does not come from
+/// [`slip`](crate::slip()), whose page is long enough for every slip of its text.
 #[derive(Clone, Copy, Debug, PartialEq, Eq, Hash)]
 #[non_exhaustive]
 pub enum Refusal {
@@ -69,6 +70,8 @@ pub enum Refusal {
     Misfit,
     /// Number 13, of a key alone: bytes that are no key.
     Unbound,
+    /// Number 14, of a slip alone: it is longer than its page.
+    PageFull,
     /// A number that this crate does not know, as a later library may answer it.
     Unknown(u32),
 }
@@ -90,6 +93,7 @@ impl Refusal {
             Refusal::RingFull => 11,
             Refusal::Misfit => 12,
             Refusal::Unbound => 13,
+            Refusal::PageFull => 14,
             Refusal::Unknown(number) => number,
         }
     }
@@ -110,6 +114,7 @@ impl Refusal {
             Refusal::RingFull => "ring full",
             Refusal::Misfit => "misfit",
             Refusal::Unbound => "unbound",
+            Refusal::PageFull => "page full",
             Refusal::Unknown(_) => "unknown",
         }
     }
@@ -133,6 +138,7 @@ impl fmt::Display for Refusal {
             Refusal::RingFull => "a slot of the ring would pass 4,096 bytes",
             Refusal::Misfit => "a record of the log does not fit the text",
             Refusal::Unbound => "the bytes are no key",
+            Refusal::PageFull => "the slip is longer than its page",
         })
     }
 }
@@ -163,6 +169,7 @@ impl Handed<'_> {
             11 => Some(Refusal::RingFull),
             12 => Some(Refusal::Misfit),
             13 => Some(Refusal::Unbound),
+            14 => Some(Refusal::PageFull),
             _ => None,
         }
     }
@@ -199,16 +206,16 @@ mod tests {
             places: &[Place::Beyond { place: 1, len: 0 }],
             ..Handed::default()
         };
-        let refused: Vec<_> = (2..=13).filter_map(|number| handed.refusal(number)).collect();
-        assert_eq!(refused.iter().map(|refusal| refusal.number()).collect::<Vec<_>>(), (2..=13).collect::<Vec<_>>());
+        let refused: Vec<_> = (2..=14).filter_map(|number| handed.refusal(number)).collect();
+        assert_eq!(refused.iter().map(|refusal| refusal.number()).collect::<Vec<_>>(), (2..=14).collect::<Vec<_>>());
         let mut words: Vec<_> = refused.iter().map(|refusal| refusal.word()).collect();
         words.dedup();
-        assert_eq!((words.len(), words.contains(&"unknown")), (12, false));
-        for number in [14, 100, u32::MAX] {
+        assert_eq!((words.len(), words.contains(&"unknown")), (13, false));
+        for number in [15, 100, u32::MAX] {
             assert_eq!(handed.outcome(number), Err(Refusal::Unknown(number)));
             assert_eq!((Refusal::Unknown(number).number(), Refusal::Unknown(number).word()), (number, "unknown"));
         }
-        assert_eq!(Refusal::Unknown(14).to_string(), "the library answers 14, for which there are no words here");
+        assert_eq!(Refusal::Unknown(15).to_string(), "the library answers 15, for which there are no words here");
         assert_eq!([0, 1].map(outcome), [Ok(Outcome::Done), Ok(Outcome::Nothing)]);
     }
 

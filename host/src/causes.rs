@@ -35,6 +35,11 @@ pub enum Size {
         /// The slots that were asked for.
         len: usize,
     },
+    /// A text for a slip over [`TEXT_MAX`].
+    Slip {
+        /// The text's bytes.
+        len: usize,
+    },
 }
 
 /// Number 4's cause: what is foreign, and at which byte of the text or key that was handed over. Of two texts the first
@@ -117,6 +122,7 @@ impl Size {
             Size::Records { len } => (len, RECORDS_MAX),
             Size::Texts { len } => (len, TEXTS_MAX),
             Size::Slots { len } => (len, SLOTS_MAX),
+            Size::Slip { len } => (len, TEXT_MAX),
         }
     }
 
@@ -148,6 +154,7 @@ impl fmt::Display for Size {
                 write!(f, "the buffer for the records' texts has at most {most} bytes, not {}", Grouped(len))
             }
             Size::Slots { .. } => write!(f, "a ring has at most {most} slots, not {}", Grouped(len)),
+            Size::Slip { .. } => write!(f, "a text for a slip has at most {most} bytes, not {}", Grouped(len)),
         }
     }
 }

@@ -123,6 +123,16 @@ pub struct KeyAnswer {
     pub ring: Ring,
 }
 
+/// The answer of a call that is lent a text without a cursor.
+#[repr(C)]
+#[derive(Clone, Copy, Debug, PartialEq, Eq)]
+pub struct ValueAnswer {
+    /// What it says.
+    pub number: u32,
+    /// What it answers.
+    pub value: usize,
+}
+
 /// E: a text and a log are lent, then come the call's own.
 macro_rules! edits {
     ($($(#[$doc:meta])* $name:ident($($own:ident: $of:ty),*);)*) => {
@@ -312,4 +322,11 @@ unsafe extern "C" {
         slots: *mut u8, slots_len: usize, lens: *mut u8, lens_len: usize, line: Line, log: Log, ring: Ring,
         key: *const u8, key_len: usize,
     ) -> KeyAnswer;
+}
+
+// A text without a cursor is lent and not written.
+#[rustfmt::skip]
+unsafe extern "C" {
+    /// Lays the text out on a page as a slip, and answers the slip's length.
+    pub fn tlf_text_slip(text: *const u8, text_len: usize, page: *mut u8, page_len: usize) -> ValueAnswer;
 }

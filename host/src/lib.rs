@@ -15,6 +15,7 @@ pub mod ffi;
 mod keys;
 mod repertoire;
 mod ring;
+mod slips;
 
 pub use answers::{Outcome, Refusal};
 pub use causes::{Foreign, Place, Size};
@@ -25,6 +26,7 @@ pub use edit_line::{EditLine, Pressed, Room, RECORDS_MAX, SLOTS_MAX, TEXTS_MAX, 
 pub use keys::{key_count, Input, Keys};
 pub use repertoire::foreign;
 pub use ring::KillRing;
+pub use slips::slip;
 
 /// The Rust of the repository's README runs as a test.
 #[cfg(doctest)]

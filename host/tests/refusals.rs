@@ -10,7 +10,7 @@ use tulofewa::{
 };
 
 /// A refusal by each number, and what it says.
-const ALL: [(Refusal, &str, &str); 21] = [
+const ALL: [(Refusal, &str, &str); 23] = [
     (Refusal::Sizes(Size::Text { len: 4_097 }), "sizes", "a text's buffer has at most 4,096 bytes, not 4,097"),
     (
         Refusal::Sizes(Size::Given { len: 4_097, room: 4_096 }),
@@ -29,6 +29,7 @@ const ALL: [(Refusal, &str, &str); 21] = [
         "the buffer for the records' texts has at most 65,535 bytes, not 65,536",
     ),
     (Refusal::Sizes(Size::Slots { len: 17 }), "sizes", "a ring has at most 16 slots, not 17"),
+    (Refusal::Sizes(Size::Slip { len: 4_097 }), "sizes", "a text for a slip has at most 4,096 bytes, not 4,097"),
     (Refusal::Code, "code", "a code names nothing"),
     (
         Refusal::Foreign(Foreign::Char { ch: '\u{4E2D}', at: 0 }),
@@ -56,13 +57,14 @@ const ALL: [(Refusal, &str, &str); 21] = [
     (Refusal::RingFull, "ring full", "a slot of the ring would pass 4,096 bytes"),
     (Refusal::Misfit, "misfit", "a record of the log does not fit the text"),
     (Refusal::Unbound, "unbound", "the bytes are no key"),
+    (Refusal::PageFull, "page full", "the slip is longer than its page"),
 ];
 
 #[test]
 fn each_has_its_number_a_word_and_a_sentence() {
     let mut numbers: Vec<_> = ALL.iter().map(|(refusal, ..)| refusal.number()).collect();
     numbers.dedup();
-    assert_eq!(numbers, (2..=13).collect::<Vec<_>>());
+    assert_eq!(numbers, (2..=14).collect::<Vec<_>>());
     for (refusal, word, sentence) in ALL {
         assert_eq!((refusal.word(), refusal.to_string().as_str()), (word, sentence));
     }

@@ -1,6 +1,6 @@
 //! The questions: nothing changes.
 use super::{call, Command};
-use crate::answers::{found, places, yes};
+use crate::answers::{found, places, slip, yes};
 use crate::params::{COLUMN, MOVEMENT, N, TEXT};
 use tulofewa::{foreign, width};
 
@@ -11,6 +11,7 @@ pub const COMMANDS: &[Command] = &[
     }),
     call("is_cursor_at_end", &[], "does the cursor stand at the text's end?", |l, _| yes(l.is_cursor_at_end())),
     call("is_end_of_input", &[], "does only white space follow the cursor?", |l, _| yes(l.is_end_of_input())),
+    call("slip", &[], "the text as a slip: lines of 60 columns, shown between bars", |l, _| slip(l.slip())),
     call("foreign", &[TEXT], "the first character of a text that is outside the repertoire", |_, a| {
         found(Ok(foreign(&a.text)), |what| what.to_string())
     }),

@@ -85,13 +85,13 @@ fn every_entry_of_the_library_is_reached() {
         let command = match (kind, name) {
             ("log", "new") => "start".to_owned(),
             ("log", "insert" | "insert_str" | "delete" | "replace") => format!("log_{name}"),
-            ("line" | "log", _) => name.to_owned(),
+            ("line" | "log" | "text", _) => name.to_owned(),
             _ => format!("ring_{name}"),
         };
         assert!(find(&command).is_some(), "{entry}");
         entries += 1;
     }
-    assert_eq!(entries, 54);
+    assert_eq!(entries, 55);
 }
 
 /// The cases of an enum of codes.rs.

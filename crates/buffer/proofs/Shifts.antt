@@ -1,12 +1,14 @@
--- Bytes shifted: a turn of the loop that moves them up, one of the loop that closes a gap, and an insertion as a write into the tail. Assumes nothing.
+-- Bytes shifted: a turn of the loop that moves them up, one of the loop that closes a gap, and an insertion and a copy as writes into the tail.
+-- Assumes nothing.
 use mathlib.Core.Path.{_≡_, sym, ap, _∙_}
-use mathlib.Core.List.{List, [], _∷_, _++_, append-assoc}
+use mathlib.Core.List.{List, [], _∷_, _++_, append-assoc, append-nil}
 use Prim.Native.Nat.{ℕ, suc, _+_, _-_, _<_, _≤_}
 use native.Mathlib.Omega.{arith}
 use native.Mathlib.Numerals.{add-one}
-use lib.ListN.{length, getD, set, take, drop, length-take, length-drop, length-append, take-append-drop, replicate, length-replicate, replicate-append-replicate, List·getD-append}
+use lib.ListN.{length, getD, set, take, drop, length-take, length-drop}
+use lib.ListN.{length-append, take-append-drop, replicate, length-replicate, replicate-append-replicate, drop-of-length-le, List·getD-append}
 use lib.Seq.{slice, slice-cons, slice-empty, take-suc, append-snoc, set-at, getD-take, getD-drop, length-take-le, take-all, paste, paste-suc}
-use lib.Seq.{take-at, drop-at, take-take, take-paste, length-paste-head, getD-append-add, sets}
+use lib.Seq.{take-at, drop-at, take-take, drop-drop, take-paste, length-paste-head, getD-append-add, sets, sets-eq}
 use Rattle.lists.proofs.Parts.{drop-take}
 use Rattle.lists.proofs.Stores.{sets-append}
 use Rattle.buffer.specs.Edit.{shifted, inserted, cut, written}
@@ -126,3 +128,17 @@ unfolding cut
 cut-none s used from to e =
     let z : used - (to - from) ≡ used = omega arith in
     rw (z, e) (sym (take-append-drop to (take used s)))
+
+-- the whole list after bytes were written over the front of its part from at on
+pub copy-law : (l x y : List ℕ) (at : ℕ) → at + length x ≤ length l → y ≡ x ++ drop (length x) (take (length l - at) (drop at l))
+    → take at l ++ (y ++ drop (length l - at) (drop at l)) ≡ sets l at x
+copy-law l x y at h e =
+    let K : ℕ = length l - at in
+    let D : List ℕ = drop at l in
+    let len : length D ≡ K = length-drop at l in
+    let none : drop K D ≡ [] = drop-of-length-le D {i = K} (omega arith) in
+    let front : y ≡ x ++ drop (at + length x) l =
+    e ∙ ap (λ (q : List ℕ). x ++ drop (length x) q) (take-all K D (omega arith)) ∙ ap (λ (q : List ℕ). x ++ q) (drop-drop (length x) at l) in
+    ap (λ (q : List ℕ). take at l ++ (y ++ q)) none
+    ∙ ap (λ (q : List ℕ). take at l ++ q) (append-nil y ∙ front)
+    ∙ sym (sets-eq x l at h ∙ append-assoc (take at l) x (drop (at + length x) l))

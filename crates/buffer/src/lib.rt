@@ -108,3 +108,11 @@ pub fn fill(s: &mut [u8], at: usize, count: usize, b: u8)
         j += 1;
     }
 }
+
+// The bytes of src from a place on.
+pub fn copy_at(s: &mut [u8], at: usize, src: &[u8])
+    requires { ⌜ at + length (now src) ≤ length (now s) ⌝ }
+    ensures { λ _. ⌜ now (s .exit) ≡ sets (now (s .entry)) at (now (src .entry)) ⌝ }
+{
+    write_front(&mut s[at..], src);
+}

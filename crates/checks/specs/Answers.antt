@@ -1,10 +1,11 @@
 -- What a call that is lent a text to read comes to, with the line as its state, and its answer: a number of document 01, places, and the line
 -- afterwards.
-use Prim.Native.Nat.{ℕ}
+use Prim.Native.Nat.{ℕ, zero, suc}
 use Rattle.motion.specs.declared.Found.{Found}
 use Rattle.motion.specs.declared.Found.the-variants.{At, Nothing}
 use Rattle.checks.specs.declared.Line.{Line}
 use Rattle.checks.specs.declared.LineAnswer.{LineAnswer}
+use Rattle.checks.specs.declared.ValueAnswer.{ValueAnswer}
 use Rattle.checks.specs.Outcome.{Outcome, refused, answered}
 
 -- a number alone: the line is as it was
@@ -28,3 +29,8 @@ movedTo line Nothing = answered 1 0 0 line
 abbrev pub placeOf : Line → Found → Outcome Line
 placeOf line (At p) = answered 0 p 0 line
 placeOf line Nothing = answered 1 0 0 line
+
+-- the answer of a call that answers one number v: v where no check refuses, 0 beside the number of one that does
+abbrev pub valueAnswer : ℕ → ℕ → ValueAnswer
+valueAnswer zero v = record { number = 0; value = v }
+valueAnswer (suc k) v = record { number = suc k; value = 0 }

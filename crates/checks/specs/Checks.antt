@@ -192,3 +192,7 @@ lineTests R F buffer line =
 -- a call's own tests: of its codes, of a character, of a place
 abbrev pub ownTests : Bool → Bool → Bool → Tests
 ownTests code foreign place = withCode code (withForeign foreign (withPlace place noTests))
+
+-- a text that is lent without a cursor, all of its buffer: more bytes than a text may have; not a text
+abbrev pub textTests : Repertoire → Format → List ℕ → Tests
+textTests R F text = withSizes (ltb (F .text) (length text)) (withForeign (not (isText R text)) noTests)

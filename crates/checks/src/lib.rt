@@ -3,7 +3,7 @@ ghost use mathlib.Core.Path.{_≡_};
 ghost use lib.ListN.{length};
 ghost use Rattle.formats.specs.Formats.{formatFor};
 ghost use Rattle.unicode.specs.Repertoire.{catalogue};
-ghost use Rattle.checks.specs.Checks.{refusal as Checks·refusal, lower as Checks·lower, both, lineTests, ownTests};
+ghost use Rattle.checks.specs.Checks.{refusal as Checks·refusal, lower as Checks·lower, both, lineTests, ownTests, textTests};
 ghost use Rattle.checks.specs.Answers.{says as Answers·says, lineAnswer, movedTo, placeOf};
 use formats::Format;
 use formats::format_for;
@@ -24,6 +24,13 @@ pub struct LineAnswer {
     pub from: usize,
     pub to: usize,
     pub line: Line,
+}
+
+// The answer of a call that answers one number beside its own; 0 in `value` where it refuses.
+#[repr(C)]
+pub struct ValueAnswer {
+    pub number: u32,
+    pub value: usize,
 }
 
 // The number of the first check that a lent text, its cursor and the call's own tests meet, 0 where they pass. `code` says
@@ -63,6 +70,17 @@ pub fn refusal(text: &[u8], line: Line, code: bool, foreign: bool, place: bool) 
     ensures { λ r. ⌜ r ≡ Checks·refusal (both (lineTests catalogue (formatFor (length (now (text .entry)))) (now (text .entry)) line) (ownTests code foreign place)) ⌝ }
 {
     refusal_in(format_for(text.len()), text, line, code, foreign, place)
+}
+
+// The number of the first check that a text lent without a cursor meets, 0 where they pass.
+pub fn text_refusal(text: &[u8]) -> u32
+    ensures { λ r. ⌜ r ≡ Checks·refusal (textTests catalogue (formatFor (length (now (text .entry)))) (now (text .entry))) ⌝ }
+{
+    let f = format_for(text.len());
+    if f.text < text.len() {
+        return 2;
+    }
+    if check_text(text) { 0 } else { 4 }
 }
 
 // The lower of two numbers, where 0 is none.

@@ -42,9 +42,9 @@ use Rattle.slip_model.specs.Slip.{
   emptyLine,
   put,
   Filled,
-  fresh,
-  blank,
-  upTo,
+  Fresh,
+  Blank,
+  UpTo,
   with,
   spaced,
   closing,
@@ -108,9 +108,9 @@ begunCost (l ∷ ls) = rowCost (l .row) + linesCost ls
 
 -- for lines that go on from how far a line is filled
 abbrev costFrom : Filled → List Line → ℕ
-costFrom fresh ls = linesCost ls
-costFrom blank ls = begunCost ls
-costFrom (upTo c) ls = begunCost ls
+costFrom Fresh ls = linesCost ls
+costFrom Blank ls = begunCost ls
+costFrom (UpTo c) ls = begunCost ls
 
 -- for items
 abbrev itemsCost : List Item → ℕ
@@ -159,18 +159,18 @@ lines-length R (l ∷ ls) = omega (arith, length-append (printed R l) (concat (m
 -- ---- how the count grows
 -- by a piece at the front of the first line
 put-cost : (f : Filled) (p : Word) (ls : List Line) → costFrom f (put p ls) ≡ 61 + bytes (concat p) + begunCost ls
-put-cost fresh p [] = omega arith
-put-cost fresh p (l ∷ ls) = omega arith
-put-cost blank p [] = omega arith
-put-cost blank p (l ∷ ls) = omega arith
-put-cost (upTo c) p [] = omega arith
-put-cost (upTo c) p (l ∷ ls) = omega arith
+put-cost Fresh p [] = omega arith
+put-cost Fresh p (l ∷ ls) = omega arith
+put-cost Blank p [] = omega arith
+put-cost Blank p (l ∷ ls) = omega arith
+put-cost (UpTo c) p [] = omega arith
+put-cost (UpTo c) p (l ∷ ls) = omega arith
 
 -- by nothing at the text's end
 closing-cost : (f : Filled) → costFrom f (closing f) ≤ 0
-closing-cost fresh = omega arith
-closing-cost blank = omega arith
-closing-cost (upTo c) = omega arith
+closing-cost Fresh = omega arith
+closing-cost Blank = omega arith
+closing-cost (UpTo c) = omega arith
 
 -- a line has at most 61 over its pieces
 line-most : (r : Row) → lineCost r ≤ 61 + rowCost r
@@ -184,15 +184,15 @@ begun-most (l ∷ ls) = omega (arith, line-most (l .row))
 
 -- by white space, which may begin a line
 spaced-cost : (f : Filled) (ls : List Line) → costFrom f ls ≤ 61 + costFrom (spaced f) ls
-spaced-cost fresh ls = begun-most ls
-spaced-cost blank ls = omega arith
-spaced-cost (upTo c) ls = omega arith
+spaced-cost Fresh ls = begun-most ls
+spaced-cost Blank ls = omega arith
+spaced-cost (UpTo c) ls = omega arith
 
 -- by \n, which ends one
 newline-cost : (f : Filled) (ls : List Line) → costFrom f (emptyLine atNewline ∷ ls) ≤ 61 + linesCost ls
-newline-cost fresh ls = omega arith
-newline-cost blank ls = omega arith
-newline-cost (upTo c) ls = omega arith
+newline-cost Fresh ls = omega arith
+newline-cost Blank ls = omega arith
+newline-cost (UpTo c) ls = omega arith
 
 -- by a cluster on the first piece
 onto-cost : (k : List ℕ) (ps : List Word) (m : ℕ) → rowCost ps ≤ 61 + m → rowCost (onto k ps) ≤ 61 + bytes k + m
@@ -307,23 +307,23 @@ module _ (R : Repertoire) where
   -- ---- pieces laid into lines
   -- on a line without anything the first piece fits
   abbrev Placed : Filled → List Word → Type 0
-  Placed fresh ps = columns R (headOr [] ps) ≤ 60
-  Placed blank ps = Unit {0}
-  Placed (upTo c) ps = Unit {0}
+  Placed Fresh ps = columns R (headOr [] ps) ≤ 60
+  Placed Blank ps = Unit {0}
+  Placed (UpTo c) ps = Unit {0}
 
   -- so do the pieces of a word
   placed-word : (f : Filled) (w : Word) → Placed f (pieces R 0 w)
-  placed-word fresh w = omega (arith, first-piece 0 w (omega arith))
-  placed-word blank w = tt
-  placed-word (upTo c) w = tt
+  placed-word Fresh w = omega (arith, first-piece 0 w (omega arith))
+  placed-word Blank w = tt
+  placed-word (UpTo c) w = tt
 
   -- a piece in the line begun, or in the next
   step-cost : (f : Filled) (p : Word) (ps : List Word) (e : Ends) (ls ms : List Line) (m : ℕ) (b : Bool) → leb (with f (columns R p)) 60 ≡ b →
       Placed f (p ∷ ps) → begunCost ls ≤ m → begunCost ms ≤ m → costFrom f (cond b (put p ls) (emptyLine e ∷ put p ms)) ≤ 61 + bytes (concat p) + m
   step-cost f p ps e ls ms m true t s h k = omega (arith, put-cost f p ls)
-  step-cost fresh p ps e ls ms m false t s h k = absurd (omega (arith, leb-false (columns R p) 60 t))
-  step-cost blank p ps e ls ms m false t s h k = omega (arith, put-cost fresh p ms)
-  step-cost (upTo c) p ps e ls ms m false t s h k = omega (arith, put-cost fresh p ms)
+  step-cost Fresh p ps e ls ms m false t s h k = absurd (omega (arith, leb-false (columns R p) 60 t))
+  step-cost Blank p ps e ls ms m false t s h k = omega (arith, put-cost Fresh p ms)
+  step-cost (UpTo c) p ps e ls ms m false t s h k = omega (arith, put-cost Fresh p ms)
 
   -- some pieces
   laid-cost : (go : Filled → List Line) (n : ℕ) → ((g : Filled) → costFrom g (go g) ≤ n) → (f : Filled) (ps : List Word) → Placed f ps →
@@ -332,12 +332,12 @@ module _ (R : Repertoire) where
   laid-cost go n h f [] s = omega (arith, h f)
   laid-cost go n h f (p ∷ ps) s =
       let w = with f (columns R p) in
-      let ls = laid R (upTo w) ps go in
-      let ms = laid R (upTo (columns R p)) ps go in
+      let ls = laid R (UpTo w) ps go in
+      let ms = laid R (UpTo (columns R p)) ps go in
       omega (
         arith,
-        step-cost f p ps (before (concat (p ∷ ps))) ls ms (rowCost ps + n) (leb w 60) refl s (laid-cost go n h (upTo w) ps tt)
-            (laid-cost go n h (upTo (columns R p)) ps tt),
+        step-cost f p ps (before (concat (p ∷ ps))) ls ms (rowCost ps + n) (leb w 60) refl s (laid-cost go n h (UpTo w) ps tt)
+            (laid-cost go n h (UpTo (columns R p)) ps tt),
       )
 
   -- ---- the count of a word's pieces
@@ -395,7 +395,7 @@ module _ (R : Repertoire) where
           laid-cost (λ (g : Filled). linesFrom R g is) (itemsCost is) (λ (g : Filled). lines-cost g is (h .1)) f (pieces R 0 w) (placed-word f w),
         )
     lines-cost f (gap ∷ is) h = omega (arith, spaced-cost f (linesFrom R (spaced f) is), lines-cost (spaced f) is h)
-    lines-cost f (newline ∷ is) h = omega (arith, newline-cost f (linesFrom R fresh is), lines-cost fresh is h)
+    lines-cost f (newline ∷ is) h = omega (arith, newline-cost f (linesFrom R Fresh is), lines-cost Fresh is h)
 
 -- a slip has at most 62 bytes for each byte of its text
 pub slip-bound : (R : Repertoire) → Lawful R → (s : List ℕ) → length (slip R s) ≤ 62 * length s
@@ -405,8 +405,8 @@ slip-bound R law s =
     let full = clusters-full R (chars s) in
     omega (
       arith,
-      lines-length R (linesFrom R fresh (textItems R s)),
-      lines-cost R law fresh (textItems R s) (items-some R ks full),
+      lines-length R (linesFrom R Fresh (textItems R s)),
+      lines-cost R law Fresh (textItems R s) (items-some R ks full),
       items-cost R ks full,
       ap bytes (clusters-concat R (chars s)),
       chars-bytes s,

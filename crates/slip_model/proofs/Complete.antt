@@ -8,7 +8,7 @@ use Rattle.lists.specs.Lists.{concat}
 use Rattle.lists.proofs.Concat.{concat-append}
 use Rattle.unicode.specs.Repertoire.{Repertoire}
 use Rattle.slip_model.specs.Slip.{Word, Row, Item, word, gap, newline, columns, onto, pieces}
-use Rattle.slip_model.specs.Slip.{before, Line, emptyLine, put, Filled, fresh, blank, upTo, with, spaced, closing, laid, linesFrom}
+use Rattle.slip_model.specs.Slip.{before, Line, emptyLine, put, Filled, Fresh, Blank, UpTo, with, spaced, closing, laid, linesFrom}
 use Rattle.slip_model.specs.Promised.{readBack, cutItems, wordsIn}
 
 -- ---- a word is its pieces
@@ -49,14 +49,14 @@ unfolding laid
 laid-read R is go h f [] = h f
 laid-read R is go h f (p ∷ ps) =
     let n = columns R p in
-    put-read (leb (with f n) 60) p (concat (p ∷ ps)) (map word ps ++ is) (laid R (upTo (with f n)) ps go) (laid R (upTo n) ps go)
-    (laid-read R is go h (upTo (with f n)) ps) (laid-read R is go h (upTo n) ps)
+    put-read (leb (with f n) 60) p (concat (p ∷ ps)) (map word ps ++ is) (laid R (UpTo (with f n)) ps go) (laid R (UpTo n) ps go)
+    (laid-read R is go h (UpTo (with f n)) ps) (laid-read R is go h (UpTo n) ps)
 
 -- at the text's end nothing is read
 closing-read : (f : Filled) → readBack (closing f) ≡ []
-closing-read fresh = refl
-closing-read blank = refl
-closing-read (upTo c) = refl
+closing-read Fresh = refl
+closing-read Blank = refl
+closing-read (UpTo c) = refl
 
 -- every \n ends a line, in its place, and nothing else is read there
 pub read-back : (R : Repertoire) (f : Filled) (is : List Item) → readBack (linesFrom R f is) ≡ cutItems R is
@@ -64,7 +64,7 @@ unfolding linesFrom
 read-back R f [] = closing-read f
 read-back R f (word w ∷ is) = laid-read R (cutItems R is) (λ g. linesFrom R g is) (λ g. read-back R g is) f (pieces R 0 w)
 read-back R f (gap ∷ is) = read-back R (spaced f) is
-read-back R f (newline ∷ is) = ap (λ (l : List Item). newline ∷ l) (read-back R fresh is)
+read-back R f (newline ∷ is) = ap (λ (l : List Item). newline ∷ l) (read-back R Fresh is)
 
 -- ---- the rows have the words' pieces
 abbrev pub rowsOf : List Line → List Row
@@ -88,14 +88,14 @@ unfolding laid
 laid-whole R qs go h f [] = h f
 laid-whole R qs go h f (p ∷ ps) =
     let n = columns R p in
-    put-whole (leb (with f n) 60) p (concat (p ∷ ps)) (ps ++ qs) (laid R (upTo (with f n)) ps go) (laid R (upTo n) ps go)
-    (laid-whole R qs go h (upTo (with f n)) ps) (laid-whole R qs go h (upTo n) ps)
+    put-whole (leb (with f n) 60) p (concat (p ∷ ps)) (ps ++ qs) (laid R (UpTo (with f n)) ps go) (laid R (UpTo n) ps go)
+    (laid-whole R qs go h (UpTo (with f n)) ps) (laid-whole R qs go h (UpTo n) ps)
 
 -- the line that the text's end closes has no more pieces
 closing-whole : (f : Filled) → concat (rowsOf (closing f)) ≡ []
-closing-whole fresh = refl
-closing-whole blank = refl
-closing-whole (upTo c) = refl
+closing-whole Fresh = refl
+closing-whole Blank = refl
+closing-whole (UpTo c) = refl
 
 -- the pieces of all rows, one behind the other, are those of the words
 pub rows-whole : (R : Repertoire) (f : Filled) (is : List Item)
@@ -104,7 +104,7 @@ unfolding linesFrom
 rows-whole R f [] = closing-whole f
 rows-whole R f (word w ∷ is) = laid-whole R (concat (map (pieces R 0) (wordsIn is))) (λ g. linesFrom R g is) (λ g. rows-whole R g is) f (pieces R 0 w)
 rows-whole R f (gap ∷ is) = rows-whole R (spaced f) is
-rows-whole R f (newline ∷ is) = rows-whole R fresh is
+rows-whole R f (newline ∷ is) = rows-whole R Fresh is
 
 -- and so the words' clusters are complete
 pub words-whole : (R : Repertoire) (is : List Item) → concat (concat (map (pieces R 0) (wordsIn is))) ≡ concat (wordsIn is)

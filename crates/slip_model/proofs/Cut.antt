@@ -131,6 +131,11 @@ module _ (R : Repertoire) where
   Narrow [] = Unit {0}
   Narrow (k ∷ ks) = (Clear R k → columns R (k ∷ []) ≤ 1) × (Follows k ks × Narrow ks)
 
+  -- each of them by itself
+  narrow-each : (ks : List (List ℕ)) → Narrow ks → Every (λ (k : List ℕ). Clear R k → columns R (k ∷ []) ≤ 1) ks
+  narrow-each [] h = tt
+  narrow-each (k ∷ ks) h = (h .0, narrow-each ks (h .1 .1))
+
   -- clusters that begin with the character c
   record Begun (c : ℕ) (ks : List (List ℕ)) : Type 0 where
     pub others : List ℕ
@@ -210,6 +215,10 @@ module _ (R : Repertoire) where
     unfolding clusters
     clusters-narrow [] = tt
     clusters-narrow (c ∷ cs) = begun-narrow c (clusters R (c ∷ cs)) (clusters-begun c cs)
+
+    -- the clear ones have one column at most
+    pub clusters-one : (cs : List ℕ) → Every (λ (k : List ℕ). Clear R k → columns R (k ∷ []) ≤ 1) (clusters R cs)
+    clusters-one cs = narrow-each (clusters R cs) (clusters-narrow cs)
 
   -- ---- the words of such clusters
   -- items that a clear cluster may stand in front of

@@ -11,7 +11,7 @@ use Rattle.lists.proofs.Every.{Every, every-weaken}
 use Rattle.unicode.specs.Repertoire.{Repertoire, Lawful}
 use Rattle.layout.specs.Width.{columnAfter}
 use Rattle.slip_model.specs.Slip.{Word, Row, Item, word, gap, newline, columns, pieces, Ends, atNewline, atTextEnd, before, Line, emptyLine, put}
-use Rattle.slip_model.specs.Slip.{Filled, fresh, blank, upTo, with, spaced, closing, laid, linesFrom, rowColumns}
+use Rattle.slip_model.specs.Slip.{Filled, Fresh, Blank, UpTo, with, spaced, closing, laid, linesFrom, rowColumns}
 use Rattle.slip_model.specs.Promised.{Rightly, EndsLast, CutAt60, wordsIn}
 use Rattle.slip_model.proofs.Columns.{columns-append, word-columns, row-one}
 use Rattle.slip_model.proofs.Lines.{Kept, every-line}
@@ -27,9 +27,9 @@ module _ (R : Repertoire) where
 
   -- w does not fit a line that is filled so far; there must be words on it
   abbrev Refuses : Filled → Word → Type 0
-  Refuses fresh w = ⊥
-  Refuses blank w = ⊥
-  Refuses (upTo c) w = 60 < c + 1 + columns R w
+  Refuses Fresh w = ⊥
+  Refuses Blank w = ⊥
+  Refuses (UpTo c) w = 60 < c + 1 + columns R w
 
   -- a row that goes on from where a line is filled to, and ends rightly
   abbrev RightlyFrom : Filled → Row → Ends → Type 0
@@ -39,7 +39,7 @@ module _ (R : Repertoire) where
   RightlyFrom f (p ∷ r) (before w) = 60 < with f (rowColumns R (p ∷ r)) + 1 + columns R w
 
   -- one that begins a line
-  rightly-row : (r : Row) (e : Ends) → RightlyFrom fresh r e → Rightly R r e
+  rightly-row : (r : Row) (e : Ends) → RightlyFrom Fresh r e → Rightly R r e
   rightly-row r atNewline h = tt
   rightly-row r atTextEnd h = tt
   rightly-row [] (before w) h = h
@@ -47,15 +47,15 @@ module _ (R : Repertoire) where
 
   -- white space makes no word fit
   refuses-spaced : (f : Filled) (w : Word) → Refuses (spaced f) w → Refuses f w
-  refuses-spaced fresh w h = h
-  refuses-spaced blank w h = h
-  refuses-spaced (upTo c) w h = h
+  refuses-spaced Fresh w h = h
+  refuses-spaced Blank w h = h
+  refuses-spaced (UpTo c) w h = h
 
   -- white space moves no column
   with-spaced : (f : Filled) (n : ℕ) → with (spaced f) n ≡ with f n
-  with-spaced fresh n = refl
-  with-spaced blank n = refl
-  with-spaced (upTo c) n = refl
+  with-spaced Fresh n = refl
+  with-spaced Blank n = refl
+  with-spaced (UpTo c) n = refl
 
   -- behind white space
   rightly-spaced : (f : Filled) (r : Row) (e : Ends) → RightlyFrom (spaced f) r e → RightlyFrom f r e
@@ -66,13 +66,13 @@ module _ (R : Repertoire) where
 
   -- a piece that fits no further, in front of what is left of its word
   refuses : (f : Filled) (p : Word) (ps : List Word) → columns R p ≤ 60 → 60 < with f (columns R p) → Refuses f (concat (p ∷ ps))
-  refuses fresh p ps m h = absurd (let x : ⊥ = omega arith in x)
-  refuses blank p ps m h = absurd (let x : ⊥ = omega arith in x)
-  refuses (upTo c) p ps m h = omega (arith, h, columns-front p (concat ps))
+  refuses Fresh p ps m h = absurd (let x : ⊥ = omega arith in x)
+  refuses Blank p ps m h = absurd (let x : ⊥ = omega arith in x)
+  refuses (UpTo c) p ps m h = omega (arith, h, columns-front p (concat ps))
 
   module _ (law : Lawful R) where
     -- a piece that fits, and a row behind it
-    rightly-more : (f : Filled) (p : Word) (r : Row) (e : Ends) → RightlyFrom (upTo (with f (columns R p))) r e → RightlyFrom f (p ∷ r) e
+    rightly-more : (f : Filled) (p : Word) (r : Row) (e : Ends) → RightlyFrom (UpTo (with f (columns R p))) r e → RightlyFrom f (p ∷ r) e
     rightly-more f p r atNewline h = tt
     rightly-more f p r atTextEnd h = tt
     rightly-more f p [] (before w) h = omega (arith, h, ap (with f) (row-one R law p))
@@ -91,10 +91,10 @@ module _ (R : Repertoire) where
 
     -- a line ends only at a \n, at the text's end or before a word that does not fit
     pub ends-rightly : (is : List Item) → Every (λ (w : Word). CutAt60 R (pieces R 0 w)) (wordsIn is)
-        → Every (λ (l : Line). Rightly R (l .row) (l .ends)) (linesFrom R fresh is)
+        → Every (λ (l : Line). Rightly R (l .row) (l .ends)) (linesFrom R Fresh is)
     ends-rightly is c =
-        every-weaken (λ (l : Line). RightlyFrom fresh (l .row) (l .ends)) (λ (l : Line). Rightly R (l .row) (l .ends))
-        (λ l h. rightly-row (l .row) (l .ends) h) (linesFrom R fresh is)
+        every-weaken (λ (l : Line). RightlyFrom Fresh (l .row) (l .ends)) (λ (l : Line). Rightly R (l .row) (l .ends))
+        (λ l h. rightly-row (l .row) (l .ends) h) (linesFrom R Fresh is)
         (every-line R (λ (f : Filled) (l : Line). RightlyFrom f (l .row) (l .ends)) rightly-kept is c)
 
 -- ---- the text's end ends the last line alone
@@ -130,14 +130,14 @@ unfolding laid
 ends-laid R go h f [] = h f
 ends-laid R go h f (p ∷ ps) =
     let n = columns R p in
-    ends-piece (leb (with f n) 60) p (concat (p ∷ ps)) (laid R (upTo (with f n)) ps go) (laid R (upTo n) ps go) (ends-laid R go h (upTo (with f n)) ps)
-    (ends-laid R go h (upTo n) ps)
+    ends-piece (leb (with f n) 60) p (concat (p ∷ ps)) (laid R (UpTo (with f n)) ps go) (laid R (UpTo n) ps go) (ends-laid R go h (UpTo (with f n)) ps)
+    (ends-laid R go h (UpTo n) ps)
 
 -- at the text's end there is one line at most
 ends-closing : (f : Filled) → EndsLast (closing f)
-ends-closing fresh = tt
-ends-closing blank = tt
-ends-closing (upTo c) = tt
+ends-closing Fresh = tt
+ends-closing Blank = tt
+ends-closing (UpTo c) = tt
 
 -- the text's end ends no line but the last
 pub ends-last : (R : Repertoire) (f : Filled) (is : List Item) → EndsLast (linesFrom R f is)
@@ -145,4 +145,4 @@ unfolding linesFrom
 ends-last R f [] = ends-closing f
 ends-last R f (word w ∷ is) = ends-laid R (λ g. linesFrom R g is) (λ g. ends-last R g is) f (pieces R 0 w)
 ends-last R f (gap ∷ is) = ends-last R (spaced f) is
-ends-last R f (newline ∷ is) = ends-before (emptyLine atNewline) (linesFrom R fresh is) (other-end atNewline tt) (ends-last R fresh is)
+ends-last R f (newline ∷ is) = ends-before (emptyLine atNewline) (linesFrom R Fresh is) (other-end atNewline tt) (ends-last R Fresh is)

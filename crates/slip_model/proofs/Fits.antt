@@ -6,7 +6,7 @@ use native.Mathlib.Omega.{arith}
 use Rattle.lists.proofs.Every.{Every, every-weaken}
 use Rattle.unicode.specs.Repertoire.{Repertoire, Lawful}
 use Rattle.layout.specs.Width.{columnAfter}
-use Rattle.slip_model.specs.Slip.{Word, Row, Item, columns, pieces, Line, Filled, fresh, blank, upTo, with, spaced, linesFrom, rowColumns}
+use Rattle.slip_model.specs.Slip.{Word, Row, Item, columns, pieces, Line, Filled, Fresh, Blank, UpTo, with, spaced, linesFrom, rowColumns}
 use Rattle.slip_model.specs.Promised.{CutAt60, wordsIn}
 use Rattle.slip_model.proofs.Columns.{row-one, row-more}
 use Rattle.slip_model.proofs.Lines.{Kept, every-line}
@@ -18,36 +18,36 @@ module _ (R : Repertoire) where
   Within60 f (p ∷ r) = with f (rowColumns R (p ∷ r)) ≤ 60
 
   -- a row without a piece has no column
-  row-none : rowColumns R [] ≡ 0
+  pub row-none : rowColumns R [] ≡ 0
   unfolding columnAfter
   row-none = omega arith
 
   -- a row that begins a line
-  within-row : (r : Row) → Within60 fresh r → rowColumns R r ≤ 60
+  within-row : (r : Row) → Within60 Fresh r → rowColumns R r ≤ 60
   within-row [] h = omega (arith, row-none)
   within-row (p ∷ r) h = h
 
   -- white space moves no column
   within-spaced : (f : Filled) (r : Row) → Within60 (spaced f) r → Within60 f r
-  within-spaced fresh [] h = tt
-  within-spaced fresh (p ∷ r) h = h
-  within-spaced blank [] h = tt
-  within-spaced blank (p ∷ r) h = h
-  within-spaced (upTo c) r h = h
+  within-spaced Fresh [] h = tt
+  within-spaced Fresh (p ∷ r) h = h
+  within-spaced Blank [] h = tt
+  within-spaced Blank (p ∷ r) h = h
+  within-spaced (UpTo c) r h = h
 
 -- columns behind a piece are counted from where the line stood before it
-pub with-more : (f : Filled) (n m : ℕ) → with f (n + 1 + m) ≡ with (upTo (with f n)) m
-with-more fresh n m = omega arith
-with-more blank n m = omega arith
-with-more (upTo c) n m = omega arith
+pub with-more : (f : Filled) (n m : ℕ) → with f (n + 1 + m) ≡ with (UpTo (with f n)) m
+with-more Fresh n m = omega arith
+with-more Blank n m = omega arith
+with-more (UpTo c) n m = omega arith
 
 module _ (R : Repertoire) (law : Lawful R) where
   -- a row's columns behind its first piece
-  pub with-row : (f : Filled) (p q : Word) (r : Row) → with f (rowColumns R (p ∷ (q ∷ r))) ≡ with (upTo (with f (columns R p))) (rowColumns R (q ∷ r))
+  pub with-row : (f : Filled) (p q : Word) (r : Row) → with f (rowColumns R (p ∷ (q ∷ r))) ≡ with (UpTo (with f (columns R p))) (rowColumns R (q ∷ r))
   with-row f p q r = ap (with f) (row-more R law p q r) ∙ with-more f (columns R p) (rowColumns R (q ∷ r))
 
   -- a piece that fits, and a row behind it
-  within-more : (f : Filled) (p : Word) (r : Row) → with f (columns R p) ≤ 60 → Within60 R (upTo (with f (columns R p))) r → Within60 R f (p ∷ r)
+  within-more : (f : Filled) (p : Word) (r : Row) → with f (columns R p) ≤ 60 → Within60 R (UpTo (with f (columns R p))) r → Within60 R f (p ∷ r)
   within-more f p [] h a = omega (arith, h, ap (with f) (row-one R law p))
   within-more f p (q ∷ r) h a = omega (arith, a, with-row f p q r)
 
@@ -64,7 +64,7 @@ module _ (R : Repertoire) (law : Lawful R) where
 
   -- no line passes 60 columns
   pub lines-fit : (is : List Item) → Every (λ (w : Word). CutAt60 R (pieces R 0 w)) (wordsIn is)
-      → Every (λ (l : Line). rowColumns R (l .row) ≤ 60) (linesFrom R fresh is)
+      → Every (λ (l : Line). rowColumns R (l .row) ≤ 60) (linesFrom R Fresh is)
   lines-fit is c =
-      every-weaken (λ (l : Line). Within60 R fresh (l .row)) (λ (l : Line). rowColumns R (l .row) ≤ 60) (λ l h. within-row R (l .row) h) (linesFrom R fresh is)
+      every-weaken (λ (l : Line). Within60 R Fresh (l .row)) (λ (l : Line). rowColumns R (l .row) ≤ 60) (λ l h. within-row R (l .row) h) (linesFrom R Fresh is)
       (every-line R (λ (f : Filled) (l : Line). Within60 R f (l .row)) within-kept is c)

@@ -11,7 +11,7 @@ use Rattle.lists.specs.Lists.{concat}
 use Rattle.lists.proofs.Every.{Every}
 use Rattle.unicode.specs.Repertoire.{Repertoire}
 use Rattle.slip_model.specs.Slip.{Word, Item, word, gap, newline, columns, pieces, atNewline, atTextEnd, before, Line, emptyLine, put}
-use Rattle.slip_model.specs.Slip.{Filled, fresh, blank, upTo, with, spaced, closing, laid, linesFrom}
+use Rattle.slip_model.specs.Slip.{Filled, Fresh, Blank, UpTo, with, spaced, closing, laid, linesFrom}
 use Rattle.slip_model.specs.Promised.{CutAt60, wordsIn}
 
 -- no piece of a word that is cut at 60 passes 60 columns
@@ -29,7 +29,7 @@ module _ (R : Repertoire) (P : Filled → Line → Type 0) where
     -- of a line that a piece, which does not fit, ends there
     pub stops : (f : Filled) (p : Word) (ps : List Word) → columns R p ≤ 60 → 60 < with f (columns R p) → P f (emptyLine (before (concat (p ∷ ps))))
     -- of a line that a piece, which fits, goes on
-    pub goesOn : (f : Filled) (p : Word) (l : Line) → with f (columns R p) ≤ 60 → P (upTo (with f (columns R p))) l
+    pub goesOn : (f : Filled) (p : Word) (l : Line) → with f (columns R p) ≤ 60 → P (UpTo (with f (columns R p))) l
         → P f (record { row = p ∷ l .row; ends = l .ends })
     -- and of one that white space does
     pub parts : (f : Filled) (l : Line) → P (spaced f) l → P f l
@@ -37,26 +37,26 @@ module _ (R : Repertoire) (P : Filled → Line → Type 0) where
   -- the first line goes on from there, each other begins
   abbrev pub Along : Filled → List Line → Type 0
   Along f [] = Unit {0}
-  Along f (l ∷ ls) = P f l × Every (P fresh) ls
+  Along f (l ∷ ls) = P f l × Every (P Fresh) ls
 
   -- where the first begins too, it holds of every line
-  pub along-every : (ls : List Line) → Along fresh ls → Every (P fresh) ls
+  pub along-every : (ls : List Line) → Along Fresh ls → Every (P Fresh) ls
   along-every [] a = tt
   along-every (l ∷ ls) a = a
 
   module _ (k : Kept) where
     -- a piece that fits is put at the front of the first line
-    along-put : (f : Filled) (p : Word) (ls : List Line) → with f (columns R p) ≤ 60 → Along (upTo (with f (columns R p))) ls → Along f (put p ls)
-    along-put f p [] h a = (k .goesOn f p (emptyLine atTextEnd) h (k .closes (upTo (with f (columns R p)))), tt)
+    along-put : (f : Filled) (p : Word) (ls : List Line) → with f (columns R p) ≤ 60 → Along (UpTo (with f (columns R p))) ls → Along f (put p ls)
+    along-put f p [] h a = (k .goesOn f p (emptyLine atTextEnd) h (k .closes (UpTo (with f (columns R p)))), tt)
     along-put f p (l ∷ ls) h a = (k .goesOn f p l h (a .0), a .1)
 
     -- a piece goes on the line, or ends it and begins the next
     along-piece : (f : Filled) (p : Word) (ps : List Word) (b : Bool) (ls ms : List Line) → leb (with f (columns R p)) 60 ≡ b → columns R p ≤ 60
-        → Along (upTo (with f (columns R p))) ls → Along (upTo (columns R p)) ms
+        → Along (UpTo (with f (columns R p))) ls → Along (UpTo (columns R p)) ms
         → Along f (cond b (put p ls) (emptyLine (before (concat (p ∷ ps))) ∷ put p ms))
     along-piece f p ps true ls ms e h a c = along-put f p ls (leb-true (with f (columns R p)) 60 e) a
     along-piece f p ps false ls ms e h a c =
-        (k .stops f p ps h (leb-false (with f (columns R p)) 60 e), along-every (put p ms) (along-put fresh p ms h c))
+        (k .stops f p ps h (leb-false (with f (columns R p)) 60 e), along-every (put p ms) (along-put Fresh p ms h c))
 
     -- pieces laid, and what comes behind them
     along-laid : (go : Filled → List Line) → ((g : Filled) → Along g (go g)) → (f : Filled) (ps : List Word) → Every (λ (p : Word). columns R p ≤ 60) ps
@@ -65,14 +65,14 @@ module _ (R : Repertoire) (P : Filled → Line → Type 0) where
     along-laid go h f [] m = h f
     along-laid go h f (p ∷ ps) m =
         let n = columns R p in
-        along-piece f p ps (leb (with f n) 60) (laid R (upTo (with f n)) ps go) (laid R (upTo n) ps go) refl (m .0)
-        (along-laid go h (upTo (with f n)) ps (m .1)) (along-laid go h (upTo n) ps (m .1))
+        along-piece f p ps (leb (with f n) 60) (laid R (UpTo (with f n)) ps go) (laid R (UpTo n) ps go) refl (m .0)
+        (along-laid go h (UpTo (with f n)) ps (m .1)) (along-laid go h (UpTo n) ps (m .1))
 
     -- the text's end
     along-closing : (f : Filled) → Along f (closing f)
-    along-closing fresh = tt
-    along-closing blank = (k .closes blank, tt)
-    along-closing (upTo c) = (k .closes (upTo c), tt)
+    along-closing Fresh = tt
+    along-closing Blank = (k .closes Blank, tt)
+    along-closing (UpTo c) = (k .closes (UpTo c), tt)
 
     -- white space
     along-spaced : (f : Filled) (ls : List Line) → Along (spaced f) ls → Along f ls
@@ -86,8 +86,8 @@ module _ (R : Repertoire) (P : Filled → Line → Type 0) where
     along-lines f (word w ∷ is) c =
         along-laid (λ g. linesFrom R g is) (λ g. along-lines g is (c .1)) f (pieces R 0 w) (cut-most R (pieces R 0 w) (c .0))
     along-lines f (gap ∷ is) c = along-spaced f (linesFrom R (spaced f) is) (along-lines (spaced f) is c)
-    along-lines f (newline ∷ is) c = (k .breaks f, along-every (linesFrom R fresh is) (along-lines fresh is c))
+    along-lines f (newline ∷ is) c = (k .breaks f, along-every (linesFrom R Fresh is) (along-lines Fresh is c))
 
     -- what is kept holds of every line, as it does of one that begins
-    pub every-line : (is : List Item) → Every (λ (w : Word). CutAt60 R (pieces R 0 w)) (wordsIn is) → Every (P fresh) (linesFrom R fresh is)
-    every-line is c = along-every (linesFrom R fresh is) (along-lines fresh is c)
+    pub every-line : (is : List Item) → Every (λ (w : Word). CutAt60 R (pieces R 0 w)) (wordsIn is) → Every (P Fresh) (linesFrom R Fresh is)
+    every-line is c = along-every (linesFrom R Fresh is) (along-lines Fresh is c)

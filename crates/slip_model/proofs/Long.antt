@@ -14,7 +14,7 @@ use Rattle.unicode.specs.Repertoire.{catalogue, isControl, isMark, isWhite, wid
 use Rattle.cluster.specs.Clusters.{joined, clusters, clustersOf}
 use Rattle.layout.specs.Width.{advance, columnAfter, columnsAfter}
 use Rattle.slip_model.specs.Slip.{Word, Item, word, gap, newline, grown, itemsOf, onto, pieces, atNewline, atTextEnd, before, Line, put}
-use Rattle.slip_model.specs.Slip.{fresh, upTo, laid, linesFrom, linesOf}
+use Rattle.slip_model.specs.Slip.{Fresh, UpTo, laid, linesFrom, linesOf}
 use Rattle.slip_model.proofs.Examples.{lines, line, each, a, b}
 
 -- the cluster x
@@ -58,16 +58,16 @@ pieces-xs (suc n) col w p ps h e =
 
 -- the lines of a text that begins with a word, from its clusters, its items and the word's pieces
 text-lines : (s : List ℕ) (ks : List (List ℕ)) (w : Word) (is : List Item) (ps : List Word) → clustersOf catalogue s ≡ ks → itemsOf catalogue ks ≡ word w ∷ is
-    → pieces catalogue 0 w ≡ ps → lines s ≡ laid catalogue fresh ps (λ g. linesFrom catalogue g is)
+    → pieces catalogue 0 w ≡ ps → lines s ≡ laid catalogue Fresh ps (λ g. linesFrom catalogue g is)
 unfolding linesOf linesFrom
 text-lines s ks w is ps c i e =
-    ap (λ (l : List (List ℕ)). linesFrom catalogue fresh (itemsOf catalogue l)) c ∙ ap (linesFrom catalogue fresh) i
-    ∙ ap (λ (l : List Word). laid catalogue fresh l (λ g. linesFrom catalogue g is)) e
+    ap (λ (l : List (List ℕ)). linesFrom catalogue Fresh (itemsOf catalogue l)) c ∙ ap (linesFrom catalogue Fresh) i
+    ∙ ap (λ (l : List Word). laid catalogue Fresh l (λ g. linesFrom catalogue g is)) e
 
 -- of one that begins with n times x: t is behind them, ks are t's clusters, and w is the rest of the word
 lines-xs : (n : ℕ) (t : List ℕ) (ks : List (List ℕ)) (w : Word) (is : List Item) (p : Word) (ps : List Word) (out : List Line) → n ≤ 60
     → clustersOf catalogue (replicate n 0x78 ++ t) ≡ xs n ++ ks → itemsOf catalogue ks ≡ word w ∷ is → pieces catalogue n w ≡ p ∷ ps
-    → laid catalogue fresh ((xs n ++ p) ∷ ps) (λ g. linesFrom catalogue g is) ≡ out → lines (replicate n 0x78 ++ t) ≡ out
+    → laid catalogue Fresh ((xs n ++ p) ∷ ps) (λ g. linesFrom catalogue g is) ≡ out → lines (replicate n 0x78 ++ t) ≡ out
 lines-xs n t ks w is p ps out h c i e o =
     text-lines (replicate n 0x78 ++ t) (xs n ++ ks) (xs n ++ w) is ((xs n ++ p) ∷ ps) c (items-xs n ks w is i)
     (pieces-xs n 0 w p ps (omega arith) (ap (λ (k : ℕ). pieces catalogue k w) (let q : 0 + n ≡ n = omega arith in q) ∙ e)) ∙ o
@@ -178,8 +178,8 @@ clusters-x = (refl, refl, refl, refl)
 
 -- "a " fills one column of the line that what follows goes on
 a-laid : (w : Word) (is : List Item)
-    → laid catalogue fresh (a ∷ []) (λ g. linesFrom catalogue g (gap ∷ word w ∷ is))
-    ≡ put a (laid catalogue (upTo 1) (pieces catalogue 0 w) (λ g. linesFrom catalogue g is))
+    → laid catalogue Fresh (a ∷ []) (λ g. linesFrom catalogue g (gap ∷ word w ∷ is))
+    ≡ put a (laid catalogue (UpTo 1) (pieces catalogue 0 w) (λ g. linesFrom catalogue g is))
 unfolding laid linesFrom within isMark widthOf advance columnAfter columnsAfter
 a-laid w is = refl
 
@@ -199,12 +199,12 @@ pub record Longer : Type 0 where
 
 -- how their pieces lie
 laid-x :
-    (laid catalogue fresh ((mark ∷ xs 60) ∷ []) (λ g. linesFrom catalogue g []) ≡ line ((mark ∷ xs 60) ∷ []) atTextEnd ∷ []) ×
-    (laid catalogue fresh ((mark ∷ xs 60) ∷ xs 1 ∷ []) (λ g. linesFrom catalogue g [])
+    (laid catalogue Fresh ((mark ∷ xs 60) ∷ []) (λ g. linesFrom catalogue g []) ≡ line ((mark ∷ xs 60) ∷ []) atTextEnd ∷ []) ×
+    (laid catalogue Fresh ((mark ∷ xs 60) ∷ xs 1 ∷ []) (λ g. linesFrom catalogue g [])
     ≡ line ((mark ∷ xs 60) ∷ []) (before (xs 1)) ∷ line (xs 1 ∷ []) atTextEnd ∷ []) ×
-    (put a (laid catalogue (upTo 1) (xs 60 ∷ xs 1 ∷ []) (λ g. linesFrom catalogue g (gap ∷ word b ∷ [])))
+    (put a (laid catalogue (UpTo 1) (xs 60 ∷ xs 1 ∷ []) (λ g. linesFrom catalogue g (gap ∷ word b ∷ [])))
     ≡ line (a ∷ []) (before (xs 61)) ∷ line (xs 60 ∷ []) (before (xs 1)) ∷ line (xs 1 ∷ b ∷ []) atTextEnd ∷ []) ×
-    (laid catalogue fresh (xs 60 ∷ xs 60 ∷ xs 1 ∷ []) (λ g. linesFrom catalogue g (newline ∷ word b ∷ []))
+    (laid catalogue Fresh (xs 60 ∷ xs 60 ∷ xs 1 ∷ []) (λ g. linesFrom catalogue g (newline ∷ word b ∷ []))
     ≡ line (xs 60 ∷ []) (before (xs 61)) ∷ line (xs 60 ∷ []) (before (xs 1)) ∷ line (xs 1 ∷ []) atNewline ∷ line (b ∷ []) atTextEnd ∷ [])
 unfolding laid linesFrom pieces within isMark widthOf advance columnAfter columnsAfter
 laid-x = (refl, refl, refl, refl)
@@ -226,7 +226,7 @@ longer =
           (gap ∷ word (xs 61) ∷ gap ∷ word b ∷ []) (a ∷ []) (clusters-x .2)
           (a-item (xs 60 ++ spaced) ∙ ap (λ (l : List Item). word a ∷ gap ∷ l) (items-xs 60 spaced (xs 1) (gap ∷ word b ∷ []) (ends-x .1))) a-pieces
           ∙ a-laid (xs 61) (gap ∷ word b ∷ [])
-          ∙ ap (λ (l : List Word). put a (laid catalogue (upTo 1) l (λ g. linesFrom catalogue g (gap ∷ word b ∷ [])))) pieces61 ∙ laid-x .2;
+          ∙ ap (λ (l : List Word). put a (laid catalogue (UpTo 1) l (λ g. linesFrom catalogue g (gap ∷ word b ∷ [])))) pieces61 ∙ laid-x .2;
       cut121 =
           text-lines (letters 121 ++ (0x0A ∷ 0x62 ∷ [])) (xs 120 ++ ended) (xs 121) (newline ∷ word b ∷ []) (xs 60 ∷ xs 60 ∷ xs 1 ∷ []) (clusters-x .3)
           (items-xs 120 ended (xs 1) (newline ∷ word b ∷ []) (ends-x .2)) pieces121 ∙ laid-x .3;

@@ -6,7 +6,7 @@ use lib.Dec.{leb}
 use Rattle.lists.specs.Lists.{concat}
 use Rattle.unicode.specs.Repertoire.{Repertoire}
 use Rattle.slip_model.specs.Slip.{Word, Item, word, gap, newline, columns, pieces, before, Line, emptyLine, put}
-use Rattle.slip_model.specs.Slip.{Filled, fresh, blank, upTo, with, spaced, closing, laid, linesFrom}
+use Rattle.slip_model.specs.Slip.{Filled, Fresh, Blank, UpTo, with, spaced, closing, laid, linesFrom}
 use Rattle.slip_model.specs.Promised.{cutItems, Next, AllNext}
 use Rattle.slip_model.proofs.Complete.{read-put, laid-read, read-back}
 
@@ -24,9 +24,9 @@ module _ (R : Repertoire) (all : List Item) where
 
   -- at the text's end no word follows
   follow-closing : (f : Filled) → AllNext R all (closing f)
-  follow-closing fresh = tt
-  follow-closing blank = (tt, tt)
-  follow-closing (upTo c) = (tt, tt)
+  follow-closing Fresh = tt
+  follow-closing Blank = (tt, tt)
+  follow-closing (UpTo c) = (tt, tt)
 
   -- an item goes over to those before
   move : (a is : List Item) (i : Item) → all ≡ a ++ (i ∷ is) → all ≡ (a ++ (i ∷ [])) ++ is
@@ -59,9 +59,9 @@ module _ (R : Repertoire) (all : List Item) where
       let n = columns R p in
       let go : Filled → List Line = λ g. linesFrom R g js in
       let d : pieces R 0 v ≡ (qs ++ (p ∷ [])) ++ ps = c ∙ sym (append-assoc qs (p ∷ []) ps) in
-      follow-piece (leb (with f n) 60) p (concat (p ∷ ps)) (laid R (upTo (with f n)) ps go) (laid R (upTo n) ps go)
-      (follow-laid a js v e h (upTo (with f n)) (qs ++ (p ∷ [])) ps d) (follow-laid a js v e h (upTo n) (qs ++ (p ∷ [])) ps d)
-      (rest-at a js v e (upTo n) qs p ps c)
+      follow-piece (leb (with f n) 60) p (concat (p ∷ ps)) (laid R (UpTo (with f n)) ps go) (laid R (UpTo n) ps go)
+      (follow-laid a js v e h (UpTo (with f n)) (qs ++ (p ∷ [])) ps d) (follow-laid a js v e h (UpTo n) (qs ++ (p ∷ [])) ps d)
+      (rest-at a js v e (UpTo n) qs p ps c)
 
   -- the lines of a text's items from one on
   follow-lines : (f : Filled) (a is : List Item) → all ≡ a ++ is → AllNext R all (linesFrom R f is)
@@ -70,7 +70,7 @@ module _ (R : Repertoire) (all : List Item) where
   follow-lines f a (word w ∷ is) e =
       follow-laid a is w e (λ g. follow-lines g (a ++ (word w ∷ [])) is (move a is (word w) e)) f [] (pieces R 0 w) refl
   follow-lines f a (gap ∷ is) e = follow-lines (spaced f) (a ++ (gap ∷ [])) is (move a is gap e)
-  follow-lines f a (newline ∷ is) e = (tt, follow-lines fresh (a ++ (newline ∷ [])) is (move a is newline e))
+  follow-lines f a (newline ∷ is) e = (tt, follow-lines Fresh (a ++ (newline ∷ [])) is (move a is newline e))
 
 -- where a line ends before a word, the next line begins with it
 pub ends-next : (R : Repertoire) (f : Filled) (is : List Item) → AllNext R is (linesFrom R f is)

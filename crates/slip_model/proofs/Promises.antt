@@ -18,7 +18,7 @@ use Rattle.cluster.specs.Clusters.{clustersOf}
 use Rattle.cluster.proofs.Clusters.{clusters-concat}
 use native.Mathlib.Omega.{arith}
 use Rattle.slip_model.specs.Slip.{Word, Row, Item, word, gap, newline, grown, itemsOf, pieces}
-use Rattle.slip_model.specs.Slip.{Line, fresh, linesFrom, textItems, linesOf, spelled, rowColumns, slip}
+use Rattle.slip_model.specs.Slip.{Line, Fresh, linesFrom, textItems, linesOf, spelled, rowColumns, slip}
 use Rattle.slip_model.specs.Promised.{wordsIn, CutAt60, Rightly, EndsLast, AllNext, readBack, cutItems, inked, Promised}
 use Rattle.slip_model.proofs.Words.{Plain, items-by, words-plain}
 use Rattle.slip_model.proofs.Cut.{words-cut}
@@ -109,8 +109,8 @@ module _ (R : Repertoire) (law : Lawful R) (s : List ℕ) where
   bare =
       let items = textItems R s in
       let spelt = items-spelt R (clustersOf R s) (ap (all scalar) (clusters-concat R (chars s)) ∙ chars-scalar s) in
-      bare-rows (linesFrom R fresh items)
-      (subst (Every Bare) (sym (rows-whole R fresh items)) (bare-words R law (wordsIn items) (words-plain R (clustersOf R s)) spelt))
+      bare-rows (linesFrom R Fresh items)
+      (subst (Every Bare) (sym (rows-whole R Fresh items)) (bare-words R law (wordsIn items) (words-plain R (clustersOf R s)) spelt))
 
   fits : Every (λ (l : Line). rowColumns R (l .row) ≤ 60) (linesOf R s)
   unfolding linesOf
@@ -124,20 +124,20 @@ module _ (R : Repertoire) (law : Lawful R) (s : List ℕ) where
   unfolding slip linesOf
   bytes =
       let items = textItems R s in
-      inked-lines R (linesFrom R fresh items) bare ∙ ap (λ (ps : List Word). encodeAll (concat (concat ps))) (rows-whole R fresh items) ∙
+      inked-lines R (linesFrom R Fresh items) bare ∙ ap (λ (ps : List Word). encodeAll (concat (concat ps))) (rows-whole R Fresh items) ∙
       ap (λ (w : Word). encodeAll (concat w)) (words-whole R items)
 
   newlines : readBack (linesOf R s) ≡ cutItems R (textItems R s)
   unfolding linesOf
-  newlines = read-back R fresh (textItems R s)
+  newlines = read-back R Fresh (textItems R s)
 
   next : AllNext R (textItems R s) (linesOf R s)
   unfolding linesOf
-  next = ends-next R fresh (textItems R s)
+  next = ends-next R Fresh (textItems R s)
 
   last : EndsLast (linesOf R s)
   unfolding linesOf
-  last = ends-last R fresh (textItems R s)
+  last = ends-last R Fresh (textItems R s)
 
   -- every line's width, where it ends, and the words whole
   pub slip-promises : Promised R s

@@ -1,13 +1,16 @@
 -- Document 02, order 2, "A slip for the box lid": a text as lines of exactly 60 columns, each padded with spaces and closed by \n.
-use Prim.Native.Nat.{ℕ, zero, suc, _+_, _-_}
+use Prim.Native.Nat.{ℕ, _+_, _-_}
 use mathlib.Core.Bool.{cond}
 use mathlib.Core.List.{List, [], _∷_, _++_, map}
 use lib.Dec.{eqb, leb}
+use lib.ListN.{replicate}
 use Rattle.lists.specs.Lists.{any, concat}
 use Rattle.utf8.specs.Encode.{encodeAll}
 use Rattle.unicode.specs.Repertoire.{Repertoire}
 use Rattle.cluster.specs.Clusters.{clustersOf}
 use Rattle.layout.specs.Width.{columnAfter, columnsAfter}
+pub use Rattle.slip_model.specs.declared.Filled.{Filled}
+pub use Rattle.slip_model.specs.declared.Filled.the-variants.{Fresh, Blank, UpTo}
 
 -- a word, and a piece of one, is clusters; a row is the pieces that stand on a line
 abbrev pub Word : Type 0
@@ -70,51 +73,46 @@ abbrev pub put : Word → List Line → List Line
 put p [] = record { row = p ∷ []; ends = atTextEnd } ∷ []
 put p (l ∷ ls) = record { row = p ∷ l .row; ends = l .ends } ∷ ls
 
--- how far a line is filled: nothing of the text since the last \n; white space alone; words of so many columns, the spaces between them counted
-pub data Filled : Type 0 where
-  fresh blank : Filled
-  upTo : ℕ → Filled
-
--- the columns with a word of n columns more
+-- how far a line is filled, `Filled` of src/lib.rt: nothing of the text since the last \n; white space alone; words of so many columns, the spaces
+-- between them counted. The columns with a word of n columns more:
 abbrev pub with : Filled → ℕ → ℕ
-with fresh n = n
-with blank n = n
-with (upTo c) n = c + 1 + n
+with Fresh n = n
+with Blank n = n
+with (UpTo c) n = c + 1 + n
 
 abbrev pub spaced : Filled → Filled
-spaced fresh = blank
-spaced blank = blank
-spaced (upTo c) = upTo c
+spaced Fresh = Blank
+spaced Blank = Blank
+spaced (UpTo c) = UpTo c
 
 -- at the text's end: "after a \n that ends the text, or for an empty text, no line follows"
 abbrev pub closing : Filled → List Line
-closing fresh = []
-closing blank = emptyLine atTextEnd ∷ []
-closing (upTo c) = emptyLine atTextEnd ∷ []
+closing Fresh = []
+closing Blank = emptyLine atTextEnd ∷ []
+closing (UpTo c) = emptyLine atTextEnd ∷ []
 
 -- pieces of a word in the line begun, or, where the next does not fit, in lines of their own; then what go says of how far the last line is filled
 unfoldable pub laid : Repertoire → Filled → List Word → (Filled → List Line) → List Line
 laid R f [] go = go f
 laid R f (p ∷ ps) go =
     let n = columns R p in
-    cond (leb (with f n) 60) (put p (laid R (upTo (with f n)) ps go)) (emptyLine (before (concat (p ∷ ps))) ∷ put p (laid R (upTo n) ps go))
+    cond (leb (with f n) 60) (put p (laid R (UpTo (with f n)) ps go)) (emptyLine (before (concat (p ∷ ps))) ∷ put p (laid R (UpTo n) ps go))
 
 unfoldable pub linesFrom : Repertoire → Filled → List Item → List Line
 linesFrom R f [] = closing f
 linesFrom R f (word w ∷ is) = laid R f (pieces R 0 w) (λ g. linesFrom R g is)
 linesFrom R f (gap ∷ is) = linesFrom R (spaced f) is
-linesFrom R f (newline ∷ is) = emptyLine atNewline ∷ linesFrom R fresh is
+linesFrom R f (newline ∷ is) = emptyLine atNewline ∷ linesFrom R Fresh is
 
 abbrev pub textItems : Repertoire → List ℕ → List Item
 textItems R s = itemsOf R (clustersOf R s)
 
 unfoldable pub linesOf : Repertoire → List ℕ → List Line
-linesOf R s = linesFrom R fresh (textItems R s)
+linesOf R s = linesFrom R Fresh (textItems R s)
 
 -- ---- the page: "each padded with spaces and closed by \n"
 abbrev pub spaces : ℕ → List ℕ
-spaces zero = []
-spaces (suc n) = 0x20 ∷ spaces n
+spaces n = replicate n 0x20
 
 -- a row's characters, one space between words
 abbrev pub spelled : Row → List ℕ

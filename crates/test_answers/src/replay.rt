@@ -30,6 +30,9 @@ fn parts_agree(s: &[u8], end: usize, middle: usize) -> bool
     if same(name, b"line_key") {
         return test_key_line::agrees(lent, due);
     }
+    if same(name, b"text_slip") {
+        return test_slip_line::agrees(lent, due);
+    }
     test_state_line::agrees(name, lent, due)
 }
 

@@ -4,6 +4,7 @@ use crate::answers::{found, outcome, Outcome, Refusal};
 use crate::causes::{Handed, Place};
 use crate::codes::{At, CharSearch, Movement, Word};
 use crate::ffi::{self, Line, LineAnswer};
+use crate::slips;
 use std::ops::Range;
 
 impl EditLine {
@@ -43,6 +44,11 @@ impl EditLine {
     /// Does only white space follow the cursor?
     pub fn is_end_of_input(&self) -> Result<bool, Refusal> {
         Ok(outcome(look!(self, tlf_line_is_end_of_input).number)? == Outcome::Done)
+    }
+
+    /// The text as a slip, by [`slip`](crate::slip()).
+    pub fn slip(&self) -> Result<String, Refusal> {
+        slips::slip(self.text())
     }
 
     fn moved(&mut self, answer: LineAnswer) -> Result<Outcome, Refusal> {
