@@ -16,7 +16,7 @@ use Rattle.cluster.specs.Clusters.{clustersOf}
 use Rattle.slip_model.specs.declared.Filled.{Filled}
 use Rattle.slip_model.specs.declared.Filled.the-variants.{Fresh}
 use Rattle.slip_model.specs.Slip.{slip}
-use Rattle.slip_model.proofs.Bound.{slip-bound}
+use Rattle.slip_model.proofs.Bound.{catalogue-bound}
 use Rattle.slip_calls.specs.declared.Step.{Step}
 use Rattle.slip_calls.specs.Places.{closingPlace, placed}
 use Rattle.slip_calls.specs.Remaining.{remaining}
@@ -38,8 +38,8 @@ module _ (s : List ℕ) where
   abbrev left : ℕ → Filled → List ℕ
   left at f = remaining catalogue f (clustersOf catalogue (drop at s))
 
-  pub slip-most : length s ≤ 131072 → length (slip catalogue s) ≤ 8126464
-  slip-most h = omega (arith, slip-bound catalogue catalogue-lawful s)
+  pub slip-most : length s ≤ 131072 → length (slip catalogue s) ≤ 7995392
+  slip-most h = omega (arith, catalogue-bound s)
 
   start-stands : valid s ≡ true → Standing s 0 Fresh
   start-stands v = record { within = omega arith; whole = v; narrow = omega arith }
@@ -94,7 +94,7 @@ module _ (s : List ℕ) where
       same-length = ap length (z .stored) ∙ length-sets page 0 (z .front)
 
       -- no more than the slip
-      pub out-most : length s ≤ 131072 → out ≤ 8126464
+      pub out-most : length s ≤ 131072 → out ≤ 7995392
       out-most h = omega (arith, z .sized, ap length (z .parts), length-append (z .front) (left at f), slip-most h)
 
       -- bytes behind what was written

@@ -158,7 +158,7 @@ fn has_newline(s: &[u8]) -> bool
     false
 }
 
-// The step over the white space between two places.
+// What stands on the page for the white space between two places: a line's end where \n is in it, else nothing.
 fn over_white(s: &[u8], at: usize, end: usize, filled: Filled) -> Place
     requires { ⌜ (at ≤ end) × (end ≤ length (now s)) × (filledTo filled ≤ 60) ⌝ }
     ensures { λ r. ⌜ r ≡ whitePlace (any (eqb 0x0A) (part (now (s .entry)) at end)) filled ⌝ }
