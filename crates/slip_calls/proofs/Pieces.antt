@@ -16,7 +16,7 @@ use Rattle.cluster.proofs.Facts.{bytes-append}
 use Rattle.layout.specs.Width.{columnAfter, columnsAfter, width}
 use Rattle.layout.proofs.Columns.{width-columns}
 use Rattle.slip_model.specs.Slip.{Word, columns}
-use Rattle.slip_model.proofs.Columns.{piece-more}
+use Rattle.slip_model.proofs.Columns.{none-columns, piece-more}
 use Rattle.slip_calls.specs.Pieces.{pieceFrom, behindPiece, PieceAt}
 use Rattle.slip_calls.proofs.Clusters.{ClusterAt}
 
@@ -73,10 +73,6 @@ module _ (R : Repertoire) where
       full-there n x e w h =
           subst (Stops col) (sym (x .clusters)) (stops-full col k _ (sym (x .white) ∙ w) (omega (arith, h, e ∙ cluster-width s end k c x)))
 
-  no-columns : columns R [] ≡ 0
-  unfolding columnsAfter
-  no-columns = refl
-
   -- ---- the scan from at has come to a place, with so many columns
   module _ (s : List ℕ) (at : ℕ) where
     abbrev there : ℕ → List (List ℕ)
@@ -100,7 +96,7 @@ module _ (R : Repertoire) where
           let e = ap (columns R) (h .none) in
           let b = ap (λ (p : Word). bytes (concat p)) (h .none) in
           record {
-            measured = omega (arith, z .measured, e, no-columns);
+            measured = omega (arith, z .measured, e, none-columns R);
             narrow = z .narrow;
             end = omega (arith, z .sized, b);
             behind = sym (z .rest ∙ h .all);

@@ -5,7 +5,7 @@ use mathlib.Core.Bool.{true, false}
 use mathlib.Core.List.{List, [], _∷_, append-nil}
 use native.Mathlib.Omega.{arith}
 use lib.Dec.{leb}
-use lib.ListN.{length, set, length-append, length-replicate}
+use lib.ListN.{length, set, length-append}
 use lib.Seq.{sets}
 use borrow.Author.Tests.{le-leb, lt-leb}
 use Rattle.lists.proofs.Bools.{by-test}
@@ -13,6 +13,7 @@ use Rattle.lists.proofs.Stores.{sets-append}
 use Rattle.slip_model.specs.declared.Filled.{Filled}
 use Rattle.slip_model.specs.declared.Filled.the-variants.{Fresh, Blank, UpTo}
 use Rattle.slip_model.specs.Slip.{with, spaced, spaces}
+use Rattle.slip_model.proofs.Page.{spaces-length}
 use Rattle.slip_calls.specs.declared.Place.{Place}
 use Rattle.slip_calls.specs.Places.{filledTo, spaceBefore, lineEnd, placeFor, whitePlace, placed}
 
@@ -51,9 +52,6 @@ pub white-between : (f g : Filled) → g ≡ spaced f → record { spaces = 0; n
 white-between f g e = rw e refl
 
 -- the bytes of a place
-spaces-length : (n : ℕ) → length (spaces n) ≡ n
-spaces-length n = length-replicate {A = ℕ} n 0x20
-
 pub placed-length : (p : Place) → (p .newline ≡ true → length (placed p) ≡ p .spaces + 1) × (p .newline ≡ false → length (placed p) ≡ p .spaces)
 placed-length p = (
   λ e. rw e (omega (arith, length-append (spaces (p .spaces)) (0x0A ∷ []), spaces-length (p .spaces))),

@@ -6,9 +6,9 @@ use mathlib.Core.Bool.{Bool, true, false, cond}
 use mathlib.Core.List.{List, [], _∷_, _++_, map, append-assoc, append-nil}
 use native.Mathlib.Omega.{arith}
 use lib.Dec.{eqb, leb}
-use borrow.Author.Tests.{eqb-true, le-leb}
+use borrow.Author.Tests.{le-leb}
 use Rattle.lists.specs.Lists.{any, concat}
-use Rattle.lists.proofs.Bools.{or-none, never, by-test}
+use Rattle.lists.proofs.Bools.{by-test}
 use Rattle.lists.proofs.Every.{Every, every-weaken}
 use Rattle.utf8.specs.Encode.{encode, encodeAll}
 use Rattle.utf8.proofs.Encode.{encodeAll-append}
@@ -19,7 +19,7 @@ use Rattle.slip_model.specs.declared.Filled.the-variants.{Fresh, Blank, UpTo}
 use Rattle.slip_model.specs.Slip.{Word, Row, Item, word, gap, newline, grown, itemsOf, columns, onto, pieces, Ends, atNewline, before, Line, emptyLine, put}
 use Rattle.slip_model.specs.Slip.{with, spaced, laid, linesFrom, linesOf, spaces, spelled, rowColumns, padded, printed, slip}
 use Rattle.slip_model.proofs.Columns.{row-one}
-use Rattle.slip_model.proofs.Words.{Clear}
+use Rattle.slip_model.proofs.Words.{Clear, no-white}
 use Rattle.slip_model.proofs.Cut.{clusters-one}
 use Rattle.slip_model.proofs.Fits.{row-none, with-row}
 use Rattle.slip_calls.specs.declared.Place.{Place}
@@ -250,22 +250,13 @@ module _ (R : Repertoire) where
       (λ t. rw (e .0, e .1, items-gap k ks t h) (first-gap col (itemsOf R ks)))
 
   module _ (newline-white : R .white 0x0A ≡ true) where
-    -- where no white space is, no \n is
-    no-newline : (cs : List ℕ) → any (R .white) cs ≡ false → any (eqb 0x0A) cs ≡ false
-    no-newline [] e = refl
-    no-newline (c ∷ cs) e =
-        let p = or-none (R .white c) (any (R .white) cs) e in
-        by-test (any (eqb 0x0A) (c ∷ cs) ≡ false) (eqb 0x0A c)
-        (λ t. never _ (R .white c) (ap (R .white) (sym (eqb-true 0x0A c t)) ∙ newline-white) (p .0))
-        (λ t. rw t (no-newline cs (p .1)))
-
     -- at a cluster without white space
     first-cluster : (col : ℕ) (k : List ℕ) (ks : List (List ℕ)) → any (R .white) k ≡ false → columns R (k ∷ []) ≤ 1 →
         First (col + columns R (k ∷ [])) ks → First col (k ∷ ks)
     first-cluster col k ks h m behind =
         let n = columns R (k ∷ []) in
         let is = itemsOf R ks in
-        let items = items-word k ks (no-newline k h) h in
+        let items = items-word k ks (no-white R 0x0A newline-white k h) h in
         by-test (First col (k ∷ ks)) (leb (col + n) 60)
         (λ t.
         let e = piece-fit col k ks h t in
@@ -325,7 +316,7 @@ module _ (R : Repertoire) (law : Lawful R) where
     remaining-piece f k ks h m =
         let p = pieceFrom R 0 (k ∷ ks) in
         let behind = itemsOf R (behindPiece R 0 (k ∷ ks)) in
-        let items = items-word R k ks (no-newline R newline-white k h) h in
+        let items = items-word R k ks (no-white R 0x0A newline-white k h) h in
         ap (λ (is : List Item). linesBehind R f (linesFrom R f is)) items ∙
         word-placed f (k ∷ leading (itemsOf R ks)) p (following (itemsOf R ks)) behind
         (subst (λ (is : List Item). FirstPiece R 0 is p behind) items (first-piece R newline-white 0 (k ∷ ks) m))
@@ -334,4 +325,4 @@ module _ (R : Repertoire) (law : Lawful R) where
     pub clusters-columns : (cs : List ℕ) → Every (λ (l : List ℕ). any (R .white) l ≡ false → columns R (l ∷ []) ≤ 1) (clusters R cs)
     clusters-columns cs =
         every-weaken (λ (l : List ℕ). Clear R l → columns R (l ∷ []) ≤ 1) (λ (l : List ℕ). any (R .white) l ≡ false → columns R (l ∷ []) ≤ 1)
-        (λ l f h. f (record { noNewline = no-newline R newline-white l h; noWhite = h })) (clusters R cs) (clusters-one R law cs)
+        (λ l f h. f (record { noNewline = no-white R 0x0A newline-white l h; noWhite = h })) (clusters R cs) (clusters-one R law cs)

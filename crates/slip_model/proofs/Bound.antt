@@ -2,7 +2,7 @@
 -- would be a line of 62.
 -- The count: 61 for each \n and white space, and for each piece its bytes, its padding and 1. A line's padding and its \n are within the count of its first
 -- piece, of the \n that ends it or of the white space that begins it; a space between pieces is within the count of the piece behind it.
-use Prim.Native.Nat.{ℕ, zero, suc, _+_, _-_, _*_, _≤_, _<_}
+use Prim.Native.Nat.{ℕ, _+_, _-_, _*_, _≤_, _<_}
 use mathlib.Core.Path.{_≡_, refl, ap, _∙_}
 use mathlib.Core.Bool.{Bool, true, false, cond}
 use mathlib.Core.List.{List, [], _∷_, _++_, map, append-nil}
@@ -65,7 +65,8 @@ use Rattle.slip_model.specs.Slip.{
   slip,
 }
 use Rattle.slip_model.specs.Promised.{wordsIn}
-use Rattle.slip_model.proofs.Columns.{column-add, columns-append, word-columns, row-one, row-more}
+use Rattle.slip_model.proofs.Page.{spaces-length}
+use Rattle.slip_model.proofs.Columns.{column-add, word-columns, piece-more, row-one, row-more}
 
 -- ---- bytes of characters
 -- where no character stands there are none
@@ -159,22 +160,10 @@ module _ (R : Repertoire) where
   newline-cost Blank ls = omega arith
   newline-cost (UpTo c) ls = omega arith
 
-  -- a cluster's columns, and those of the clusters behind it
-  columns-cons : (k : List ℕ) (w : Word) → columns R (k ∷ w) ≡ columns R (k ∷ []) + columns R w
-  columns-cons k w =
-      omega (
-        arith,
-        word-columns R (k ∷ w),
-        word-columns R (k ∷ []),
-        word-columns R w,
-        columns-append R k (concat w),
-        ap (columnAfter R 0) (append-nil k),
-      )
-
   -- by a cluster on the first piece: its bytes
   onto-cost : (k : List ℕ) (ps : List Word) (m : ℕ) → rowCost ps ≤ 61 + m → rowCost (onto k ps) ≤ 61 + bytes k + m
   onto-cost k [] m h = omega (arith, ap bytes (append-nil k))
-  onto-cost k (p ∷ ps) m h = omega (arith, bytes-append k (concat p), columns-cons k p)
+  onto-cost k (p ∷ ps) m h = omega (arith, bytes-append k (concat p), piece-more R k p)
 
   -- a cluster that pays for a line: it has a column, or two bytes
   abbrev Pays : List ℕ → Type 0
@@ -184,7 +173,7 @@ module _ (R : Repertoire) where
   onto-paid : (k : List ℕ) (ps : List Word) (m : ℕ) → Pays k → columns R (k ∷ []) + columns R (headOr [] ps) ≤ 60 → rowCost ps ≤ 61 + m →
       rowCost (onto k ps) ≤ 61 * bytes k + m
   onto-paid k [] m s f h = omega (arith, ap bytes (append-nil k), s, f)
-  onto-paid k (p ∷ ps) m s f h = omega (arith, bytes-append k (concat p), columns-cons k p, s, f)
+  onto-paid k (p ∷ ps) m s f h = omega (arith, bytes-append k (concat p), piece-more R k p, s, f)
 
 -- for items
 abbrev itemsCost : List Item → ℕ
@@ -206,11 +195,6 @@ item-cost : (b t : Bool) (k : List ℕ) (is : List Item) → 0 < bytes k →
 item-cost true t k is h = omega arith
 item-cost false true k is h = omega arith
 item-cost false false k is h = omega (arith, grown-cost k is)
-
--- a space is a byte
-spaces-length : (n : ℕ) → length (spaces n) ≡ n
-spaces-length zero = refl
-spaces-length (suc n) = let h = spaces-length n in omega arith
 
 -- ---- words have clusters, and these have characters
 abbrev Some : Word → Type 0
@@ -274,7 +258,7 @@ module _ (R : Repertoire) where
       col + columns R (headOr [] (cond b (onto k ps) ([] ∷ onto k qs))) ≤ 60
   unfolding columnsAfter
   first-cut col k ps qs true t h more =
-      omega (arith, ap (columns R) (onto-head k ps), columns-cons R k (headOr [] ps), more (leb-true (col + columns R (k ∷ [])) 60 t))
+      omega (arith, ap (columns R) (onto-head k ps), piece-more R k (headOr [] ps), more (leb-true (col + columns R (k ∷ [])) 60 t))
   first-cut col k ps qs false t h more = omega arith
 
   -- the first piece goes on from a column to at most 60

@@ -1,6 +1,6 @@
 -- The columns of rows: those of their pieces, and one for each space between them. Over any lawful repertoire.
 use Prim.Native.Nat.{ℕ, _+_}
-use mathlib.Core.Path.{_≡_, sym, ap, _∙_}
+use mathlib.Core.Path.{_≡_, refl, sym, ap, _∙_}
 use mathlib.Core.Bool.{Bool, cond}
 use mathlib.Core.List.{List, [], _∷_, _++_}
 use native.Mathlib.Omega.{arith}
@@ -23,6 +23,11 @@ module _ (R : Repertoire) where
   -- a piece's columns are those of its characters
   pub word-columns : (p : Word) → columns R p ≡ columnAfter R 0 (concat p)
   word-columns p = columns-concat R 0 p
+
+  -- a piece without clusters has none
+  pub none-columns : columns R [] ≡ 0
+  unfolding columnsAfter
+  none-columns = refl
 
   -- a cluster more in front of a piece
   pub piece-more : (k : List ℕ) (p : Word) → columns R (k ∷ p) ≡ columns R (k ∷ []) + columns R p

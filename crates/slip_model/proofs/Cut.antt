@@ -15,7 +15,7 @@ use Rattle.cluster.specs.Clusters.{joined, attach, clusters}
 use Rattle.layout.specs.Width.{advance, columnAfter, columnsAfter}
 use Rattle.slip_model.specs.Slip.{Word, Item, word, gap, newline, grown, itemsOf, columns, onto, pieces}
 use Rattle.slip_model.specs.Promised.{CutAt60, wordsIn}
-use Rattle.slip_model.proofs.Columns.{column-add, piece-more}
+use Rattle.slip_model.proofs.Columns.{column-add, none-columns, piece-more}
 use Rattle.slip_model.proofs.Words.{Clear, items-by}
 
 -- ---- what cutting asks of a word
@@ -41,11 +41,6 @@ module _ (R : Repertoire) where
   cut-start (p ∷ []) h = omega (arith, h)
   cut-start (p ∷ (q ∷ ps)) h = (omega (arith, h .0), h .1)
 
-  -- no columns in an empty piece
-  none-columns : columns R [] ≡ 0
-  unfolding columnsAfter
-  none-columns = refl
-
   -- a cluster in front of the first piece, which then begins so many columns earlier
   onto-cut : (col from : ℕ) (k : List ℕ) (ps : List Word) → from ≡ col + columns R (k ∷ []) → from ≤ 60 → CutFrom from ps → CutFrom col (onto k ps)
   onto-cut col from k [] e m h = omega (arith, e, m)
@@ -54,8 +49,8 @@ module _ (R : Repertoire) where
 
   -- a piece that ends at 60 columns, and one that begins with a cluster
   next-cut : (col : ℕ) (k : List ℕ) (ps : List Word) → col ≡ 60 → CutAt60 R (onto k ps) → CutFrom col ([] ∷ onto k ps)
-  next-cut col k [] e h = (omega (arith, e, none-columns), h)
-  next-cut col k (p ∷ ps) e h = (omega (arith, e, none-columns), h)
+  next-cut col k [] e h = (omega (arith, e, none-columns R), h)
+  next-cut col k (p ∷ ps) e h = (omega (arith, e, none-columns R), h)
 
   -- one cluster of one column more
   step-cut : (col : ℕ) (k : List ℕ) (b : Bool) (ps qs : List Word) → leb (col + columns R (k ∷ [])) 60 ≡ b → col ≤ 60 → columns R (k ∷ []) ≡ 1 →
@@ -71,7 +66,7 @@ module _ (R : Repertoire) where
   -- a word of one column each, begun behind some columns
   ones-cut : (col : ℕ) (w : Word) → col ≤ 60 → Ones w → CutFrom col (pieces R col w)
   unfolding pieces
-  ones-cut col [] m h = omega (arith, m, none-columns)
+  ones-cut col [] m h = omega (arith, m, none-columns R)
   ones-cut col (k ∷ w) m h =
       let n = columns R (k ∷ []) in
       step-cut col k (leb (col + n) 60) (pieces R (col + n) w) (pieces R n w) refl m (h .0) (λ fits. ones-cut (col + n) w fits (h .1))
@@ -86,7 +81,7 @@ module _ (R : Repertoire) where
   -- a word whose clusters have one column each behind the first is cut at 60 columns
   pub word-cut : (w : Word) → OnesBehind w → CutAt60 R (pieces R 0 w)
   unfolding pieces
-  word-cut [] h = omega (arith, none-columns)
+  word-cut [] h = omega (arith, none-columns R)
   word-cut (k ∷ w) h =
       let n = columns R (k ∷ []) in
       cut-start (pieces R 0 (k ∷ w))

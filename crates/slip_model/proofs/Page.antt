@@ -5,6 +5,7 @@ use mathlib.Core.Bool.{Bool, true, false, cond, or-false}
 use mathlib.Core.List.{List, [], _∷_, _++_}
 use native.Mathlib.Omega.{arith}
 use lib.Dec.{leb, eqb}
+use lib.ListN.{length, length-replicate}
 use borrow.Author.Tests.{leb-false, ne-eqb}
 use Rattle.lists.specs.Lists.{all, any}
 use Rattle.lists.proofs.Alls.{all-append, any-append}
@@ -56,6 +57,9 @@ ascii-bytes b [] h = refl
 ascii-bytes b (c ∷ cs) h = any-append (eqb b) (encode c) (encodeAll cs) ∙ rw (ascii-byte b c h, ascii-bytes b cs h)
 
 -- ---- spaces are characters of one byte and one column
+pub spaces-length : (n : ℕ) → length (spaces n) ≡ n
+spaces-length n = length-replicate {A = ℕ} n 0x20
+
 pub spaces-encode : (n : ℕ) → encodeAll (spaces n) ≡ spaces n
 unfolding encodeAll encode
 spaces-encode zero = refl

@@ -1,12 +1,10 @@
 -- What order 2 asks to be proved, of the slip of every text. Over any lawful repertoire.
 use Prim.Native.Nat.{ℕ, _≤_}
 use mathlib.Core.Path.{_≡_, refl, sym, ap, subst, _∙_}
-use mathlib.Core.Bool.{Bool, true, false}
+use mathlib.Core.Bool.{true, false}
 use mathlib.Core.List.{List, [], _∷_, _++_, map}
 use lib.Dec.{eqb}
-use borrow.Author.Tests.{eqb-true}
 use Rattle.lists.specs.Lists.{all, any, concat}
-use Rattle.lists.proofs.Bools.{or-none, never, by-test}
 use Rattle.lists.proofs.Alls.{all-append, all-both, all-parts, any-none, any-parts}
 use Rattle.lists.proofs.Concat.{concat-append}
 use Rattle.lists.proofs.Every.{Every, every-weaken, every-append, every-parts, every-both}
@@ -20,7 +18,7 @@ use native.Mathlib.Omega.{arith}
 use Rattle.slip_model.specs.Slip.{Word, Row, Item, word, gap, newline, grown, itemsOf, pieces}
 use Rattle.slip_model.specs.Slip.{Line, Fresh, linesFrom, textItems, linesOf, spelled, rowColumns, slip}
 use Rattle.slip_model.specs.Promised.{wordsIn, CutAt60, Rightly, EndsLast, AllNext, readBack, cutItems, inked, Promised}
-use Rattle.slip_model.proofs.Words.{Plain, items-by, words-plain}
+use Rattle.slip_model.proofs.Words.{Plain, no-white, items-by, words-plain}
 use Rattle.slip_model.proofs.Cut.{words-cut}
 use Rattle.slip_model.proofs.Complete.{pieces-whole, rows-whole, words-whole, read-back}
 use Rattle.slip_model.proofs.Fits.{lines-fit}
@@ -28,15 +26,6 @@ use Rattle.slip_model.proofs.Ends.{ends-rightly, ends-last}
 use Rattle.slip_model.proofs.Next.{ends-next}
 use Rattle.slip_model.proofs.Page.{lines-wide}
 use Rattle.slip_model.proofs.Inked.{Bare, inked-lines}
-
--- white space is not there, so no space is
-no-space : (R : Repertoire) → Lawful R → (cs : List ℕ) → any (R .white) cs ≡ false → any (eqb 0x20) cs ≡ false
-no-space R law [] e = refl
-no-space R law (c ∷ cs) e =
-    let p = or-none (R .white c) (any (R .white) cs) e in
-    by-test (any (eqb 0x20) (c ∷ cs) ≡ false) (eqb 0x20 c)
-    (λ t. never _ (R .white c) (ap (R .white) (sym (eqb-true 0x20 c t)) ∙ law .spaceWhite) (p .0))
-    (λ t. rw t (no-space R law cs (p .1)))
 
 -- ---- the words' characters
 module _ (R : Repertoire) where
@@ -68,7 +57,7 @@ module _ (R : Repertoire) where
         let scalars = all-parts scalar (concat p) (concat (concat ps)) (ap (all scalar) (sym e) ∙ a) in
         let whites = any-parts (R .white) (concat p) (concat (concat ps)) (ap (any (R .white)) (sym e) ∙ w) in
         let newlines = any-parts (eqb 0x0A) (concat p) (concat (concat ps)) (ap (any (eqb 0x0A)) (sym e) ∙ n) in (
-          record { scalars = scalars .0; noSpace = no-space R law (concat p) (whites .0); noNewline = newlines .0 },
+          record { scalars = scalars .0; noSpace = no-white R 0x20 (law .spaceWhite) (concat p) (whites .0); noNewline = newlines .0 },
           bare-pieces ps (scalars .1) (whites .1) (newlines .1),
         )
 

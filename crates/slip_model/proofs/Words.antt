@@ -1,12 +1,14 @@
 -- The words of a text: each has a cluster, and none has white space or \n in it. Assumes nothing.
 use Prim.Native.Nat.{ℕ, _<_}
-use mathlib.Core.Path.{_≡_, refl}
+use mathlib.Core.Path.{_≡_, refl, sym, ap, _∙_}
 use mathlib.Core.Bool.{Bool, true, false, cond}
 use mathlib.Core.List.{List, [], _∷_}
 use native.Mathlib.Omega.{arith}
 use lib.Dec.{eqb}
 use lib.ListN.{length}
+use borrow.Author.Tests.{eqb-true}
 use Rattle.lists.specs.Lists.{any, concat}
+use Rattle.lists.proofs.Bools.{or-none, never, by-test}
 use Rattle.lists.proofs.Every.{Every}
 use Rattle.lists.proofs.Alls.{any-none}
 use Rattle.unicode.specs.Repertoire.{Repertoire}
@@ -23,6 +25,14 @@ pub record Plain (R : Repertoire) (w : Word) : Type 0 where
 pub record Clear (R : Repertoire) (k : List ℕ) : Type 0 where
   pub noNewline : any (eqb 0x0A) k ≡ false
   pub noWhite : any (R .white) k ≡ false
+
+-- where no white space is, a character that is white space is not
+pub no-white : (R : Repertoire) (w : ℕ) → R .white w ≡ true → (cs : List ℕ) → any (R .white) cs ≡ false → any (eqb w) cs ≡ false
+no-white R w h [] e = refl
+no-white R w h (c ∷ cs) e =
+    let p = or-none (R .white c) (any (R .white) cs) e in
+    by-test (any (eqb w) (c ∷ cs) ≡ false) (eqb w c) (λ t. never _ (R .white c) (ap (R .white) (sym (eqb-true w c t)) ∙ h) (p .0))
+    (λ t. rw t (no-white R w h cs (p .1)))
 
 -- one test after the other, each kept as a fact
 by-tests : (P : List Item → Type 0) (a b : Bool) (x y z : List Item) → P x → P y → (a ≡ false → b ≡ false → P z) → P (cond a x (cond b y z))
