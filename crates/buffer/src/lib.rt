@@ -1,4 +1,6 @@
 // Bytes in a lent buffer: an insertion shifts the tail from its place onward, a cut closes the gap.
+#![tactic(auto)]
+
 ghost use Rattle.std.specs.Prelude.{◌≡◌, ◌++◌, ◌+◌, ◌-◌, ◌*◌, ◌≤◌, length, take, drop, replicate};
 ghost use Rattle.std.proofs.lemmas.List.Edits.{sets};
 ghost use Rattle.buffer.specs.Edit.{shifted, inserted, cut, written, copies};

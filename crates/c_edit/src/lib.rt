@@ -1,6 +1,8 @@
 // The entries for C and Rust callers that put text in or rewrite it: each is the call of the same name.
+#![tactic(auto)]
+
 ghost use Rattle.std.specs.Prelude.{not, eqb};
-ghost use Rattle.unicode.specs.Repertoire.{catalogue};
+ghost use Rattle.repertoire.specs.Repertoire.{catalogue};
 ghost use Rattle.edit.specs.Calls.{lent};
 ghost use Rattle.calls.specs.CallContracts.{Meets, buffers};
 ghost use Rattle.calls.specs.Calls.{codes, delete_range, replace, update, insert, yank, yank_pop, transpose_chars, edit_word, transpose_words, indent, edit};

@@ -1,5 +1,7 @@
 // The entry for C and Rust callers that takes a key: the call `key` of `key_calls`.
-ghost use Rattle.unicode.specs.Repertoire.{catalogue};
+#![tactic(auto)]
+
+ghost use Rattle.repertoire.specs.Repertoire.{catalogue};
 ghost use Rattle.edit.specs.Calls.{lent};
 ghost use Rattle.kill_ring.specs.Calls as rings;
 ghost use Rattle.key_model.specs.Contract.{key_buffers, Presses};

@@ -1,6 +1,8 @@
 // The entries for C and Rust callers that cut text out by a movement: each is the call of the same name in `kills` or
 // `deletions`.
-ghost use Rattle.unicode.specs.Repertoire.{catalogue};
+#![tactic(auto)]
+
+ghost use Rattle.repertoire.specs.Repertoire.{catalogue};
 ghost use Rattle.edit.specs.Calls.{lent};
 ghost use Rattle.calls.specs.CallContracts.{Meets, buffers};
 ghost use Rattle.calls.specs.Calls.{codes, kill, kill_line, kill_buffer, discard_line, discard_buffer, backspace, delete_prev_word, delete_word, delete_to, delete, edit};

@@ -1,6 +1,8 @@
 // The entries for C and Rust callers that move the cursor, ask, or copy: each is the call of the same name in `movement` or `copies`.
+#![tactic(auto)]
+
 ghost use Rattle.std.specs.Prelude.{ℕ, List};
-ghost use Rattle.unicode.specs.Repertoire.{catalogue};
+ghost use Rattle.repertoire.specs.Repertoire.{catalogue};
 ghost use Rattle.log_state.specs.declared.Log.{Log};
 ghost use Rattle.edit.specs.Calls.{lent};
 ghost use Rattle.calls.specs.CallContracts.{Meets, buffers};

@@ -1,6 +1,8 @@
 // The entries for C and Rust callers to the log: each is the call of the same name.
+#![tactic(auto)]
+
 ghost use Rattle.std.specs.Prelude.{ℕ, ◌≡◌, List};
-ghost use Rattle.unicode.specs.Repertoire.{catalogue};
+ghost use Rattle.repertoire.specs.Repertoire.{catalogue};
 ghost use Rattle.formats.specs.Formats.{log_format};
 ghost use Rattle.log_state.specs.Calls.{lent, Logged, insert_call, insert_str_call, delete_call, replace_call, truncate_call};
 ghost use Rattle.edit.specs.Calls as edits;

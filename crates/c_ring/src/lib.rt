@@ -1,6 +1,8 @@
 // The entries for C and Rust callers to the ring: each is the call of the same name in `kill_ring`, on the ring's record.
+#![tactic(auto)]
+
 ghost use Rattle.std.specs.Prelude.{◌≡◌};
-ghost use Rattle.unicode.specs.Repertoire.{catalogue};
+ghost use Rattle.repertoire.specs.Repertoire.{catalogue};
 ghost use Rattle.kill_ring.specs.Calls as rings;
 
 use kill_ring::{Ring, RingAnswer};

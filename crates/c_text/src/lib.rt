@@ -1,7 +1,9 @@
 // The entries for C and Rust callers on texts that are lent without a cursor: each is the call of the same name in `slip_calls`.
+#![tactic(auto)]
+
 ghost use Rattle.std.specs.Prelude.{length};
 ghost use Rattle.formats.specs.Formats.{format_for};
-ghost use Rattle.unicode.specs.Repertoire.{catalogue};
+ghost use Rattle.repertoire.specs.Repertoire.{catalogue};
 ghost use Rattle.slip_calls.specs.Answer.{Slips};
 
 use checks::ValueAnswer;

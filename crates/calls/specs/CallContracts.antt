@@ -1,6 +1,6 @@
 -- The contract of every call of the list, by its value: what its entry for C ensures, and what a step of a run meets.
 use Rattle.std.specs.Prelude.{ℕ, ◌≡◌, List}
-use Rattle.unicode.specs.Repertoire.{Repertoire}
+use Rattle.repertoire.specs.Repertoire.{Repertoire}
 use Rattle.checks.specs.declared.LineAnswer.{LineAnswer}
 use Rattle.checks.specs.Answers.{line_answer}
 use Rattle.formats.specs.declared.Format.{Format}

@@ -2,7 +2,7 @@
 -- does the theorem about runs. An edit is a call of LineBuffer that may change the text, a movement one that changes at most the cursor; the other calls are
 -- the log's. What a call takes goes with it, fit or unfit, in the order of the entries for C.
 use Rattle.std.specs.Prelude.{ℕ, Bool, List}
-use Rattle.unicode.specs.Repertoire.{Repertoire}
+use Rattle.repertoire.specs.Repertoire.{Repertoire}
 use Rattle.checks.specs.declared.Line.{Line}
 use Rattle.checks.specs.Outcome.{Outcome, refused, answered}
 use Rattle.motion_calls.specs.Moves as moves

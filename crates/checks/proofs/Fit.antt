@@ -12,9 +12,9 @@ use Rattle.lists.proofs.Bools.{never, or_none}
 use Rattle.formats.specs.declared.Format.{Format}
 use Rattle.formats.specs.Formats as formats
 use Rattle.utf8.specs.Chars.{valid, boundary}
-use Rattle.unicode.specs.Repertoire.{Repertoire}
-use Rattle.unicode.specs.Text.{is_text}
-use Rattle.unicode.proofs.Text.{text-valid}
+use Rattle.repertoire.specs.Repertoire.{Repertoire}
+use Rattle.repertoire.specs.Text.{is_text}
+use Rattle.repertoire.proofs.Text.{text-valid}
 use Rattle.checks.specs.Checks.{Tests, both, later_number, refusal, lent_text, line_tests, own_tests}
 use Rattle.checks.specs.declared.Line.{Line}
 

@@ -9,8 +9,8 @@ use lib.ListN.{length}
 use borrow.Author.Tests.{lt-ltb, le-ltb}
 use Rattle.lists.proofs.Bools.{by_test, by_less}
 use Rattle.formats.specs.declared.Format.{Format}
-use Rattle.unicode.specs.Repertoire.{Repertoire}
-use Rattle.unicode.specs.Text.{is_text}
+use Rattle.repertoire.specs.Repertoire.{Repertoire}
+use Rattle.repertoire.specs.Text.{is_text}
 use Rattle.checks.specs.Checks.{refusal, text_tests}
 
 module _ (R : Repertoire) (F : Format) (s : List ℕ) where

@@ -3,8 +3,8 @@
 use Rattle.std.specs.Prelude.{ℕ, zero, suc, ◌+◌, Bool, false, cond, ◌||◌, not, List, ltb, length, take}
 use Rattle.formats.specs.declared.Format.{Format}
 use Rattle.utf8.specs.Chars.{boundary}
-use Rattle.unicode.specs.Repertoire.{Repertoire}
-use Rattle.unicode.specs.Text.{is_text}
+use Rattle.repertoire.specs.Repertoire.{Repertoire}
+use Rattle.repertoire.specs.Text.{is_text}
 use Rattle.checks.specs.declared.Line.{Line}
 
 pub record Tests : Type 0 where

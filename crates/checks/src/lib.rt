@@ -1,25 +1,27 @@
 // Document 01, "What a call says": the checks of a lent text in number order, and the answers of calls that are lent one.
+#![tactic(auto)]
+
 ghost use Rattle.std.specs.Prelude.{◌≡◌, length};
 ghost use Rattle.formats.specs.Formats.{format_for};
-ghost use Rattle.unicode.specs.Repertoire.{catalogue};
+ghost use Rattle.repertoire.specs.Repertoire.{catalogue};
 ghost use Rattle.checks.specs.Checks.{refusal as Checks·refusal, lower as Checks·lower, both, line_tests, own_tests, text_tests};
 ghost use Rattle.checks.specs.Answers.{says as Answers·says, line_answer, moved_to, place_of};
 
 use formats::{Format, format_for};
 use motion::Found;
-use unicode::check_text;
+use repertoire::check_text;
 use utf8::is_boundary;
 
 // A text's used length, and the cursor.
 #[repr(C)]
-#[derive(Drop)]
+#[derive(Clone, Copy)]
 pub struct Line {
     pub len: usize,
     pub cursor: usize,
 }
 
 #[repr(C)]
-#[derive(Drop)]
+#[derive(Clone, Copy)]
 pub struct LineAnswer {
     pub number: u32,
     pub from: usize,
@@ -29,7 +31,7 @@ pub struct LineAnswer {
 
 // The answer of a call that answers one number beside its own; 0 in `value` where it refuses.
 #[repr(C)]
-#[derive(Drop)]
+#[derive(Clone, Copy)]
 pub struct ValueAnswer {
     pub number: u32,
     pub value: usize,

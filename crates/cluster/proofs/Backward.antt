@@ -14,7 +14,7 @@ use Rattle.utf8.specs.Chars.{chars, boundary, chars_from, EndsAt}
 use Rattle.utf8.proofs.Chars.{first-within, chars_step}
 use Rattle.utf8.proofs.Append.{chars-cut}
 use Rattle.utf8.proofs.Ends.{ends_char, chars-before}
-use Rattle.unicode.specs.Repertoire.{Repertoire}
+use Rattle.repertoire.specs.Repertoire.{Repertoire}
 use Rattle.cluster.specs.Clusters.{joined, clusters, clusters_of, last_cluster}
 use Rattle.cluster.specs.Facts.{facts, single, extended}
 use Rattle.cluster.specs.declared.Cluster.{Cluster}

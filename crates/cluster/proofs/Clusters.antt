@@ -12,7 +12,7 @@ use Rattle.utf8.specs.Utf8.{char, bad, first}
 use Rattle.utf8.specs.Chars.{chars}
 use Rattle.utf8.specs.Encode.{size}
 use Rattle.utf8.proofs.Chars.{chars_step, chars-bad, chars_cons}
-use Rattle.unicode.specs.Repertoire.{Repertoire}
+use Rattle.repertoire.specs.Repertoire.{Repertoire}
 use Rattle.cluster.specs.Clusters.{joined, attach, clusters, clusters_of, first_cluster, bytes, first_size}
 
 concat-attach : (b : Bool) (c : ℕ) (ks : List (List ℕ)) → concat (attach b c ks) ≡ c ∷ concat ks

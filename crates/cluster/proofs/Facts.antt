@@ -7,7 +7,7 @@ use native.Mathlib.Omega.{arith}
 use Rattle.lists.specs.Lists.{all, any, sum, concat}
 use Rattle.lists.proofs.Alls.{all_append, any_append}
 use Rattle.utf8.specs.Encode.{size}
-use Rattle.unicode.specs.Repertoire.{Repertoire}
+use Rattle.repertoire.specs.Repertoire.{Repertoire}
 use Rattle.cluster.specs.Clusters.{bytes}
 use Rattle.cluster.specs.Facts.{is_underscore, facts, single, extended}
 use Rattle.cluster.specs.declared.Cluster.{Cluster}

@@ -9,7 +9,7 @@ use Rattle.lists.specs.Lists.{head_or}
 use Rattle.utf8.specs.Utf8.{char, bad, first}
 use Rattle.utf8.specs.Chars.{chars}
 use Rattle.utf8.proofs.Chars.{first-within, chars_step, chars-bad}
-use Rattle.unicode.specs.Repertoire.{Repertoire}
+use Rattle.repertoire.specs.Repertoire.{Repertoire}
 use Rattle.cluster.specs.Clusters.{joined, clusters, first_cluster}
 use Rattle.cluster.specs.Facts.{facts, single, extended}
 use Rattle.cluster.specs.declared.Cluster.{Cluster}

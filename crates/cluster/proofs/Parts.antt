@@ -15,7 +15,7 @@ use Rattle.utf8.specs.Encode.{scalar, encode, encode_all}
 use Rattle.utf8.proofs.Chars.{chars_step, valid-bad, size_pos}
 use Rattle.utf8.proofs.Append.{by_first}
 use Rattle.utf8.proofs.Encode.{size-encode, encode_all-append, chars-encode, valid-encode, encode-chars, chars-scalar}
-use Rattle.unicode.specs.Repertoire.{Repertoire}
+use Rattle.repertoire.specs.Repertoire.{Repertoire}
 use Rattle.cluster.specs.Clusters.{clusters, clusters_of, first_cluster, last_cluster, bytes, first_size}
 use Rattle.cluster.proofs.Clusters.{run_of, chars-drop, clusters_some, clusters_head, clusters-concat, clusters_last}
 use Rattle.cluster.proofs.Facts.{bytes-append}

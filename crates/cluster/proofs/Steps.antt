@@ -14,7 +14,7 @@ use Rattle.utf8.specs.Chars.{chars, chars_from, valid, boundary}
 use Rattle.utf8.proofs.Chars.{chars_step, size_pos}
 use Rattle.utf8.proofs.Append.{by_first, valid-cut}
 use Rattle.utf8.proofs.Boundary.{boundary-take}
-use Rattle.unicode.specs.Repertoire.{Repertoire}
+use Rattle.repertoire.specs.Repertoire.{Repertoire}
 use Rattle.cluster.specs.Clusters.{clusters, clusters_of, first_cluster, last_cluster, bytes, first_size}
 use Rattle.cluster.specs.Facts.{facts}
 use Rattle.cluster.specs.declared.Cluster.{Cluster}

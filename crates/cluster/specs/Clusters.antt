@@ -1,6 +1,6 @@
 -- UAX #29, section 3.1.1: extended grapheme clusters over a repertoire whose classes are Control (with CR and LF), Extend (its marks) and Other.
 -- `clusters` has GB1 and GB2; `joined` has GB3, GB4, GB5, GB9 and GB999, which look at two neighbouring code points. The other rules cannot
--- apply to catalogue's texts (unicode/specs/Repertoire.antt: nothing over U+0178 but the marks U+0300 to U+0333), for each asks for a
+-- apply to catalogue's texts (repertoire/specs/Repertoire.antt: nothing over U+0178 but the marks U+0300 to U+0333), for each asks for a
 -- character of a class that has none there:
 --   GB6, GB7, GB8  Hangul syllables: L, V, T, LV, LVT, the first of which is U+1100
 --   GB9, its ZWJ   U+200D
@@ -14,7 +14,7 @@ use Rattle.std.specs.Prelude.{ℕ, ◌+◌, Bool, true, false, cond, ◌&&◌, L
 use Rattle.lists.specs.Lists.{head_or, last_or}
 use Rattle.utf8.specs.Chars.{chars}
 use Rattle.utf8.specs.Encode.{size}
-use Rattle.unicode.specs.Repertoire.{Repertoire}
+use Rattle.repertoire.specs.Repertoire.{Repertoire}
 
 -- no break between p and the c that follows it, by the rules in their order
 unfoldable pub joined : Repertoire → ℕ → ℕ → Bool

@@ -1,7 +1,7 @@
 -- What the word rules ask of a cluster: line_buffer.rs, is_word_char, is_vi_word_char and is_other_char.
 use Rattle.std.specs.Prelude.{ℕ, ◌+◌, Bool, false, ◌&&◌, ◌||◌, List, [], ◌∷◌, eqb}
 use Rattle.lists.specs.Lists.{all, any}
-use Rattle.unicode.specs.Repertoire.{Repertoire}
+use Rattle.repertoire.specs.Repertoire.{Repertoire}
 use Rattle.cluster.specs.Clusters.{bytes}
 use Rattle.cluster.specs.declared.Cluster.{Cluster}
 

@@ -1,15 +1,17 @@
 // The extended grapheme clusters of a text: UAX #29 over the repertoire of document 01.
+#![tactic(auto)]
+
 ghost use Rattle.std.specs.Prelude.{◌≡◌, true, [], ◌+◌, ◌≤◌, ◌<◌, length};
 ghost use Rattle.utf8.specs.Chars.{valid};
-ghost use Rattle.unicode.specs.Repertoire.{catalogue};
+ghost use Rattle.repertoire.specs.Repertoire.{catalogue};
 ghost use Rattle.cluster.specs.Clusters.{joined, first_cluster, last_cluster};
 ghost use Rattle.cluster.specs.Facts.{facts, single, extended};
 
-use unicode::{is_alnum, is_control, is_mark, is_white};
+use repertoire::{is_alnum, is_control, is_mark, is_white};
 use utf8::{Decoded, decode_at, prev_char};
 
 // A cluster as the word rules see it.
-#[derive(Drop)]
+#[derive(Clone, Copy)]
 pub struct Cluster {
     pub len: usize,
     pub alnum: bool,

@@ -7,7 +7,7 @@ use mathlib.Core.List.{List, map, reverse}
 use lib.ListN.{length, take}
 use lib.Seq.{length-take-le}
 use Rattle.utf8.specs.Chars.{In}
-use Rattle.unicode.specs.Repertoire.{catalogue}
+use Rattle.repertoire.specs.Repertoire.{catalogue}
 use Rattle.checks.specs.Outcome.{Outcome, called}
 use Rattle.checks.proofs.Outcomes.{called-refused, called-passed}
 use Rattle.log_model.specs.Change.{Change, turn}

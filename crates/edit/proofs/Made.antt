@@ -11,7 +11,7 @@ use borrow.Author.Tests.{lt-ltb, le-ltb, eq-eqb, ne_eqb, eqb-true}
 use Rattle.lists.specs.Lists.{part}
 use Rattle.lists.proofs.Bools.{and_both}
 use Rattle.lists.proofs.Parts.{none_left}
-use Rattle.unicode.specs.Repertoire.{catalogue}
+use Rattle.repertoire.specs.Repertoire.{catalogue}
 use Rattle.checks.specs.Outcome.{Outcome, refused, answered}
 use Rattle.buffer.specs.Edit.{inserted, cut}
 use Rattle.log_model.specs.Change.{Edit, insert, delete, replace, Change, edit, place, old, new}

@@ -11,7 +11,7 @@ use Rattle.utf8.specs.Chars.{In}
 use Rattle.utf8.specs.Encode.{encode}
 use Rattle.utf8.proofs.Chars.{size_pos}
 use Rattle.utf8.proofs.Encode.{size-encode}
-use Rattle.unicode.specs.Repertoire.{Repertoire}
+use Rattle.repertoire.specs.Repertoire.{Repertoire}
 use Rattle.cluster.specs.Clusters.{clusters_of}
 use Rattle.checks.specs.Outcome.{Outcome, refused, answered}
 use Rattle.log_model.specs.Change.{Edit, insert, delete, replace, Change}

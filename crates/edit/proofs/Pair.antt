@@ -9,8 +9,8 @@ use lib.ListN.{length}
 use borrow.Author.Tests.{lt-ltb, le-ltb}
 use Rattle.lists.specs.Lists.{part}
 use Rattle.utf8.specs.Chars.{In}
-use Rattle.unicode.specs.Repertoire.{catalogue}
-use Rattle.unicode.specs.Text.{is_text}
+use Rattle.repertoire.specs.Repertoire.{catalogue}
+use Rattle.repertoire.specs.Text.{is_text}
 use Rattle.cluster.specs.Clusters.{clusters_of}
 use Rattle.log_model.specs.Change.{Change}
 use Rattle.numbers.specs.Numbers.{top}

@@ -10,9 +10,9 @@ use Rattle.lists.proofs.Parts.{drop-take}
 use Rattle.lists.specs.Lists.{part}
 use Rattle.utf8.specs.Chars.{boundary, In}
 use Rattle.utf8.proofs.Boundary.{boundary-drop}
-use Rattle.unicode.specs.Repertoire.{Repertoire}
-use Rattle.unicode.specs.Text.{is_text}
-use Rattle.unicode.proofs.Text.{text-cut}
+use Rattle.repertoire.specs.Repertoire.{Repertoire}
+use Rattle.repertoire.specs.Text.{is_text}
+use Rattle.repertoire.proofs.Text.{text-cut}
 use Rattle.log_model.specs.Change.{insert}
 use Rattle.log_state.specs.Calls.{Numbered}
 

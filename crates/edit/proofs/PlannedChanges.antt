@@ -12,10 +12,10 @@ use Rattle.utf8.specs.Chars.{In}
 use Rattle.utf8.specs.Encode.{encode}
 use Rattle.utf8.proofs.Chars.{size_pos}
 use Rattle.utf8.proofs.Encode.{size-encode}
-use Rattle.unicode.specs.Repertoire.{Repertoire}
-use Rattle.unicode.specs.Text.{is_text}
-use Rattle.unicode.proofs.Typed.{char-text}
-use Rattle.unicode.proofs.Text.{text_nil}
+use Rattle.repertoire.specs.Repertoire.{Repertoire}
+use Rattle.repertoire.specs.Text.{is_text}
+use Rattle.repertoire.proofs.Typed.{char-text}
+use Rattle.repertoire.proofs.Text.{text_nil}
 use Rattle.cluster.specs.Clusters.{clusters_of}
 use Rattle.log_model.specs.Change.{Edit, insert, delete, replace, Change, edit, place, old, new}
 use Rattle.numbers.specs.Numbers.{top}

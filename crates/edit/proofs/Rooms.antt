@@ -12,8 +12,8 @@ use Rattle.lists.proofs.Parts.{none_left}
 use Rattle.lists.specs.Lists.{part}
 use Rattle.lists.proofs.Bools.{by_test, and_both, never}
 use Rattle.utf8.specs.Chars.{In}
-use Rattle.unicode.specs.Repertoire.{Repertoire, catalogue}
-use Rattle.unicode.specs.Text.{is_text}
+use Rattle.repertoire.specs.Repertoire.{Repertoire, catalogue}
+use Rattle.repertoire.specs.Text.{is_text}
 use Rattle.cluster.specs.Clusters.{clusters_of}
 use Rattle.log_model.specs.Change.{Edit, insert, delete, Change, place, old, new}
 use Rattle.numbers.specs.Numbers.{top}

@@ -9,9 +9,9 @@ use lib.Seq.{length-take-le, take_at, drop_at, drop-drop, drop-append-add}
 use Rattle.lists.specs.Lists.{part}
 use Rattle.utf8.specs.Chars.{boundary, In, valid}
 use Rattle.utf8.proofs.Boundary.{boundary-drop, boundary-take}
-use Rattle.unicode.specs.Repertoire.{Repertoire}
-use Rattle.unicode.specs.Text.{is_text}
-use Rattle.unicode.proofs.Text.{text-append, text-cut}
+use Rattle.repertoire.specs.Repertoire.{Repertoire}
+use Rattle.repertoire.specs.Text.{is_text}
+use Rattle.repertoire.proofs.Text.{text-append, text-cut}
 use Rattle.buffer.specs.Edit.{inserted, cut}
 use Rattle.edit.specs.Plan.{splice}
 use Rattle.edit.proofs.Parts.{raw_part}

@@ -8,8 +8,8 @@ use lib.Dec.{leb, ltb}
 use lib.ListN.{length}
 use borrow.Author.Tests.{ltb-false, leb-true, leb-false}
 use Rattle.lists.proofs.Bools.{and_both, or_none, by_test}
-use Rattle.unicode.specs.Repertoire.{Repertoire}
-use Rattle.unicode.specs.Text.{is_text}
+use Rattle.repertoire.specs.Repertoire.{Repertoire}
+use Rattle.repertoire.specs.Text.{is_text}
 use Rattle.log_model.specs.Change.{Change, old, new}
 use Rattle.numbers.specs.Numbers.{top}
 use Rattle.formats.specs.declared.Format.{Format}

@@ -8,8 +8,8 @@ use mathlib.Core.Option.{Option}
 use lib.ListN.{length, take, length-append}
 use borrow.Author.Tests.{le-ltb}
 use Rattle.utf8.specs.Chars.{boundary, In}
-use Rattle.unicode.specs.Repertoire.{Repertoire, catalogue}
-use Rattle.unicode.specs.Text.{is_text}
+use Rattle.repertoire.specs.Repertoire.{Repertoire, catalogue}
+use Rattle.repertoire.specs.Text.{is_text}
 use Rattle.log_model.specs.Change.{Change, turn}
 use Rattle.formats.specs.Formats.{Fit}
 use Rattle.formats.specs.declared.Format.{Format}

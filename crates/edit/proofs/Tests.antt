@@ -7,9 +7,9 @@ use lib.ListN.{length}
 use borrow.Author.Tests.{ltb-false, not-false}
 use Rattle.lists.proofs.Bools.{or_none, never}
 use Rattle.utf8.specs.Chars.{valid}
-use Rattle.unicode.specs.Repertoire.{Repertoire, catalogue}
-use Rattle.unicode.specs.Text.{is_text}
-use Rattle.unicode.proofs.Text.{text-valid}
+use Rattle.repertoire.specs.Repertoire.{Repertoire, catalogue}
+use Rattle.repertoire.specs.Text.{is_text}
+use Rattle.repertoire.proofs.Text.{text-valid}
 use Rattle.checks.specs.Checks.{Tests, with_split, both, later_number, refusal, line_tests, own_tests}
 use Rattle.checks.proofs.Fit.{Passed, fit}
 use Rattle.formats.specs.declared.Format.{Format}

@@ -9,7 +9,7 @@ use lib.ListN.{length, take}
 use borrow.Author.Tests.{leb-true}
 use Rattle.lists.proofs.Bools.{and_both, or_none}
 use Rattle.utf8.specs.Chars.{In}
-use Rattle.unicode.specs.Repertoire.{Repertoire, catalogue}
+use Rattle.repertoire.specs.Repertoire.{Repertoire, catalogue}
 use Rattle.checks.specs.Outcome.{Outcome, answered}
 use Rattle.log_model.specs.Change.{Change}
 use Rattle.numbers.specs.Numbers.{top}

@@ -1,7 +1,7 @@
 -- An edit on lent bytes: its checks in number order, its plan on the values that the bytes hold, and the bytes that hold what it leaves.
 use Rattle.std.specs.Prelude.{ℕ, ◌≤◌, ◌≡◌, true, false, List, length, take}
-use Rattle.unicode.specs.Repertoire.{Repertoire, catalogue}
-use Rattle.unicode.specs.Text.{is_text}
+use Rattle.repertoire.specs.Repertoire.{Repertoire, catalogue}
+use Rattle.repertoire.specs.Text.{is_text}
 use Rattle.utf8.specs.Chars.{boundary}
 use Rattle.checks.specs.Checks.{Tests, no_tests, with_sizes, with_code, with_foreign, with_place, with_split, both, refusal, line_tests}
 use Rattle.checks.specs.declared.Line.{Line}

@@ -3,8 +3,8 @@ use Rattle.std.specs.Prelude.{ℕ, ◌+◌, ◌≡◌, Bool, true, false, cond, 
 use Rattle.lists.specs.Lists.{part}
 use Rattle.utf8.specs.Chars.{In}
 use Rattle.utf8.specs.Encode.{encode}
-use Rattle.unicode.specs.Repertoire.{Repertoire}
-use Rattle.unicode.specs.Text.{is_text, is_char}
+use Rattle.repertoire.specs.Repertoire.{Repertoire}
+use Rattle.repertoire.specs.Text.{is_text, is_char}
 use Rattle.checks.specs.Outcome.{Outcome, refused, answered}
 use Rattle.log_model.specs.Change.{Edit, insert, delete, replace, Change, place, old, new}
 use Rattle.formats.specs.declared.Format.{Format}

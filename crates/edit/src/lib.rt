@@ -1,10 +1,12 @@
 // What edits share: the checks of a lent text and log together, one change made in the text and recorded in the log, and an edit of
 // two changes, a cut and then a text put in, of which it is decided before the first whether both fit.
+#![tactic(auto)]
+
 ghost use Rattle.std.specs.Prelude.{◌≡◌, true, false, not, ◌≤◌, ◌<◌, ◌+◌, ◌-◌, length, take, [], ◌∷◌};
 ghost use Rattle.lists.specs.Lists.{part};
 ghost use Rattle.utf8.specs.Chars.{valid, boundary, In};
-ghost use Rattle.unicode.specs.Repertoire.{catalogue};
-ghost use Rattle.unicode.specs.Text.{is_text};
+ghost use Rattle.repertoire.specs.Repertoire.{catalogue};
+ghost use Rattle.repertoire.specs.Text.{is_text};
 ghost use Rattle.cluster.specs.Clusters.{clusters_of};
 ghost use Rattle.log_model.specs.Change.{edit};
 ghost use Rattle.log_model.specs.Recording.{is_single};
@@ -27,7 +29,7 @@ use log_state::{Checked, Log, is_single, look, over_sizes, refused};
 use utf8::is_boundary;
 
 #[repr(C)]
-#[derive(Drop)]
+#[derive(Clone, Copy)]
 pub struct EditAnswer {
     pub number: u32,
     pub from: usize,
@@ -50,7 +52,7 @@ pub fn says(number: u32, line: Line, log: Log) -> EditAnswer
 }
 
 // What the tests of a call's own arguments say.
-#[derive(Drop)]
+#[derive(Clone, Copy)]
 pub struct Own {
     pub sizes: bool,
     pub code: bool,
@@ -75,7 +77,7 @@ impl Own {
 }
 
 // The dry run of a plan: the tail of the undo list after its changes so far, and whether the log has room for them.
-#[derive(Drop)]
+#[derive(Clone, Copy)]
 pub struct Room {
     pub fits: bool,
     pub tail: Tail,

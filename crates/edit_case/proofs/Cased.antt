@@ -11,14 +11,14 @@ use Rattle.lists.proofs.Bools.{by_less}
 use Rattle.lists.proofs.Parts.{part-tail}
 use Rattle.lists.proofs.Stores.{take-sets}
 use Rattle.utf8.specs.Chars.{boundary, chars_from, valid_from}
-use Rattle.unicode.specs.Repertoire.{Repertoire, Lawful, catalogue}
-use Rattle.unicode.specs.Text.{is_text}
-use Rattle.unicode.specs.Case.{cased, cased_into, CasedInto}
-use Rattle.unicode.specs.declared.Case.{Case}
-use Rattle.unicode.specs.declared.Case.TheVariants.{Upper, Lower}
-use Rattle.unicode.proofs.Cased.{cased-text}
-use Rattle.unicode.proofs.Catalogue.{cased-le}
-use Rattle.unicode.proofs.Text.{text-append, text-cut, text-valid}
+use Rattle.repertoire.specs.Repertoire.{Repertoire, Lawful, catalogue}
+use Rattle.repertoire.specs.Text.{is_text}
+use Rattle.repertoire.specs.Case.{cased, cased_into, CasedInto}
+use Rattle.repertoire.specs.declared.Case.{Case}
+use Rattle.repertoire.specs.declared.Case.TheVariants.{Upper, Lower}
+use Rattle.repertoire.proofs.Cased.{cased-text}
+use Rattle.repertoire.proofs.Catalogue.{cased-le}
+use Rattle.repertoire.proofs.Text.{text-append, text-cut, text-valid}
 use Rattle.cluster.specs.Clusters.{clusters, bytes, first_size}
 use Rattle.cluster.proofs.Parts.{first-cut}
 use Rattle.edit_case.specs.declared.WordAction.{WordAction}

@@ -5,9 +5,9 @@ use mathlib.Core.List.{List, [], ◌∷◌}
 use lib.ListN.{length}
 use Rattle.lists.specs.Lists.{part}
 use Rattle.utf8.specs.Chars.{In}
-use Rattle.unicode.specs.Repertoire.{catalogue}
-use Rattle.unicode.proofs.Catalogue.{catalogue_lawful}
-use Rattle.unicode.proofs.Text.{text-valid}
+use Rattle.repertoire.specs.Repertoire.{catalogue}
+use Rattle.repertoire.proofs.Catalogue.{catalogue_lawful}
+use Rattle.repertoire.proofs.Text.{text-valid}
 use Rattle.formats.specs.declared.Format.{Format}
 use Rattle.edit.specs.declared.EditAnswer.{EditAnswer}
 use Rattle.edit.specs.Plan.{cutting, pasted, Plan, AllSuit, edited}

@@ -2,9 +2,9 @@
 use Rattle.std.specs.Prelude.{ℕ, ◌+◌, ◌≡◌, true, false, List, [], ◌∷◌, ◌++◌, length, take, drop, get_or}
 use Rattle.std.proofs.lemmas.List.Edits.{sets}
 use Rattle.lists.specs.Lists.{part}
-use Rattle.unicode.specs.Repertoire.{Repertoire}
-use Rattle.unicode.specs.Case.{cased}
-use Rattle.unicode.specs.declared.Case.TheVariants.{Upper, Lower}
+use Rattle.repertoire.specs.Repertoire.{Repertoire}
+use Rattle.repertoire.specs.Case.{cased}
+use Rattle.repertoire.specs.declared.Case.TheVariants.{Upper, Lower}
 use Rattle.cluster.specs.Clusters.{first_size}
 use Rattle.motion.specs.Trim.{skip_whitespace}
 use Rattle.motion.specs.declared.Found.{Found}

@@ -1,9 +1,11 @@
 // edit_word of LineBuffer: a word put in another case. Any text, cursor, log and code may be handed over: what is unfit is turned
 // away by a number of document 01.
+#![tactic(auto)]
+
 ghost use Rattle.std.specs.Prelude.{◌≡◌, true, false, ◌+◌, ◌≤◌, length, take};
 ghost use Rattle.utf8.specs.Chars.{In};
-ghost use Rattle.unicode.specs.Repertoire.{catalogue};
-ghost use Rattle.unicode.specs.Case.{cased};
+ghost use Rattle.repertoire.specs.Repertoire.{catalogue};
+ghost use Rattle.repertoire.specs.Case.{cased};
 ghost use Rattle.formats.specs.Formats.{text_max};
 ghost use Rattle.log_records.specs.Walks.{LastAt};
 ghost use Rattle.edit.specs.Calls.{lent, Ready, Answers, Makes};
@@ -18,9 +20,9 @@ use formats::{Format, TEXT_MAX, format_for};
 use log_state::Log;
 use motion::{Found, skip_whitespace};
 use motion_words::words_on;
-use unicode::{Case, change_case};
+use repertoire::{Case, change_case};
 
-#[derive(Drop)]
+#[derive(Clone, Copy)]
 pub enum WordAction {
     Capitalize,
     Lowercase,
@@ -28,7 +30,7 @@ pub enum WordAction {
 }
 
 // What a code names.
-#[derive(Drop)]
+#[derive(Clone, Copy)]
 pub enum ActionCode {
     Is(WordAction),
     Unknown,

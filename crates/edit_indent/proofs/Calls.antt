@@ -8,8 +8,8 @@ use lib.ListN.{length, take, drop}
 use lib.Seq.{length-take-le}
 use Rattle.lists.specs.Lists.{part}
 use Rattle.utf8.specs.Chars.{valid, boundary, In}
-use Rattle.unicode.specs.Repertoire.{catalogue}
-use Rattle.unicode.proofs.Text.{text-valid}
+use Rattle.repertoire.specs.Repertoire.{catalogue}
+use Rattle.repertoire.proofs.Text.{text-valid}
 use Rattle.keymap.specs.declared.Movement.{Movement}
 use Rattle.checks.specs.Checks.{Tests, both, refusal, line_tests, own_tests}
 use Rattle.checks.specs.declared.Line.{Line}

@@ -10,9 +10,9 @@ use Rattle.lists.specs.Lists.{part}
 use Rattle.lists.proofs.Bools.{by_less}
 use Rattle.utf8.specs.Chars.{In, valid}
 use Rattle.utf8.proofs.Forms.{first-end}
-use Rattle.unicode.specs.Repertoire.{catalogue}
-use Rattle.unicode.proofs.Text.{text-valid}
-use Rattle.unicode.proofs.Catalogue.{catalogue_lawful}
+use Rattle.repertoire.specs.Repertoire.{catalogue}
+use Rattle.repertoire.proofs.Text.{text-valid}
+use Rattle.repertoire.proofs.Catalogue.{catalogue_lawful}
 use Rattle.cluster.specs.Clusters.{clusters_of}
 use Rattle.cluster.proofs.Clusters.{clusters_none}
 use Rattle.motion_lines.specs.Lines.{end_of_line}

@@ -11,8 +11,8 @@ use borrow.Author.Tests.{eq-eqb, ne_eqb}
 use Rattle.lists.specs.Lists.{part}
 use Rattle.lists.proofs.Bools.{by_test}
 use Rattle.utf8.specs.Chars.{In}
-use Rattle.unicode.specs.Repertoire.{catalogue}
-use Rattle.unicode.specs.Text.{is_text}
+use Rattle.repertoire.specs.Repertoire.{catalogue}
+use Rattle.repertoire.specs.Text.{is_text}
 use Rattle.motion_lines.specs.Lines.{end_of_line}
 use Rattle.formats.specs.declared.Format.{Format}
 use Rattle.formats.specs.Formats.{text_max}

@@ -1,6 +1,6 @@
 -- indent and dedent, by a movement's codes: the lines are those that the movement's range touches.
 use Rattle.std.specs.Prelude.{ℕ, Bool, true, false, cond, List}
-use Rattle.unicode.specs.Repertoire.{Repertoire}
+use Rattle.repertoire.specs.Repertoire.{Repertoire}
 use Rattle.keymap.specs.Codes.{movement_of}
 use Rattle.keymap.specs.declared.Movement.{Movement}
 use Rattle.keymap.specs.declared.MovementCode.{MovementCode}

@@ -1,8 +1,10 @@
 // The lines that a movement touches, indented and dedented one after the other: indent of line_buffer.rs. Each piece of spaces is an
 // insertion and each dedent a cut, made and recorded as edits make them. Any text, cursor, log, code and number may be handed over:
 // what is unfit is turned away by a number of document 01.
+#![tactic(auto)]
+
 ghost use Rattle.std.specs.Prelude.{◌≡◌, false, cond, true, ◌≤◌, ◌+◌, ◌<◌, take, length};
-ghost use Rattle.unicode.specs.Repertoire.{catalogue};
+ghost use Rattle.repertoire.specs.Repertoire.{catalogue};
 ghost use Rattle.checks.specs.Checks.{refusal as Checks·refusal, both, line_tests, own_tests};
 ghost use Rattle.formats.specs.Formats.{Fit, text_max};
 ghost use Rattle.edit.specs.Calls.{lent, Edited, sizes_of, state_of, Ready, Answers, Makes};

@@ -15,7 +15,7 @@ use Rattle.utf8.specs.Utf8.{char, first}
 use Rattle.utf8.specs.Chars.{chars, valid, boundary}
 use Rattle.utf8.proofs.Chars.{valid-bad, chars_step}
 use Rattle.utf8.proofs.Append.{by_first, first-append}
-use Rattle.unicode.specs.Repertoire.{Repertoire}
+use Rattle.repertoire.specs.Repertoire.{Repertoire}
 use Rattle.formats.specs.declared.Format.{Format}
 use Rattle.numbers.specs.Numbers.{le}
 use Rattle.numbers.proofs.Numbers.{length-le}

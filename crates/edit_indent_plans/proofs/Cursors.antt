@@ -9,8 +9,8 @@ use lib.ListN.{length, length-replicate}
 use borrow.Author.Tests.{lt-ltb, le-ltb}
 use Rattle.lists.proofs.Bools.{by_less, by_test}
 use Rattle.utf8.specs.Chars.{valid_from, valid, boundary, In}
-use Rattle.unicode.specs.Repertoire.{Repertoire}
-use Rattle.unicode.specs.Text.{is_text}
+use Rattle.repertoire.specs.Repertoire.{Repertoire}
+use Rattle.repertoire.specs.Text.{is_text}
 use Rattle.keymap.specs.declared.Movement.{Movement}
 use Rattle.edit.specs.Plan.{PlannedChange, splice, AllSuit, text_after}
 use Rattle.edit.proofs.Splice.{splice_stays, splice_moves, splice-start}

@@ -9,7 +9,7 @@ use lib.Seq.{length-take-le, take-take}
 use Rattle.lists.specs.Lists.{part}
 use Rattle.lists.proofs.Bools.{by_less}
 use Rattle.lists.proofs.Parts.{drop-take}
-use Rattle.unicode.specs.Repertoire.{catalogue}
+use Rattle.repertoire.specs.Repertoire.{catalogue}
 use Rattle.motion_lines.specs.Lines.{end_of_line}
 use Rattle.motion_lines.proofs.Lines.{end-le}
 use Rattle.formats.specs.declared.Format.{Format}

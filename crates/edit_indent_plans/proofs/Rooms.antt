@@ -11,9 +11,9 @@ use borrow.Author.Tests.{le-leb, lt_leb, lt-ltb, le-ltb}
 use Rattle.lists.specs.Lists.{part}
 use Rattle.lists.proofs.Bools.{by_less, by_test}
 use Rattle.utf8.specs.Chars.{valid, In}
-use Rattle.unicode.specs.Repertoire.{catalogue}
-use Rattle.unicode.proofs.Text.{text-valid}
-use Rattle.unicode.proofs.Catalogue.{catalogue_lawful}
+use Rattle.repertoire.specs.Repertoire.{catalogue}
+use Rattle.repertoire.proofs.Text.{text-valid}
+use Rattle.repertoire.proofs.Catalogue.{catalogue_lawful}
 use Rattle.formats.specs.declared.Format.{Format}
 use Rattle.formats.specs.Formats.{text_max, Fit}
 use Rattle.log_model.specs.Change.{Change}

@@ -15,9 +15,9 @@ use Rattle.utf8.specs.Utf8.{first, first_of, one as one_byte}
 use Rattle.utf8.specs.Chars.{valid_from, chars_from, valid, boundary, In}
 use Rattle.utf8.proofs.Append.{valid-append, valid-cut}
 use Rattle.utf8.proofs.Boundary.{boundary-drop}
-use Rattle.unicode.specs.Repertoire.{Repertoire}
-use Rattle.unicode.specs.Text.{is_text}
-use Rattle.unicode.proofs.Text.{text_nil, text-append, text-valid}
+use Rattle.repertoire.specs.Repertoire.{Repertoire}
+use Rattle.repertoire.specs.Text.{is_text}
+use Rattle.repertoire.proofs.Text.{text_nil, text-append, text-valid}
 use Rattle.keymap.specs.declared.Movement.{Movement}
 use Rattle.edit.specs.Plan.{PlannedChange, pasted, cutting, made, splice, AllSuit}
 use Rattle.edit.proofs.Parts.{part-between}

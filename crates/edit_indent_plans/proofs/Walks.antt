@@ -13,7 +13,7 @@ use Rattle.lists.proofs.Bools.{by_less}
 use Rattle.utf8.specs.Utf8.{first, first_of, one as one_byte}
 use Rattle.utf8.specs.Chars.{valid_from, valid, boundary}
 use Rattle.utf8.proofs.Append.{valid-cut}
-use Rattle.unicode.specs.Repertoire.{Repertoire}
+use Rattle.repertoire.specs.Repertoire.{Repertoire}
 use Rattle.motion_lines.specs.Lines.{end_of_line}
 use Rattle.motion_lines.proofs.Places.{newline-place}
 use Rattle.motion_lines.proofs.Lines.{end-le, end-newline}

@@ -13,7 +13,7 @@ use Rattle.utf8.specs.Utf8.{char, bad, first}
 use Rattle.utf8.specs.Chars.{chars}
 use Rattle.utf8.proofs.Chars.{first-within, chars_step, chars-bad}
 use Rattle.utf8.proofs.Append.{by_chars}
-use Rattle.unicode.specs.Repertoire.{Repertoire}
+use Rattle.repertoire.specs.Repertoire.{Repertoire}
 use Rattle.edit_indent_plans.specs.Touched.{leading, deleting}
 
 module _ (R : Repertoire) where

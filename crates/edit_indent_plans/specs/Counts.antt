@@ -1,6 +1,6 @@
 -- What a dedent of some lines cuts, counted: that many records, and the bytes of their texts.
 use Rattle.std.specs.Prelude.{ℕ, ◌+◌, cond, List, [], ◌∷◌, ltb}
-use Rattle.unicode.specs.Repertoire.{Repertoire}
+use Rattle.repertoire.specs.Repertoire.{Repertoire}
 use Rattle.edit_indent_plans.specs.Touched.{deleting}
 
 -- the lines of which a dedent by m cuts something

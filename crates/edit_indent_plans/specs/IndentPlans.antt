@@ -1,7 +1,7 @@
 -- The changes that indent and dedent some lines: line_buffer.rs, indent. Each line is changed at its own place, from the first to the last.
 use Rattle.std.specs.Prelude.{ℕ, zero, suc, ◌+◌, ◌-◌, ◌*◌, Bool, true, false, cond, List, [], ◌∷◌, ◌++◌, eqb, ltb, length, replicate}
 use Rattle.lists.specs.Lists.{part}
-use Rattle.unicode.specs.Repertoire.{Repertoire}
+use Rattle.repertoire.specs.Repertoire.{Repertoire}
 use Rattle.formats.specs.declared.Format.{Format}
 use Rattle.formats.specs.Formats.{text_max}
 use Rattle.edit.specs.Plan.{PlannedChange, pasted, cutting, Plan}

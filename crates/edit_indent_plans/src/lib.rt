@@ -1,10 +1,12 @@
 // What indent of line_buffer.rs finds before it changes a byte: the lines that a movement touches, the white space that they begin with,
 // and whether the log has room. The changes themselves are definitions, in specs/.
+#![tactic(auto)]
+
 ghost use Rattle.std.specs.Prelude.{◌≡◌, ◌&&◌, true, ◌+◌, ◌*◌, ◌≤◌, leb, length};
 ghost use Rattle.formats.specs.Formats.{Fit};
 ghost use Rattle.edit_indent_plans.specs.IndentPlans.{change_size, changes_max};
 ghost use Rattle.utf8.specs.Chars.{valid, boundary};
-ghost use Rattle.unicode.specs.Repertoire.{catalogue};
+ghost use Rattle.repertoire.specs.Repertoire.{catalogue};
 ghost use Rattle.edit_indent_plans.specs.Touched.{or_cursor, span_of, last_newline, split_lines};
 ghost use Rattle.edit_indent_plans.specs.Touched.{touched as Touched·touched, deleting as Touched·deleting, splits as Touched·splits};
 ghost use Rattle.edit_indent_plans.specs.Counts.{cuts_in, bytes_in};
@@ -15,7 +17,7 @@ use log_state::Log;
 use motion::or_stay;
 use motion_lines::{Range, Span, end_of_line, n_lines_down, n_lines_up, start_of_line};
 use motion_words::{next_word_pos, prev_word_pos};
-use unicode::is_white;
+use repertoire::is_white;
 use utf8::{Decoded, decode_at, is_boundary};
 
 // At the last \n at or after a place, the text's end where there is none.
@@ -170,7 +172,7 @@ pub fn count_lines(p: &[u8]) -> usize
 }
 
 // What is recorded: how many records, and the bytes of their texts.
-#[derive(Drop)]
+#[derive(Clone, Copy)]
 pub struct Counts {
     pub records: usize,
     pub bytes: usize,

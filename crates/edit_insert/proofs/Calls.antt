@@ -8,8 +8,8 @@ use lib.Dec.{ltb}
 use lib.ListN.{length}
 use borrow.Author.Tests.{eq-eqb, ne_eqb, ltb-false, not-false}
 use Rattle.utf8.specs.Encode.{encode}
-use Rattle.unicode.specs.Repertoire.{catalogue}
-use Rattle.unicode.specs.Text.{is_text, is_char}
+use Rattle.repertoire.specs.Repertoire.{catalogue}
+use Rattle.repertoire.specs.Text.{is_text, is_char}
 use Rattle.checks.specs.Checks.{Tests, no_tests, with_sizes, with_foreign, with_place, with_split, own_tests}
 use Rattle.formats.specs.declared.Format.{Format}
 use Rattle.edit.specs.Plan.{typed, pasted, once, nothing}

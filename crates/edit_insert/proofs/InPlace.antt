@@ -11,8 +11,8 @@ use borrow.Author.Tests.{le-ltb, eqb-true, eqb-false}
 use Rattle.lists.proofs.Bools.{by_test, never}
 use Rattle.numbers.proofs.Read.{top_max}
 use Rattle.utf8.specs.Chars.{In}
-use Rattle.unicode.specs.Repertoire.{catalogue}
-use Rattle.unicode.specs.Text.{is_text}
+use Rattle.repertoire.specs.Repertoire.{catalogue}
+use Rattle.repertoire.specs.Text.{is_text}
 use Rattle.buffer.specs.Edit.{inserted, cut, copies}
 use Rattle.buffer.proofs.Copies.{copies_length}
 use Rattle.formats.specs.declared.Format.{Format}

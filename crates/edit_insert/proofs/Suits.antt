@@ -11,10 +11,10 @@ use Rattle.lists.proofs.Bools.{by_test}
 use Rattle.utf8.specs.Chars.{boundary, In}
 use Rattle.utf8.specs.Encode.{encode}
 use Rattle.utf8.proofs.Boundary.{boundary-zero, boundary_end}
-use Rattle.unicode.specs.Repertoire.{Repertoire}
-use Rattle.unicode.specs.Text.{is_text, is_char}
-use Rattle.unicode.proofs.Text.{text-valid}
-use Rattle.unicode.proofs.Typed.{char-text}
+use Rattle.repertoire.specs.Repertoire.{Repertoire}
+use Rattle.repertoire.specs.Text.{is_text, is_char}
+use Rattle.repertoire.proofs.Text.{text-valid}
+use Rattle.repertoire.proofs.Typed.{char-text}
 use Rattle.buffer.specs.Edit.{copies}
 use Rattle.edit.specs.Plan.{splice, AllSuit, text_after}
 use Rattle.edit.proofs.Splice.{splice-start, splice-end}

@@ -8,9 +8,9 @@ use lib.Dec.{ltb}
 use lib.ListN.{length}
 use borrow.Author.Tests.{ltb-false, not-false}
 use Rattle.utf8.specs.Chars.{valid, boundary}
-use Rattle.unicode.specs.Repertoire.{catalogue}
-use Rattle.unicode.specs.Text.{is_text}
-use Rattle.unicode.proofs.Text.{text-valid}
+use Rattle.repertoire.specs.Repertoire.{catalogue}
+use Rattle.repertoire.specs.Text.{is_text}
+use Rattle.repertoire.proofs.Text.{text-valid}
 use Rattle.checks.specs.Checks.{Tests}
 use Rattle.formats.specs.declared.Format.{Format}
 use Rattle.edit.specs.declared.EditAnswer.{EditAnswer}

@@ -2,8 +2,8 @@
 use Rattle.std.specs.Prelude.{ℕ, ◌+◌, ◌-◌, Bool, false, cond, not, List, [], ◌∷◌, eqb, ltb, length}
 use Rattle.utf8.specs.Chars.{boundary}
 use Rattle.utf8.specs.Encode.{encode}
-use Rattle.unicode.specs.Repertoire.{Repertoire}
-use Rattle.unicode.specs.Text.{is_text, is_char}
+use Rattle.repertoire.specs.Repertoire.{Repertoire}
+use Rattle.repertoire.specs.Text.{is_text, is_char}
 use Rattle.buffer.specs.Edit.{copies}
 use Rattle.checks.specs.Checks.{Tests, no_tests, with_sizes, with_foreign, with_place, with_split, own_tests}
 use Rattle.checks.specs.Outcome.{Outcome}

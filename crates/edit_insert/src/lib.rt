@@ -1,12 +1,14 @@
 // The calls of LineBuffer that put a text in: a character typed, n copies of a text, or a text in place of another. Any text, cursor,
 // log and place may be handed over: what is unfit is turned away by a number of document 01.
+#![tactic(auto)]
+
 ghost use Rattle.std.specs.Prelude.{◌≡◌, ◌+◌, ◌-◌, ◌*◌, ◌≤◌, true, length, take};
-ghost use Rattle.unicode.specs.Repertoire.{catalogue};
+ghost use Rattle.repertoire.specs.Repertoire.{catalogue};
 ghost use Rattle.edit.specs.Calls.{lent, Ready, Answers, Makes};
 ghost use Rattle.edit_insert.specs.Inserts.{empty_is, insert_plan, insert_call, yank_plan, yank_call, yank_pop_plan, yank_pop_call, update_call};
 ghost use Rattle.utf8.specs.Chars.{boundary};
 ghost use Rattle.utf8.specs.Encode.{encode};
-ghost use Rattle.unicode.specs.Text.{is_text, is_char};
+ghost use Rattle.repertoire.specs.Text.{is_text, is_char};
 ghost use Rattle.formats.specs.Formats.{text_max};
 ghost use Rattle.log_records.specs.Walks.{LastAt};
 ghost use Rattle.edit.specs.Plan.{typed, pasted, once};
@@ -20,7 +22,7 @@ use edit::{
 use formats::{Format, format_for};
 use keymap::RepeatCount;
 use log_state::Log;
-use unicode::{check_char, check_text, is_alnum};
+use repertoire::{check_char, check_text, is_alnum};
 use utf8::{encode_at, is_boundary};
 
 // A character typed at the cursor, which goes behind it; s are its bytes. The newest record begins at last.

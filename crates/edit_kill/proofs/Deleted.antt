@@ -8,8 +8,8 @@ use lib.ListN.{length}
 use lib.Dec.{eqb}
 use lib.Seq.{length-take-le}
 use Rattle.utf8.specs.Chars.{In}
-use Rattle.unicode.specs.Repertoire.{catalogue}
-use Rattle.unicode.proofs.Text.{text-valid}
+use Rattle.repertoire.specs.Repertoire.{catalogue}
+use Rattle.repertoire.proofs.Text.{text-valid}
 use Rattle.keymap.specs.declared.Movement.TheVariants as m
 use Rattle.motion.specs.Steps.{next_pos}
 use Rattle.motion.specs.declared.Found.{Found}

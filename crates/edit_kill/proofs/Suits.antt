@@ -4,9 +4,9 @@ use mathlib.Core.Path.{◌≡◌, refl}
 use mathlib.Core.Bool.{true}
 use mathlib.Core.List.{List}
 use Rattle.utf8.specs.Chars.{In}
-use Rattle.unicode.specs.Repertoire.{Repertoire}
-use Rattle.unicode.specs.Text.{is_text}
-use Rattle.unicode.proofs.Text.{text-valid}
+use Rattle.repertoire.specs.Repertoire.{Repertoire}
+use Rattle.repertoire.specs.Text.{is_text}
+use Rattle.repertoire.proofs.Text.{text-valid}
 use Rattle.keymap.specs.declared.Movement.{Movement}
 use Rattle.motion_lines.specs.declared.Range.{Range}
 use Rattle.motion_lines.specs.declared.Range.TheVariants.{Places, Nowhere}

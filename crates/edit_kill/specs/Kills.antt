@@ -1,7 +1,7 @@
 -- The calls of LineBuffer that cut: line_buffer.rs, kill and the functions that it calls for each movement. A call cuts the bytes between two places of
 -- the text and leaves the cursor there; where there are none it answers 1.
 use Rattle.std.specs.Prelude.{ℕ, true, false, List, [], ◌∷◌}
-use Rattle.unicode.specs.Repertoire.{Repertoire}
+use Rattle.repertoire.specs.Repertoire.{Repertoire}
 use Rattle.keymap.specs.Codes.{movement_of}
 use Rattle.keymap.specs.declared.Movement.{Movement}
 use Rattle.keymap.specs.declared.Movement.TheVariants as m

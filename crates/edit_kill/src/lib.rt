@@ -1,9 +1,11 @@
 // The calls of LineBuffer that cut: kill, for all fourteen movements, and those that cut by one movement. Any text, cursor, log, code
 // and number may be handed over: what is unfit is turned away by a number of document 01. The range is found in the text as it is,
 // then cut out and recorded.
+#![tactic(auto)]
+
 ghost use Rattle.std.specs.Prelude.{◌≡◌, true, ◌≤◌, length, take};
 ghost use Rattle.utf8.specs.Chars.{valid, boundary};
-ghost use Rattle.unicode.specs.Repertoire.{catalogue};
+ghost use Rattle.repertoire.specs.Repertoire.{catalogue};
 ghost use Rattle.keymap.specs.declared.Movement.TheVariants.{ForwardChar};
 ghost use Rattle.log_records.specs.Walks.{LastAt};
 ghost use Rattle.edit.specs.Calls.{lent, Ready, Answers, Makes};

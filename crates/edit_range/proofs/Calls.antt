@@ -9,8 +9,8 @@ use lib.ListN.{length}
 use borrow.Author.Tests.{ltb-false, not-false}
 use Rattle.lists.specs.Lists.{part}
 use Rattle.utf8.specs.Chars.{valid, boundary, In}
-use Rattle.unicode.specs.Repertoire.{catalogue}
-use Rattle.unicode.specs.Text.{is_text}
+use Rattle.repertoire.specs.Repertoire.{catalogue}
+use Rattle.repertoire.specs.Text.{is_text}
 use Rattle.checks.specs.Checks.{Tests, with_foreign, with_split, line_tests}
 use Rattle.checks.proofs.Fit.{Passed}
 use Rattle.formats.specs.declared.Format.{Format}

@@ -1,8 +1,8 @@
 -- The calls of LineBuffer with a range of places of their own: line_buffer.rs, delete_range and replace. The places are tried by 5 and 6.
 use Rattle.std.specs.Prelude.{ℕ, ◌+◌, false, not, ◌||◌, List, ltb, length}
 use Rattle.utf8.specs.Chars.{boundary}
-use Rattle.unicode.specs.Repertoire.{Repertoire}
-use Rattle.unicode.specs.Text.{is_text}
+use Rattle.repertoire.specs.Repertoire.{Repertoire}
+use Rattle.repertoire.specs.Text.{is_text}
 use Rattle.checks.specs.Checks.{Tests, no_tests, with_sizes, with_foreign, with_place, with_split}
 use Rattle.checks.specs.Outcome.{Outcome}
 use Rattle.formats.specs.declared.Format.{Format}

@@ -1,6 +1,8 @@
 // The calls of LineBuffer with a range of places of their own. Any text, cursor, log and place may be handed over: what is unfit
 // is turned away by a number of document 01.
-ghost use Rattle.unicode.specs.Repertoire.{catalogue};
+#![tactic(auto)]
+
+ghost use Rattle.repertoire.specs.Repertoire.{catalogue};
 ghost use Rattle.edit.specs.Calls.{lent, Answers};
 ghost use Rattle.edit_range.specs.Ranges.{delete_range_call, replace_call};
 
@@ -8,7 +10,7 @@ use checks::Line;
 use edit::{EditAnswer, Own, change, check, cut_out, is_split, says};
 use formats::format_for;
 use log_state::Log;
-use unicode::check_text;
+use repertoire::check_text;
 
 // Wrong answers ruled out: the redo list kept for an empty range; the cursor left behind the cut.
 pub fn delete_range(

@@ -7,7 +7,7 @@ use lib.Dec.{eqb, ltb}
 use borrow.Author.Tests.{ltb-false}
 use Rattle.lists.proofs.Bools.{or_none}
 use Rattle.utf8.specs.Chars.{valid, In}
-use Rattle.unicode.specs.Repertoire.{Repertoire}
+use Rattle.repertoire.specs.Repertoire.{Repertoire}
 use Rattle.edit.specs.Plan.{nothing}
 use Rattle.edit_transpose.specs.declared.Words.{Words}
 use Rattle.edit_transpose.specs.WordPairs.{words_around, words_plan, Apart}

@@ -8,7 +8,7 @@ use lib.Dec.{eqb, ltb}
 use lib.ListN.{length}
 use Rattle.lists.proofs.Bools.{by_test}
 use Rattle.utf8.specs.Chars.{valid, In}
-use Rattle.unicode.specs.Repertoire.{Repertoire}
+use Rattle.repertoire.specs.Repertoire.{Repertoire}
 use Rattle.cluster.specs.Clusters.{clusters_of}
 use Rattle.motion.specs.declared.Found.{Found}
 use Rattle.motion.specs.declared.Found.TheVariants.{At, Nothing}

@@ -9,9 +9,9 @@ use lib.ListN.{length}
 use borrow.Author.Tests.{lt-ltb, le-ltb}
 use Rattle.lists.specs.Lists.{part}
 use Rattle.utf8.specs.Chars.{valid, boundary, In}
-use Rattle.unicode.specs.Repertoire.{Repertoire}
-use Rattle.unicode.specs.Text.{is_text}
-use Rattle.unicode.proofs.Text.{text-valid, text_nil}
+use Rattle.repertoire.specs.Repertoire.{Repertoire}
+use Rattle.repertoire.specs.Text.{is_text}
+use Rattle.repertoire.proofs.Text.{text-valid, text_nil}
 use Rattle.edit.specs.Plan.{splice, text_after, AllSuit, too_long}
 use Rattle.edit.proofs.Parts.{part-text, part_length}
 use Rattle.edit.proofs.Splice.{splice-length, part-before, splice-text, splice-before, splice-behind, splice-start}

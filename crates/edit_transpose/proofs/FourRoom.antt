@@ -9,7 +9,7 @@ use Rattle.lists.specs.Lists.{part}
 use Rattle.lists.proofs.Bools.{by_less, never}
 use Rattle.numbers.specs.Numbers.{top}
 use Rattle.numbers.proofs.Read.{top_max}
-use Rattle.unicode.specs.Repertoire.{catalogue}
+use Rattle.repertoire.specs.Repertoire.{catalogue}
 use Rattle.cluster.specs.Clusters.{clusters_of}
 use Rattle.formats.specs.declared.Format.{Format}
 use Rattle.formats.specs.Formats.{text_max}

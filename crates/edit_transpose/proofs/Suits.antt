@@ -7,9 +7,9 @@ use mathlib.Core.List.{List, []}
 use lib.ListN.{length}
 use Rattle.lists.specs.Lists.{part}
 use Rattle.utf8.specs.Chars.{valid, In}
-use Rattle.unicode.specs.Repertoire.{Repertoire}
-use Rattle.unicode.specs.Text.{is_text}
-use Rattle.unicode.proofs.Text.{text-valid, text_nil}
+use Rattle.repertoire.specs.Repertoire.{Repertoire}
+use Rattle.repertoire.specs.Text.{is_text}
+use Rattle.repertoire.proofs.Text.{text-valid, text_nil}
 use Rattle.edit.specs.Plan.{splice, text_after, AllSuit}
 use Rattle.edit.proofs.Parts.{part-text}
 use Rattle.edit.proofs.Splice.{splice-text, splice_stays, splice-end}

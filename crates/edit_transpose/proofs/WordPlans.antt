@@ -6,9 +6,9 @@ use mathlib.Core.Bool.{true}
 use mathlib.Core.List.{List}
 use Rattle.lists.proofs.Bools.{by_test}
 use Rattle.utf8.specs.Chars.{valid, In}
-use Rattle.unicode.specs.Repertoire.{Repertoire}
-use Rattle.unicode.specs.Text.{is_text}
-use Rattle.unicode.proofs.Text.{text-valid}
+use Rattle.repertoire.specs.Repertoire.{Repertoire}
+use Rattle.repertoire.specs.Text.{is_text}
+use Rattle.repertoire.proofs.Text.{text-valid}
 use Rattle.edit.proofs.Suits.{PlanSuits, nothing_plan}
 use Rattle.edit_transpose.specs.WordPairs.{words_around}
 use Rattle.edit_transpose.specs.TransposeWords.{is_one, transpose_words_plan}

@@ -1,7 +1,7 @@
 -- Two neighbouring clusters exchanged: line_buffer.rs, transpose_chars.
 use Rattle.std.specs.Prelude.{ℕ, ◌+◌, false, cond, ◌||◌, List, [], ◌∷◌, eqb, ltb, length}
 use Rattle.lists.specs.Lists.{part}
-use Rattle.unicode.specs.Repertoire.{Repertoire}
+use Rattle.repertoire.specs.Repertoire.{Repertoire}
 use Rattle.cluster.specs.Clusters.{clusters_of}
 use Rattle.motion.specs.declared.Found.{Found}
 use Rattle.motion.specs.declared.Found.TheVariants.{At, Nothing}

@@ -1,6 +1,6 @@
 -- transpose_words of line_buffer.rs: two words put in for each other.
 use Rattle.std.specs.Prelude.{ℕ, Bool, false, cond, ◌||◌, List, eqb, ltb}
-use Rattle.unicode.specs.Repertoire.{Repertoire}
+use Rattle.repertoire.specs.Repertoire.{Repertoire}
 use Rattle.checks.specs.Checks.{own_tests}
 use Rattle.checks.specs.Outcome.{Outcome}
 use Rattle.formats.specs.declared.Format.{Format}

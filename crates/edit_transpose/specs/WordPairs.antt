@@ -2,7 +2,7 @@
 use Rattle.std.specs.Prelude.{ℕ, ◌≤◌, List, [], ◌∷◌}
 use Rattle.lists.specs.Lists.{part}
 use Rattle.utf8.specs.Chars.{In}
-use Rattle.unicode.specs.Repertoire.{Repertoire}
+use Rattle.repertoire.specs.Repertoire.{Repertoire}
 use Rattle.edit.specs.Plan.{pasted, cutting, Plan}
 use Rattle.motion_words.specs.Places.{words_on, words_back}
 use Rattle.edit_transpose.specs.declared.Words.{Words}

@@ -1,8 +1,10 @@
 // transpose_chars and transpose_words of LineBuffer: two neighbouring clusters exchanged, two words put in for each other. Any text,
 // cursor, log and number may be handed over: what is unfit is turned away by a number of document 01.
+#![tactic(auto)]
+
 ghost use Rattle.std.specs.Prelude.{◌≡◌, true, false, ◌+◌, ◌≤◌, ltb, length, take};
 ghost use Rattle.utf8.specs.Chars.{valid, boundary, In};
-ghost use Rattle.unicode.specs.Repertoire.{catalogue};
+ghost use Rattle.repertoire.specs.Repertoire.{catalogue};
 ghost use Rattle.cluster.specs.Clusters.{clusters_of};
 ghost use Rattle.log_records.specs.Walks.{LastAt};
 ghost use Rattle.edit.specs.Plan.{list_after, too_long};
@@ -27,7 +29,7 @@ use motion::Found;
 use motion_words::{back_from, on_from, words_back, words_on};
 
 // Two words of a text, by their places.
-#[derive(Drop)]
+#[derive(Clone, Copy)]
 pub struct Words {
     pub beg1: usize,
     pub end1: usize,

@@ -1,11 +1,13 @@
 // What goes with a text buffer of C bytes: how its log is written, and the most bytes of each buffer. Document 01, check 2 and
 // "Log and ring".
+#![tactic(auto)]
+
 ghost use Rattle.std.specs.Prelude.{◌≡◌};
 ghost use Rattle.formats.specs.Formats.{format_for};
 
 // The bytes of a number, and by how much the kinds of edits are raised; the most bytes of a text, of a log's records and of its
 // texts.
-#[derive(Drop)]
+#[derive(Clone, Copy)]
 pub struct Format {
     pub width: usize,
     pub offset: usize,

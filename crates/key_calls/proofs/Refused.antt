@@ -1,7 +1,7 @@
 -- A key that is refused: by 13 where it stands for nothing, by the number of a check else. Assumes nothing.
 use Prim.Native.Nat.{ℕ}
 use mathlib.Core.Path.{◌≡◌, refl, sym, subst}
-use Rattle.unicode.specs.Repertoire.{catalogue}
+use Rattle.repertoire.specs.Repertoire.{catalogue}
 use Rattle.formats.specs.declared.Format.{Format}
 use Rattle.checks.specs.Outcome.{Outcome, refused}
 use Rattle.edit.specs.Calls.{Lent, says}

@@ -1,7 +1,9 @@
 // Order 1 of document 02: a key on text, cursor, log and ring. Any text, cursor, log, ring and bytes may be handed over: what is unfit is
 // turned away by a number of document 01, and a key that is none by 13. All that is lent is looked at once.
+#![tactic(auto)]
+
 ghost use Rattle.std.specs.Prelude.{◌≡◌, true};
-ghost use Rattle.unicode.specs.Repertoire.{catalogue};
+ghost use Rattle.repertoire.specs.Repertoire.{catalogue};
 ghost use Rattle.edit.specs.Calls.{lent};
 ghost use Rattle.kill_ring.specs.Calls as rings;
 ghost use Rattle.key_model.specs.Stands.{stands_for};

@@ -7,7 +7,7 @@ use lib.Dec.{eqb}
 use lib.ListN.{length}
 use borrow.Author.Tests.{eq-eqb}
 use Rattle.lists.specs.Lists.{part}
-use Rattle.unicode.specs.Repertoire.{catalogue}
+use Rattle.repertoire.specs.Repertoire.{catalogue}
 use Rattle.keymap.specs.Codes.{word_list, at_list, movements}
 use Rattle.formats.specs.declared.Format.{Format}
 use Rattle.checks.specs.Checks.{no_tests}

@@ -1,9 +1,11 @@
 // Order 1 of document 02: a key that kills, where the checks have passed. What its call on the line cuts goes to the ring; 10 and 11 are
 // decided before a byte changes.
+#![tactic(auto)]
+
 ghost use Rattle.std.specs.Prelude.{◌≡◌, false, [], ◌∷◌, length, take};
 ghost use Rattle.lists.specs.Lists.{part};
 ghost use Rattle.utf8.specs.Chars.{In};
-ghost use Rattle.unicode.specs.Repertoire.{catalogue};
+ghost use Rattle.repertoire.specs.Repertoire.{catalogue};
 ghost use Rattle.log_records.specs.Walks.{LastAt};
 ghost use Rattle.log_model.specs.UndoBytes.{fits};
 ghost use Rattle.edit.specs.Plan.{cutting, once, list_after, edited};

@@ -1,7 +1,9 @@
 // Order 1 of document 02: a key that moves the cursor, edits the text or undoes, where the checks have passed. Its call on the line is
 // done, and the ring is reset.
+#![tactic(auto)]
+
 ghost use Rattle.std.specs.Prelude.{◌≡◌, true, length, take};
-ghost use Rattle.unicode.specs.Repertoire.{catalogue};
+ghost use Rattle.repertoire.specs.Repertoire.{catalogue};
 ghost use Rattle.formats.specs.Formats.{format_for};
 ghost use Rattle.checks.specs.Checks.{no_tests, both, refusal, line_tests};
 ghost use Rattle.checks.specs.Answers.{line_answer};

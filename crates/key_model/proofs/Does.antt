@@ -9,7 +9,7 @@ use mathlib.Core.Logic.{◌⊎◌, inl, inr}
 use lib.Dec.{eqb}
 use borrow.Author.Tests.{eq-eqb}
 use Rattle.lists.proofs.Bools.{by_less}
-use Rattle.unicode.specs.Repertoire.{Repertoire}
+use Rattle.repertoire.specs.Repertoire.{Repertoire}
 use Rattle.formats.specs.declared.Format.{Format}
 use Rattle.checks.specs.Checks.{lower}
 use Rattle.checks.specs.Outcome.{Outcome, refused, answered, number_in, leaves}

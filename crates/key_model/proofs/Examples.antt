@@ -7,8 +7,8 @@ use Rattle.numbers.specs.Numbers.{le}
 use Rattle.utf8.specs.Utf8.{within, one, two, lead3, three, lead4, four, first_of, first}
 use Rattle.utf8.specs.Chars.{chars_from, valid_from, start_before}
 use Rattle.utf8.specs.Encode.{scalar, size, encode, encode_all}
-use Rattle.unicode.specs.Repertoire.{catalogue, is_member, is_control, is_mark, is_alnum, is_white}
-use Rattle.unicode.specs.Text.{is_text, is_char}
+use Rattle.repertoire.specs.Repertoire.{catalogue, is_member, is_control, is_mark, is_alnum, is_white}
+use Rattle.repertoire.specs.Text.{is_text, is_char}
 use Rattle.cluster.specs.Clusters.{joined, clusters}
 use Rattle.motion.specs.Steps.{next_pos}
 use Rattle.motion_lines.specs.Lines.{start_of_line, before_newline, end_of_line}

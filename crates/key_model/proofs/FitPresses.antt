@@ -8,8 +8,8 @@ use lib.ListN.{length}
 use Rattle.lists.proofs.Bools.{and_both, by_test}
 use Rattle.utf8.specs.Utf8.{First, char, bad, within, first}
 use Rattle.utf8.specs.Encode.{scalar}
-use Rattle.unicode.specs.Repertoire.{catalogue, is_member}
-use Rattle.unicode.specs.Text.{is_char}
+use Rattle.repertoire.specs.Repertoire.{catalogue, is_member}
+use Rattle.repertoire.specs.Text.{is_char}
 use Rattle.key_press.specs.declared.Press.{Press}
 use Rattle.key_press.specs.declared.Press.TheVariants as p
 use Rattle.key_press.specs.Keys.{control, escaped, typed_by, character, count_of, key_in, press_by, press_of, foreign_key}

@@ -6,7 +6,7 @@ use mathlib.Core.Bool.{Bool, true, false, cond}
 use mathlib.Core.List.{List}
 use mathlib.Core.Option.{some}
 use lib.Dec.{eqb}
-use Rattle.unicode.specs.Repertoire.{Repertoire}
+use Rattle.repertoire.specs.Repertoire.{Repertoire}
 use Rattle.formats.specs.declared.Format.{Format}
 use Rattle.checks.specs.Checks.{lower}
 use Rattle.checks.specs.Outcome.{Outcome, refused, answered}

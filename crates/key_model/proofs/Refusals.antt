@@ -10,7 +10,7 @@ use lib.Dec.{eqb, leb, ltb}
 use lib.ListN.{length}
 use borrow.Author.Tests.{eq-eqb, ne_eqb}
 use Rattle.lists.specs.Lists.{part}
-use Rattle.unicode.specs.Repertoire.{Repertoire}
+use Rattle.repertoire.specs.Repertoire.{Repertoire}
 use Rattle.keymap.specs.Codes.{word_list, at_list, movements}
 use Rattle.keymap.specs.declared.Word.TheVariants as word
 use Rattle.keymap.specs.declared.At.TheVariants as stop

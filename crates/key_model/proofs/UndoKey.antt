@@ -6,7 +6,7 @@ use mathlib.Core.List.{List, [], ◌∷◌, ◌++◌}
 use lib.Dec.{leb}
 use lib.ListN.{length}
 use Rattle.utf8.specs.Utf8.{within}
-use Rattle.unicode.specs.Repertoire.{catalogue}
+use Rattle.repertoire.specs.Repertoire.{catalogue}
 use Rattle.formats.specs.declared.Format.{Format}
 use Rattle.checks.specs.Checks.{no_tests}
 use Rattle.checks.specs.Outcome.{Outcome, refused, answered, called, number_in}

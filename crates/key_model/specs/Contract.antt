@@ -1,7 +1,7 @@
 -- The contract of a key: the whole answer, the bytes of the five buffers, and which of them are as they were, past their used lengths too.
 use Rattle.std.specs.Prelude.{ℕ, ◌≡◌, Bool, true, false, List, eqb, length, take}
 use Rattle.std.proofs.Math.Option.{Option, some, none}
-use Rattle.unicode.specs.Repertoire.{Repertoire, catalogue}
+use Rattle.repertoire.specs.Repertoire.{Repertoire, catalogue}
 use Rattle.formats.specs.declared.Format.{Format}
 use Rattle.checks.specs.Outcome.{Outcome, refused, answered}
 use Rattle.log_state.specs.Calls.{log_of}

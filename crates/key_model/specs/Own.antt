@@ -2,8 +2,8 @@
 -- the text's buffer, 5 and 6 of the size of the yank before. Insert's test of its character always passes: a key types those of the repertoire alone.
 use Rattle.std.specs.Prelude.{ℕ, zero, suc, ◌-◌, ◌≡◌, Bool, false, true, not, List, ltb}
 use Rattle.utf8.specs.Chars.{boundary}
-use Rattle.unicode.specs.Repertoire.{Repertoire, catalogue}
-use Rattle.unicode.specs.Text.{is_char}
+use Rattle.repertoire.specs.Repertoire.{Repertoire, catalogue}
+use Rattle.repertoire.specs.Text.{is_char}
 use Rattle.formats.specs.declared.Format.{Format}
 use Rattle.checks.specs.Checks.{Tests, no_tests, both, own_tests}
 use Rattle.checks.specs.Outcome.{Outcome, refused, answered}

@@ -1,6 +1,8 @@
 // Order 1 of document 02: the calls that a key stands for, as one call; what a key answers.
+#![tactic(auto)]
+
 ghost use Rattle.std.specs.Prelude.{◌≡◌, false, cond, leb};
-ghost use Rattle.unicode.specs.Repertoire.{catalogue};
+ghost use Rattle.repertoire.specs.Repertoire.{catalogue};
 ghost use Rattle.edit.specs.Calls.{says as Calls·says};
 ghost use Rattle.kill_ring.specs.Ring.{reset_out};
 ghost use Rattle.kill_ring.specs.Calls as rings;
@@ -13,7 +15,7 @@ use log_state::Log;
 
 // What a key answers: what its call on the line answers, and the ring's record afterwards.
 #[repr(C)]
-#[derive(Drop)]
+#[derive(Clone, Copy)]
 pub struct KeyAnswer {
     pub number: u32,
     pub from: usize,

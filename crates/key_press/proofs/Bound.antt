@@ -12,10 +12,10 @@ use Rattle.utf8.specs.Utf8.{First, char, bad, within, first}
 use Rattle.utf8.specs.Encode.{scalar}
 use Rattle.utf8.proofs.Forms.{within_in}
 use Rattle.utf8.proofs.Chars.{within_true, first-within}
-use Rattle.unicode.specs.Repertoire.{Repertoire}
-use Rattle.unicode.specs.Text.{is_text, is_char}
-use Rattle.unicode.proofs.Text.{text_nil, member_in, scan_on, scan-end}
-use Rattle.unicode.proofs.Plain.{OneByte, one_at}
+use Rattle.repertoire.specs.Repertoire.{Repertoire}
+use Rattle.repertoire.specs.Text.{is_text, is_char}
+use Rattle.repertoire.proofs.Text.{text_nil, member_in, scan_on, scan-end}
+use Rattle.repertoire.proofs.Plain.{OneByte, one_at}
 use Rattle.key_press.specs.declared.Press.TheVariants as p
 use Rattle.key_press.specs.Keys.{is_digit, behind, is_counted, count_of, key_in, escaped, character, press_by, press_of, is_untried, untried, foreign_key}
 

@@ -5,8 +5,8 @@ use mathlib.Core.List.{[], ◌∷◌}
 use Rattle.utf8.specs.Utf8.{within, one, two, lead3, three, lead4, four, first_of, first}
 use Rattle.utf8.specs.Chars.{chars_from, valid_from}
 use Rattle.utf8.specs.Encode.{scalar}
-use Rattle.unicode.specs.Repertoire.{catalogue, is_member}
-use Rattle.unicode.specs.Text.{is_char, is_text}
+use Rattle.repertoire.specs.Repertoire.{catalogue, is_member}
+use Rattle.repertoire.specs.Text.{is_char, is_text}
 use Rattle.key_press.specs.declared.Press.TheVariants as p
 use Rattle.key_press.specs.declared.MoveKey.TheVariants as move
 use Rattle.key_press.specs.declared.EditKey.TheVariants as edit

@@ -8,8 +8,8 @@ use lib.Dec.{eqb}
 use lib.ListN.{length, get_or}
 use borrow.Author.Tests.{lt-ltb, le-ltb, eq-eqb, ne_eqb}
 use Rattle.utf8.specs.Utf8.{char, bad, first}
-use Rattle.unicode.specs.Repertoire.{Repertoire}
-use Rattle.unicode.specs.Text.{is_char}
+use Rattle.repertoire.specs.Repertoire.{Repertoire}
+use Rattle.repertoire.specs.Text.{is_char}
 use Rattle.key_press.specs.declared.Press.TheVariants as p
 use Rattle.key_press.specs.declared.EditKey.TheVariants as edit
 use Rattle.key_press.specs.Keys.{control, escaped, character, press_by}

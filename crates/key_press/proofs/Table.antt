@@ -7,8 +7,8 @@ use lib.Dec.{T, eqb}
 use Rattle.lists.proofs.Tables.{at_each}
 use Rattle.utf8.specs.Utf8.{within, one, two, lead3, three, lead4, four, first_of, first}
 use Rattle.utf8.specs.Encode.{scalar}
-use Rattle.unicode.specs.Repertoire.{catalogue, is_member}
-use Rattle.unicode.specs.Text.{is_char}
+use Rattle.repertoire.specs.Repertoire.{catalogue, is_member}
+use Rattle.repertoire.specs.Text.{is_char}
 use Rattle.key_press.specs.declared.Press.{Press}
 use Rattle.key_press.specs.declared.Press.TheVariants as p
 use Rattle.key_press.specs.Keys.{value, behind, is_counted, count_of, key_in, control, escaped, press_of}

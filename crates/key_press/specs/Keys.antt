@@ -1,8 +1,8 @@
 -- Order 1 of document 02: which bytes are a key, what its n is, and what it stands for. ESC is 0x1B.
 use Rattle.std.specs.Prelude.{ℕ, ◌+◌, ◌*◌, ◌-◌, ◌≤◌, ◌≡◌, Bool, cond, ◌&&◌, ◌||◌, not, List, [], ◌∷◌, eqb, ltb, length, get_or, drop}
 use Rattle.utf8.specs.Utf8.{First, char, bad, within, first}
-use Rattle.unicode.specs.Repertoire.{Repertoire}
-use Rattle.unicode.specs.Text.{is_text, is_char}
+use Rattle.repertoire.specs.Repertoire.{Repertoire}
+use Rattle.repertoire.specs.Text.{is_text, is_char}
 use Rattle.key_press.specs.declared.Press.{Press}
 use Rattle.key_press.specs.declared.Press.TheVariants as p
 use Rattle.key_press.specs.declared.MoveKey.TheVariants as move

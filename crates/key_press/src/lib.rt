@@ -1,17 +1,19 @@
 // Order 1 of document 02: which bytes are a key, what its n is, and what it stands for. ESC is 0x1B.
+#![tactic(auto)]
+
 ghost use Rattle.std.specs.Prelude.{◌≡◌, true, length, drop};
 ghost use Rattle.utf8.specs.Utf8.{first};
-ghost use Rattle.unicode.specs.Repertoire.{catalogue};
-ghost use Rattle.unicode.specs.Text.{member_len};
+ghost use Rattle.repertoire.specs.Repertoire.{catalogue};
+ghost use Rattle.repertoire.specs.Text.{member_len};
 ghost use Rattle.key_press.specs.Keys.{is_digit, with_digit, CountedAs, control as Keys·control, escaped as Keys·escaped, character as Keys·character};
 ghost use Rattle.key_press.specs.Keys.{press_by, press_of, is_untried, untried, foreign_key};
 
 use keymap::RepeatCount;
-use unicode::{check_char, in_repertoire};
+use repertoire::{check_char, in_repertoire};
 use utf8::{Decoded, between, decode_at};
 
 // A key that moves the cursor. The n of a key is 0 to 65,535.
-#[derive(Drop)]
+#[derive(Clone, Copy)]
 pub enum MoveKey {
     Home,
     End,
@@ -22,7 +24,7 @@ pub enum MoveKey {
 }
 
 // A key that edits the text and leaves the ring's slots alone.
-#[derive(Drop)]
+#[derive(Clone, Copy)]
 pub enum EditKey {
     Typed(u32, RepeatCount),
     Delete(RepeatCount),
@@ -34,7 +36,7 @@ pub enum EditKey {
 }
 
 // A key that kills.
-#[derive(Drop)]
+#[derive(Clone, Copy)]
 pub enum KillKey {
     Line,
     Discard,
@@ -43,7 +45,7 @@ pub enum KillKey {
 }
 
 // What a key stands for.
-#[derive(Drop)]
+#[derive(Clone, Copy)]
 pub enum Press {
     Unbound,
     Move(MoveKey),
@@ -55,7 +57,7 @@ pub enum Press {
 }
 
 // A count, and where the key behind it begins.
-#[derive(Drop)]
+#[derive(Clone, Copy)]
 pub struct Count {
     pub n: RepeatCount,
     pub at: usize,

@@ -6,8 +6,8 @@ use mathlib.Core.Bool.{true, false}
 use mathlib.Core.List.{List}
 use lib.ListN.{length, take, drop}
 use borrow.Author.Tests.{eqb-false}
-use Rattle.unicode.specs.Repertoire.{catalogue}
-use Rattle.unicode.specs.Text.{is_text}
+use Rattle.repertoire.specs.Repertoire.{catalogue}
+use Rattle.repertoire.specs.Text.{is_text}
 use Rattle.checks.specs.Outcome.{Outcome, refused, answered}
 use Rattle.kill_ring.specs.declared.Ring.{Ring}
 use Rattle.kill_ring.specs.declared.Action.{Action}

@@ -6,8 +6,8 @@ use mathlib.Core.List.{List}
 use lib.Dec.{ltb}
 use lib.ListN.{length}
 use Rattle.utf8.specs.Chars.{valid, boundary}
-use Rattle.unicode.specs.Repertoire.{catalogue}
-use Rattle.unicode.specs.Text.{is_text}
+use Rattle.repertoire.specs.Repertoire.{catalogue}
+use Rattle.repertoire.specs.Text.{is_text}
 use Rattle.formats.specs.declared.Format.{Format}
 use Rattle.checks.specs.Checks.{Tests, no_tests, both, own_tests}
 use Rattle.checks.specs.Outcome.{Outcome, answered}

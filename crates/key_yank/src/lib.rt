@@ -1,7 +1,9 @@
 // Order 1 of document 02: a key that puts in the ring's text. What the line's call tests of it, and what it does where the checks have
 // passed: 1 where the ring gives no text.
+#![tactic(auto)]
+
 ghost use Rattle.std.specs.Prelude.{◌≡◌, false, cond, leb};
-ghost use Rattle.unicode.specs.Repertoire.{catalogue};
+ghost use Rattle.repertoire.specs.Repertoire.{catalogue};
 ghost use Rattle.checks.specs.Checks.{own_tests};
 ghost use Rattle.edit.specs.Calls.{lent, own};
 ghost use Rattle.kill_ring.specs.Calls as rings;

@@ -1,12 +1,14 @@
 // keymap.rs: the word rules, stops, searches and movements, and the codes that name them (check 3): from 0 in the order of
 // declaration.
+#![tactic(auto)]
+
 ghost use Rattle.std.specs.Prelude.{◌≡◌};
 ghost use Rattle.keymap.specs.Codes.{word_of, at_of, search_of, movement_of, backward_word, forward_word, char_search};
 
 pub type RepeatCount = u16;
 
 // A word is made of non-blanks (Big), alphanumeric clusters (Emacs), or these and "_" (Vi).
-#[derive(Drop)]
+#[derive(Clone, Copy)]
 pub enum Word {
     Big,
     Emacs,
@@ -14,7 +16,7 @@ pub enum Word {
 }
 
 // Where a forward word motion stops.
-#[derive(Drop)]
+#[derive(Clone, Copy)]
 pub enum At {
     Start,
     BeforeEnd,
@@ -22,7 +24,7 @@ pub enum At {
 }
 
 // A search carries its character, a code point.
-#[derive(Drop)]
+#[derive(Clone, Copy)]
 pub enum CharSearch {
     Forward(u32),
     ForwardBefore(u32),
@@ -30,7 +32,7 @@ pub enum CharSearch {
     BackwardAfter(u32),
 }
 
-#[derive(Drop)]
+#[derive(Clone, Copy)]
 pub enum Movement {
     WholeLine,
     BeginningOfLine,
@@ -49,25 +51,25 @@ pub enum Movement {
 }
 
 // What a code names, or that it names nothing.
-#[derive(Drop)]
+#[derive(Clone, Copy)]
 pub enum WordCode {
     Is(Word),
     Unknown,
 }
 
-#[derive(Drop)]
+#[derive(Clone, Copy)]
 pub enum AtCode {
     Is(At),
     Unknown,
 }
 
-#[derive(Drop)]
+#[derive(Clone, Copy)]
 pub enum SearchCode {
     Is(CharSearch),
     Unknown,
 }
 
-#[derive(Drop)]
+#[derive(Clone, Copy)]
 pub enum MovementCode {
     Is(Movement),
     Unknown,

@@ -5,7 +5,7 @@ use mathlib.Core.Path.{◌≡◌, refl, sym, ap, ap₂, ◌∙◌}
 use mathlib.Core.Bool.{Bool, cond}
 use lib.Dec.{eqb}
 use Rattle.lists.proofs.Bools.{by_test}
-use Rattle.unicode.specs.Repertoire.{Repertoire}
+use Rattle.repertoire.specs.Repertoire.{Repertoire}
 use Rattle.checks.specs.Outcome.{Outcome, answered, called}
 use Rattle.checks.proofs.Outcomes.{called-refused, called-passed}
 use Rattle.kill_ring.specs.declared.Ring.{Ring}

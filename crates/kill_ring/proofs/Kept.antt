@@ -8,9 +8,9 @@ use borrow.Author.Tests.{ltb-false, eqb-true, eqb-false, not-false}
 use lib.Dec.{eqb, ltb}
 use lib.ListN.{length, get_or}
 use Rattle.lists.proofs.Bools.{by_less}
-use Rattle.unicode.specs.Repertoire.{Repertoire}
-use Rattle.unicode.specs.Text.{is_text}
-use Rattle.unicode.proofs.Text.{text_nil, text-append}
+use Rattle.repertoire.specs.Repertoire.{Repertoire}
+use Rattle.repertoire.specs.Text.{is_text}
+use Rattle.repertoire.proofs.Text.{text_nil, text-append}
 use Rattle.checks.specs.Outcome.{Outcome, refused, answered, called, leaves}
 use Rattle.checks.proofs.Outcomes.{called-passed}
 use Rattle.kill_ring.specs.declared.Action.{Action}

@@ -7,7 +7,7 @@ use lib.Dec.{ltb}
 use lib.ListN.{length}
 use borrow.Author.Tests.{ltb-false, lt-ltb, le-ltb}
 use Rattle.lists.proofs.Bools.{or_none, by_less}
-use Rattle.unicode.specs.Repertoire.{Repertoire}
+use Rattle.repertoire.specs.Repertoire.{Repertoire}
 use Rattle.checks.specs.Checks.{both, refusal, own_tests}
 use Rattle.checks.proofs.Fit.{refusal-passed}
 use Rattle.kill_ring.specs.declared.Ring.{Ring}

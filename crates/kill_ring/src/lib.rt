@@ -1,6 +1,8 @@
 // The kill ring: kill_ring.rs over two lent buffers. The ring's record goes in by value and comes back.
+#![tactic(auto)]
+
 ghost use Rattle.std.specs.Prelude.{◌≡◌, false, cond, ◌+◌, ◌-◌, ◌*◌, ◌≤◌, ◌<◌, eqb, length, take, drop};
-ghost use Rattle.unicode.specs.Repertoire.{catalogue};
+ghost use Rattle.repertoire.specs.Repertoire.{catalogue};
 ghost use Rattle.buffer.specs.Edit.{inserted};
 ghost use Rattle.kill_ring.specs.Ring.{reset_out, kill_out, yank_out, yank_pop_out};
 ghost use Rattle.kill_ring.specs.Calls.{lent, len_at, slots_from, action_of, value_of, any_over, in_use, over_sizes, index_breaks, action_breaks};
@@ -10,12 +12,12 @@ ghost use Rattle.kill_ring.specs.Killed.{place_of, slot_of, used_of, killed_into
 
 use buffer::insert_bytes;
 use numbers::{read_num, write_num};
-use unicode::check_text;
+use repertoire::check_text;
 
 // What a ring's record says: the most slots that there may be, those in use, where we are among them, the last action (0 kill,
 // 1 yank, 2 other) and the yank's size.
 #[repr(C)]
-#[derive(Drop)]
+#[derive(Clone, Copy)]
 pub struct Ring {
     pub size: usize,
     pub count: usize,
@@ -25,7 +27,7 @@ pub struct Ring {
 }
 
 #[repr(C)]
-#[derive(Drop)]
+#[derive(Clone, Copy)]
 pub struct RingAnswer {
     pub number: u32,
     pub slot: usize,
@@ -33,28 +35,28 @@ pub struct RingAnswer {
 }
 
 // A call's answer, and the ring's record afterwards.
-#[derive(Drop)]
+#[derive(Clone, Copy)]
 pub struct AnswerAndRing {
     pub answer: RingAnswer,
     pub ring: Ring,
 }
 
 // The last action.
-#[derive(Drop)]
+#[derive(Clone, Copy)]
 pub enum Action {
     Kill,
     Yank(usize),
     Other,
 }
 
-#[derive(Drop)]
+#[derive(Clone, Copy)]
 pub enum Mode {
     Append,
     Prepend,
 }
 
 // What a code names, or that it names nothing.
-#[derive(Drop)]
+#[derive(Clone, Copy)]
 pub enum ModeCode {
     Is(Mode),
     Unknown,

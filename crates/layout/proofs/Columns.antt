@@ -13,9 +13,9 @@ use Rattle.lists.proofs.Bools.{or_none}
 use Rattle.utf8.specs.Utf8.{char, bad, first}
 use Rattle.utf8.specs.Chars.{chars}
 use Rattle.utf8.proofs.Chars.{chars_step, chars-bad}
-use Rattle.unicode.specs.Repertoire.{Repertoire, Lawful}
-use Rattle.unicode.proofs.Text.{within-at}
-use Rattle.unicode.proofs.Widths.{width-most}
+use Rattle.repertoire.specs.Repertoire.{Repertoire, Lawful}
+use Rattle.repertoire.proofs.Text.{within-at}
+use Rattle.repertoire.proofs.Widths.{width-most}
 use Rattle.cluster.specs.Clusters.{clusters_of}
 use Rattle.cluster.proofs.Clusters.{clusters-concat}
 use Rattle.layout.specs.Width.{next_stop, NextMultiple, advance, most_columns, column_after, columns_after, width, plain_width, has_tab}

@@ -1,7 +1,7 @@
 -- Columns on a terminal: layout.rs, width in Unicode mode. A width is measured from a start column, one cluster after the other.
 use Rattle.std.specs.Prelude.{ℕ, ◌+◌, ◌-◌, ◌*◌, ◌/◌, ◌%◌, ◌≤◌, ◌<◌, ◌≡◌, Bool, List, [], ◌∷◌, eqb}
 use Rattle.lists.specs.Lists.{any}
-use Rattle.unicode.specs.Repertoire.{Repertoire}
+use Rattle.repertoire.specs.Repertoire.{Repertoire}
 use Rattle.cluster.specs.Clusters.{clusters_of}
 
 -- the column behind a character that stands at a column

@@ -1,9 +1,11 @@
 // layout.rs: the columns that a part of a text takes.
+#![tactic(auto)]
+
 ghost use Rattle.std.specs.Prelude.{◌≡◌, ◌*◌, ◌≤◌, ◌<◌, length};
-ghost use Rattle.unicode.specs.Repertoire.{catalogue};
+ghost use Rattle.repertoire.specs.Repertoire.{catalogue};
 ghost use Rattle.layout.specs.Width.{advance as Width·advance, most_columns, width as Width·width};
 
-use unicode::char_width;
+use repertoire::char_width;
 use utf8::{Decoded, decode_at};
 
 // The column behind a character that stands at a column.

@@ -1,13 +1,15 @@
 // The calls of Changeset that are lent a log. Any state and any bytes may be handed over: what is unfit is turned away by a number
 // of document 01. Checks 2, 4 and 8 come first, then 10.
+#![tactic(auto)]
+
 ghost use Rattle.std.specs.Prelude.{◌≡◌};
-ghost use Rattle.unicode.specs.Repertoire.{catalogue};
+ghost use Rattle.repertoire.specs.Repertoire.{catalogue};
 ghost use Rattle.formats.specs.Formats.{log_format};
 ghost use Rattle.log_state.specs.Calls.{lent, Logged, answer_of, begin_call, end_call, insert_call, insert_str_call, delete_call, replace_call, truncate_call, last_insert_call};
 
 use formats::format_for;
 use log_state::{Log, LogAnswer, check, is_single, says};
-use unicode::{check_char, check_text, is_alnum};
+use repertoire::{check_char, check_text, is_alnum};
 use utf8::encode_at;
 
 // Wrong answers ruled out: 10 while there is space; a mark one too high.

@@ -10,8 +10,8 @@ use lib.Seq.{get_or_at, drop_at, take_at}
 use lib.Dec.{leb, ltb, eqb}
 use borrow.Author.Tests.{ltb-true, leb-true, eqb-true, eqb-false, lt-ltb, le-leb, eq-eqb, ne_eqb}
 use Rattle.lists.proofs.Bools.{and_both, by_test}
-use Rattle.unicode.specs.Repertoire.{Repertoire}
-use Rattle.unicode.specs.Text.{is_text}
+use Rattle.repertoire.specs.Repertoire.{Repertoire}
+use Rattle.repertoire.specs.Text.{is_text}
 use Rattle.log_model.specs.Change.{Edit, Change, begin, end, edit, insert, delete, replace}
 use Rattle.numbers.specs.Numbers.{top, le, num_at}
 use Rattle.formats.specs.declared.Format.{Format}

@@ -5,7 +5,7 @@ use mathlib.Core.List.{[], ◌∷◌}
 use mathlib.Core.Option.{some}
 use Rattle.utf8.specs.Utf8.{within}
 use Rattle.utf8.specs.Encode.{encode}
-use Rattle.unicode.specs.Repertoire.{catalogue, is_alnum}
+use Rattle.repertoire.specs.Repertoire.{catalogue, is_alnum}
 use Rattle.log_model.specs.Change.{begin, end, edit, insert}
 use Rattle.log_model.specs.Recording.{note, record_insert}
 use Rattle.log_model.specs.Groups.{empty, begun, truncated, end_all, ends_any, ended, last_insert}

@@ -11,7 +11,7 @@ use Rattle.lists.specs.Lists.{part}
 use Rattle.lists.proofs.Bools.{by_less}
 use lib.Dec.{ltb}
 use borrow.Author.Tests.{lt-ltb, le-ltb}
-use Rattle.unicode.specs.Repertoire.{Repertoire}
+use Rattle.repertoire.specs.Repertoire.{Repertoire}
 use Rattle.log_model.specs.Change.{insert, delete, replace, Change, begin, end, edit}
 use Rattle.formats.specs.declared.Format.{Format}
 use Rattle.log_model.specs.Layout.{AllGood}

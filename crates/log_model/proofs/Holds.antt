@@ -7,7 +7,7 @@ use lib.ListN.{length, take, drop, length-append, take-append-drop}
 use lib.Seq.{take-add, length-take-le, take-take, sets, length-sets, take_at, drop_at}
 use Rattle.lists.proofs.Parts.{drop-take}
 use Rattle.lists.proofs.Stores.{take-sets}
-use Rattle.unicode.specs.Repertoire.{Repertoire}
+use Rattle.repertoire.specs.Repertoire.{Repertoire}
 use Rattle.log_model.specs.Change.{Change}
 use Rattle.formats.specs.declared.Format.{Format}
 use Rattle.log_model.specs.Layout.{record_of, texts_of, encode_records, encode_texts, Good, AllGood, Layout}

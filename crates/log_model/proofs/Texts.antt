@@ -10,9 +10,9 @@ use lib.Seq.{drop-drop}
 use lib.Dec.{eqb}
 use borrow.Author.Tests.{eqb-true}
 use Rattle.lists.proofs.Bools.{and_both, never, by_test}
-use Rattle.unicode.specs.Repertoire.{Repertoire}
-use Rattle.unicode.specs.Text.{is_text}
-use Rattle.unicode.proofs.Text.{text_nil, text-append, scan-end}
+use Rattle.repertoire.specs.Repertoire.{Repertoire}
+use Rattle.repertoire.specs.Text.{is_text}
+use Rattle.repertoire.proofs.Text.{text_nil, text-append, scan-end}
 use Rattle.log_model.specs.Change.{Change, begin, end, edit, insert, delete, replace}
 use Rattle.formats.specs.declared.Format.{Format}
 use Rattle.log_model.specs.Layout.{texts_of, ok_change, size_of, texts_at, change_at, whole_at, push, is_some, decode_from, decode_at, decode}

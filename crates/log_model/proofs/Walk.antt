@@ -7,7 +7,7 @@ use mathlib.Core.List.{List, [], ◌∷◌, ◌++◌}
 use lib.ListN.{length, get_or, take, drop, length-append}
 use lib.Seq.{split_at, take-suc, take_all}
 use Rattle.lists.proofs.Bools.{by_less}
-use Rattle.unicode.specs.Repertoire.{Repertoire}
+use Rattle.repertoire.specs.Repertoire.{Repertoire}
 use Rattle.log_model.specs.Change.{Change, begin}
 use Rattle.log_model.specs.Holds.{Listed}
 use Rattle.formats.specs.declared.Format.{Format}

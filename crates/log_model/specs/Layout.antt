@@ -4,8 +4,8 @@ use Rattle.std.specs.Prelude.{ℕ, zero, suc, ◌+◌, ◌-◌, ◌<◌, ◌≡�
 use Rattle.std.proofs.Math.Option.{Option, some, none}
 use Rattle.numbers.specs.Numbers.{top, le, num_at}
 use Rattle.formats.specs.declared.Format.{Format}
-use Rattle.unicode.specs.Repertoire.{Repertoire}
-use Rattle.unicode.specs.Text.{is_text}
+use Rattle.repertoire.specs.Repertoire.{Repertoire}
+use Rattle.repertoire.specs.Text.{is_text}
 use Rattle.log_model.specs.Change.{insert, delete, replace, Change, begin, end, edit}
 
 module _ (F : Format) where

@@ -2,7 +2,7 @@
 use Rattle.std.specs.Prelude.{ℕ, ◌+◌, Bool, true, false, List, [], ◌∷◌, ◌++◌, eqb, length}
 use Rattle.lists.specs.Lists.{all}
 use Rattle.utf8.specs.Encode.{encode}
-use Rattle.unicode.specs.Repertoire.{Repertoire}
+use Rattle.repertoire.specs.Repertoire.{Repertoire}
 use Rattle.cluster.specs.Clusters.{clusters_of}
 use Rattle.log_model.specs.Change.{Edit, insert, delete, replace, Change, begin, end, edit}
 

@@ -7,7 +7,7 @@ use mathlib.Core.List.{List, [], ◌∷◌, reverse, reverse-reverse}
 use lib.Dec.{leb}
 use lib.ListN.{length, drop}
 use borrow.Author.Tests.{le-leb, lt_leb}
-use Rattle.unicode.specs.Repertoire.{Repertoire}
+use Rattle.repertoire.specs.Repertoire.{Repertoire}
 use Rattle.log_model.specs.Change.{insert, delete, replace, Change, begin, end, edit}
 use Rattle.formats.specs.declared.Format.{Format}
 use Rattle.log_model.specs.Layout.{encode_records, encode_texts, Layout}

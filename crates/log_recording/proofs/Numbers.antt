@@ -6,9 +6,9 @@ use mathlib.Core.List.{List, [], ◌∷◌, ◌++◌, append-nil}
 use mathlib.Core.Bool.{true}
 use lib.ListN.{length, length-append}
 use Rattle.lists.proofs.Bools.{and_both}
-use Rattle.unicode.specs.Repertoire.{Repertoire}
-use Rattle.unicode.specs.Text.{is_text}
-use Rattle.unicode.proofs.Text.{text_nil}
+use Rattle.repertoire.specs.Repertoire.{Repertoire}
+use Rattle.repertoire.specs.Text.{is_text}
+use Rattle.repertoire.proofs.Text.{text_nil}
 use Rattle.log_model.specs.Change.{Edit, insert, delete, replace, Change, begin, end, edit, place, old, new}
 use Rattle.numbers.specs.Numbers.{top}
 use Rattle.formats.specs.declared.Format.{Format}

@@ -1,7 +1,7 @@
 -- The dry run of recording: an undo list by what its next record needs to know, and what a change makes of it. No byte is written.
 use Rattle.std.specs.Prelude.{ℕ, ◌+◌, ◌-◌, ◌≤◌, ◌<◌, ◌≡◌, Bool, true, false, cond, ◌&&◌, List, [], ◌∷◌, ◌++◌, reverse, eqb, length, take}
 use Rattle.std.proofs.lemmas.List.Edits.{sets}
-use Rattle.unicode.specs.Repertoire.{Repertoire}
+use Rattle.repertoire.specs.Repertoire.{Repertoire}
 use Rattle.buffer.specs.Edit.{inserted}
 use Rattle.log_model.specs.Change.{Change, begin, end, edit, place, old, new}
 use Rattle.formats.specs.declared.Format.{Format}

@@ -1,6 +1,8 @@
 // Recording a change: the dry run, which says where its record and its texts go, and the writing. undo.rs, Changeset.
+#![tactic(auto)]
+
 ghost use Rattle.std.specs.Prelude.{◌≡◌, true, ◌+◌, ◌≤◌, eqb, length};
-ghost use Rattle.unicode.specs.Repertoire.{catalogue};
+ghost use Rattle.repertoire.specs.Repertoire.{catalogue};
 ghost use Rattle.formats.specs.Formats.{Fit};
 ghost use Rattle.log_records.specs.Walks.{LastAt};
 ghost use Rattle.log_records.specs.Written.{edit_size};
@@ -11,7 +13,7 @@ use formats::Format;
 use log_records::{edit_size, read_record, write_record};
 
 // An undo list by its used lengths and its newest record: 3 Insert, 4 Delete, 5 Replace, 0 any other or none.
-#[derive(Drop)]
+#[derive(Clone, Copy)]
 pub struct Tail {
     pub records: usize,
     pub texts: usize,
@@ -22,7 +24,7 @@ pub struct Tail {
 }
 
 // The list after a change, and where in the texts the change's old text goes.
-#[derive(Drop)]
+#[derive(Clone, Copy)]
 pub struct Noted {
     pub tail: Tail,
     pub at: usize,

@@ -11,9 +11,9 @@ use borrow.Author.Tests.{leb-true, le-leb, eqb-true}
 use Rattle.lists.proofs.Bools.{and_both, by_test, never}
 use Rattle.utf8.specs.Utf8.{tail}
 use Rattle.utf8.specs.Chars.{no_tail}
-use Rattle.unicode.specs.Repertoire.{Repertoire}
-use Rattle.unicode.specs.Text.{is_text}
-use Rattle.unicode.proofs.Text.{text_nil, text-append, text-front}
+use Rattle.repertoire.specs.Repertoire.{Repertoire}
+use Rattle.repertoire.specs.Text.{is_text}
+use Rattle.repertoire.proofs.Text.{text_nil, text-append, text-front}
 use Rattle.formats.specs.declared.Format.{Format}
 use Rattle.log_model.specs.Layout.{ok_change, first_len, size_of, texts_at, change_at, whole_at, is_some, decode_at, decode}
 use Rattle.log_model.proofs.Decode.{KindIs, is-begin, is-end, is-insert, is-delete, is-replace, kind-is, change_begin, change_end}

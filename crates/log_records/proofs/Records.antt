@@ -8,7 +8,7 @@ use lib.Dec.{eqb, leb, ltb}
 use lib.ListN.{length, get_or, drop, length-take, length-append}
 use borrow.Author.Tests.{eqb-true, eqb-false, eq-eqb, ne_eqb, lt-ltb, le-leb, ltb-true, leb-true}
 use Rattle.lists.proofs.Bools.{or_none, by_test, by_less}
-use Rattle.unicode.specs.Repertoire.{Repertoire}
+use Rattle.repertoire.specs.Repertoire.{Repertoire}
 use Rattle.numbers.specs.Numbers.{num_at}
 use Rattle.formats.specs.declared.Format.{Format}
 use Rattle.log_model.specs.Change.{Change, begin, end, edit, insert, delete, replace}

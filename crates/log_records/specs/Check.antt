@@ -1,7 +1,7 @@
 -- The check of a list: the texts of a record.
 use Rattle.std.specs.Prelude.{ℕ, ◌+◌, Bool, ◌&&◌, List, leb, length, take, drop}
-use Rattle.unicode.specs.Repertoire.{Repertoire}
-use Rattle.unicode.specs.Text.{is_text}
+use Rattle.repertoire.specs.Repertoire.{Repertoire}
+use Rattle.repertoire.specs.Text.{is_text}
 
 module _ (R : Repertoire) (ts : List ℕ) (t : ℕ) where
   -- n bytes stand at t, and they are a text

@@ -1,9 +1,11 @@
 // Records: document 01, "Log and ring". A record is read at its place by its kind; a list of changes in bytes is checked, walked over
 // from its front, and written record by record.
+#![tactic(auto)]
+
 ghost use Rattle.std.specs.Prelude.{◌≡◌, true, ◌+◌, ◌≤◌, ◌<◌, length, drop};
 ghost use Rattle.std.proofs.lemmas.List.Edits.{sets};
-ghost use Rattle.unicode.specs.Repertoire.{catalogue};
-ghost use Rattle.unicode.specs.Text.{is_text};
+ghost use Rattle.repertoire.specs.Repertoire.{catalogue};
+ghost use Rattle.repertoire.specs.Text.{is_text};
 ghost use Rattle.log_model.specs.Layout.{size_of, decode, is_some};
 ghost use Rattle.log_model.specs.Holds.{Listed};
 ghost use Rattle.formats.specs.Formats.{Fit, records_max};
@@ -14,11 +16,11 @@ ghost use Rattle.log_records.specs.Written.{record_bytes, edit_size};
 
 use formats::Format;
 use numbers::{read_num, wide, write_num};
-use unicode::check_text;
+use repertoire::check_text;
 use utf8::is_boundary;
 
 // A record by its numbers: the kind 1 to 5, the place, the lengths of the old and of the new text, and its size in bytes.
-#[derive(Drop)]
+#[derive(Clone, Copy)]
 pub struct Record {
     pub kind: usize,
     pub place: usize,
@@ -143,7 +145,7 @@ fn are_texts_at(texts: &[u8], t: usize, old: usize, new: usize) -> bool
 
 // A list by its records: how many they are and where the newest begins; how many Begins stand last and where the first of them
 // begins (begun); where the newest that is no End begins (inside).
-#[derive(Drop)]
+#[derive(Clone, Copy)]
 pub struct Newest {
     pub count: usize,
     pub last: usize,
@@ -188,7 +190,7 @@ impl Newest {
 }
 
 // Whether bytes are a list, and if so what stands at its end.
-#[derive(Drop)]
+#[derive(Clone, Copy)]
 pub struct Looked {
     pub sound: bool,
     pub newest: Newest,
@@ -247,7 +249,7 @@ pub fn check_list(f: Format, records: &[u8], texts: &[u8]) -> Looked
 }
 
 // Where a walk over records ends: how many it passed, and the size of those records and of their texts.
-#[derive(Drop)]
+#[derive(Clone, Copy)]
 pub struct Span {
     pub count: usize,
     pub records: usize,

@@ -5,7 +5,7 @@ use mathlib.Core.List.{List, [], ◌∷◌}
 use Rattle.utf8.specs.Utf8.{first, first_of, one, within}
 use Rattle.utf8.specs.Chars.{chars_from}
 use Rattle.utf8.specs.Encode.{encode}
-use Rattle.unicode.specs.Repertoire.{catalogue, is_alnum, is_control, is_mark}
+use Rattle.repertoire.specs.Repertoire.{catalogue, is_alnum, is_control, is_mark}
 use Rattle.cluster.specs.Clusters.{clusters, joined}
 use Rattle.checks.specs.Outcome.{refused, answered}
 use Rattle.log_model.specs.Change.{Change, begin, end, edit, insert, delete, replace}

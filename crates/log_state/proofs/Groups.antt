@@ -10,7 +10,7 @@ use lib.ListN.{length, take, drop, set, replicate, length-append, length-replica
 use lib.Seq.{sets, length-sets, length-take-le, take-take, take_at}
 use borrow.Author.Tests.{lt-ltb, le-ltb, ne_eqb}
 use Rattle.lists.proofs.Stores.{take-sets}
-use Rattle.unicode.specs.Repertoire.{catalogue}
+use Rattle.repertoire.specs.Repertoire.{catalogue}
 use Rattle.checks.specs.Outcome.{Outcome, answered}
 use Rattle.log_model.specs.Change.{insert, delete, replace, Change, begin, end, edit, turn}
 use Rattle.formats.specs.declared.Format.{Format}

@@ -10,7 +10,7 @@ use lib.ListN.{length, take, drop}
 use lib.Seq.{get_or-drop}
 use borrow.Author.Tests.{ltb-false, lt-ltb, le-ltb, lt_leb, le-leb}
 use Rattle.lists.proofs.Bools.{never, or_none, by_less, and_both}
-use Rattle.unicode.specs.Repertoire.{catalogue}
+use Rattle.repertoire.specs.Repertoire.{catalogue}
 use Rattle.log_model.specs.Change.{Change}
 use Rattle.formats.specs.Formats.{Fit}
 use Rattle.formats.specs.declared.Format.{Format}

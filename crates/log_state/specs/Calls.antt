@@ -2,8 +2,8 @@
 -- it leaves.
 use Rattle.std.specs.Prelude.{ℕ, ◌≤◌, ◌≡◌, Bool, cond, false, not, ◌||◌, List, [], ◌++◌, map, reverse, eqb, length, take, drop}
 use Rattle.std.proofs.Math.Option.{Option, some, none}
-use Rattle.unicode.specs.Repertoire.{Repertoire, catalogue}
-use Rattle.unicode.specs.Text.{is_text, is_char}
+use Rattle.repertoire.specs.Repertoire.{Repertoire, catalogue}
+use Rattle.repertoire.specs.Text.{is_text, is_char}
 use Rattle.checks.specs.Checks.{both, refusal, own_tests}
 use Rattle.checks.specs.Outcome.{Outcome, refused, answered, called}
 use Rattle.log_model.specs.Change.{Edit, insert, delete, replace, Change, turn, place, old, new}

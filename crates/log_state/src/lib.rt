@@ -1,8 +1,10 @@
 // The log: Changeset of undo.rs over two lent buffers. The log's state goes in by value and comes back. Here are the checks of a
 // lent log, and what is done with one that they pass, in any format of its records.
+#![tactic(auto)]
+
 ghost use Rattle.std.specs.Prelude.{◌≡◌, true, false, cond, not, List, reverse, ℕ, ◌+◌, ◌-◌, ◌≤◌, ◌<◌, ltb, length, take, drop};
-ghost use Rattle.unicode.specs.Repertoire.{catalogue};
-ghost use Rattle.unicode.specs.Text.{is_text};
+ghost use Rattle.repertoire.specs.Repertoire.{catalogue};
+ghost use Rattle.repertoire.specs.Text.{is_text};
 ghost use Rattle.cluster.specs.Clusters.{clusters_of};
 ghost use Rattle.checks.specs.Checks.{refusal as Checks·refusal, both, own_tests};
 ghost use Rattle.log_model.specs.Change.{Change, edit};
@@ -26,7 +28,7 @@ use numbers::top_of;
 
 // The used lengths of a list in the two buffers.
 #[repr(C)]
-#[derive(Drop)]
+#[derive(Clone, Copy)]
 pub struct Used {
     pub records: usize,
     pub texts: usize,
@@ -34,7 +36,7 @@ pub struct Used {
 
 // The used lengths of the two lists and the group level.
 #[repr(C)]
-#[derive(Drop)]
+#[derive(Clone, Copy)]
 pub struct Log {
     pub undo: Used,
     pub redo: Used,
@@ -92,7 +94,7 @@ pub fn look(f: Format, records: &[u8], texts: &[u8], log: Log) -> Looked
 }
 
 #[repr(C)]
-#[derive(Drop)]
+#[derive(Clone, Copy)]
 pub struct LogAnswer {
     pub number: u32,
     pub from: usize,
@@ -113,7 +115,7 @@ pub fn says(number: u32, log: Log) -> LogAnswer
 }
 
 // The number of the first check that a lent log meets, 0 where they pass; then also what stands at the end of its undo list.
-#[derive(Drop)]
+#[derive(Clone, Copy)]
 pub struct Checked {
     pub number: u32,
     pub newest: Newest,

@@ -14,7 +14,7 @@ use Rattle.utf8.specs.Chars.{chars_from, chars, valid, boundary}
 use Rattle.utf8.specs.Encode.{size}
 use Rattle.utf8.proofs.Append.{valid-cut}
 use Rattle.utf8.proofs.Boundary.{boundary-take, boundary-drop}
-use Rattle.unicode.specs.Repertoire.{Repertoire}
+use Rattle.repertoire.specs.Repertoire.{Repertoire}
 use Rattle.cluster.specs.Clusters.{clusters, bytes, first_size}
 use Rattle.cluster.proofs.Facts.{bytes-append}
 use Rattle.cluster.proofs.Parts.{cut_chars, first-cut}

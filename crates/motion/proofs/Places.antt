@@ -13,7 +13,7 @@ use Rattle.utf8.specs.Chars.{chars, valid, boundary, start_before}
 use Rattle.utf8.specs.Encode.{size}
 use Rattle.utf8.proofs.Append.{valid-cut}
 use Rattle.utf8.proofs.Boundary.{boundary-zero, boundary-drop, boundary-take, start_none, start-le, start-before}
-use Rattle.unicode.specs.Repertoire.{Repertoire}
+use Rattle.repertoire.specs.Repertoire.{Repertoire}
 use Rattle.cluster.specs.Clusters.{clusters_of, bytes}
 use Rattle.cluster.proofs.Clusters.{clusters-concat}
 use Rattle.cluster.proofs.Facts.{bytes-append}

@@ -9,7 +9,7 @@ use lib.ListN.{length, take, drop, length-append}
 use lib.Seq.{drop-drop, take-nil, take-append-le, take_all, length-take-le}
 use Rattle.lists.specs.Lists.{sum}
 use Rattle.utf8.specs.Chars.{chars, chars_from, boundary}
-use Rattle.unicode.specs.Repertoire.{Repertoire}
+use Rattle.repertoire.specs.Repertoire.{Repertoire}
 use Rattle.cluster.specs.Clusters.{clusters_of, clusters, first_cluster, bytes, first_size}
 use Rattle.cluster.proofs.Clusters.{clusters-concat}
 use Rattle.cluster.proofs.Facts.{sum-bytes}

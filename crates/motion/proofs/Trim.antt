@@ -14,7 +14,7 @@ use Rattle.utf8.specs.Encode.{size}
 use Rattle.utf8.proofs.Chars.{size_pos}
 use Rattle.utf8.proofs.Forms.{first-end}
 use Rattle.utf8.proofs.Ends.{chars-before}
-use Rattle.unicode.specs.Repertoire.{Repertoire}
+use Rattle.repertoire.specs.Repertoire.{Repertoire}
 use Rattle.cluster.specs.Clusters.{clusters_of, first_cluster, bytes, first_size}
 use Rattle.cluster.specs.Facts.{facts}
 use Rattle.cluster.specs.declared.Cluster.{Cluster}

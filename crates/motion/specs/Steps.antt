@@ -2,7 +2,7 @@
 -- backward ones at the text before it.
 use Rattle.std.specs.Prelude.{ℕ, ◌+◌, ◌-◌, cond, ◌||◌, List, map, eqb, leb, length, take, drop}
 use Rattle.lists.specs.Lists.{sum}
-use Rattle.unicode.specs.Repertoire.{Repertoire}
+use Rattle.repertoire.specs.Repertoire.{Repertoire}
 use Rattle.cluster.specs.Clusters.{clusters_of, bytes}
 use Rattle.motion.specs.declared.Found.{Found}
 use Rattle.motion.specs.declared.Found.TheVariants.{At, Nothing}

@@ -1,20 +1,22 @@
 // Places that steps over clusters and searches for a character reach: line_buffer.rs, next_pos, prev_pos and
 // search_char_pos.
+#![tactic(auto)]
+
 ghost use Rattle.std.specs.Prelude.{◌≡◌, true, ◌+◌, ◌≤◌, ◌<◌, length, drop};
 ghost use Rattle.utf8.specs.Chars.{valid, boundary, chars, start_before};
 ghost use Rattle.utf8.specs.Encode.{size};
-ghost use Rattle.unicode.specs.Repertoire.{catalogue};
+ghost use Rattle.repertoire.specs.Repertoire.{catalogue};
 ghost use Rattle.motion.specs.Steps.{next_pos, prev_pos, or_stay};
 ghost use Rattle.motion.specs.Search.{matches, nth_match, after_cluster, match_forward, match_backward, moved, FitsBehind, search_char_pos};
 ghost use Rattle.motion.specs.Trim.{trim_end, skip_whitespace};
 
 use cluster::{next_cluster, prev_cluster};
 use keymap::{CharSearch, RepeatCount};
-use unicode::is_white;
+use repertoire::is_white;
 use utf8::{Decoded, char_size, decode_at, prev_char};
 
 // A place, where there is one.
-#[derive(Drop)]
+#[derive(Clone, Copy)]
 pub enum Found {
     At(usize),
     Nothing,

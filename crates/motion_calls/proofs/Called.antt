@@ -9,7 +9,7 @@ use lib.ListN.{length}
 use Rattle.lists.proofs.Bools.{or_none}
 use Rattle.formats.specs.Formats.{format_for}
 use Rattle.utf8.specs.Chars.{boundary}
-use Rattle.unicode.specs.Repertoire.{Repertoire}
+use Rattle.repertoire.specs.Repertoire.{Repertoire}
 use Rattle.checks.specs.Checks.{Tests, no_tests, both, refusal, lent_text, line_tests, own_tests}
 use Rattle.checks.specs.Answers.{says, line_answer}
 use Rattle.checks.specs.Outcome.{Outcome}

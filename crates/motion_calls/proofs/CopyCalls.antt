@@ -11,7 +11,7 @@ use lib.ListN.{length}
 use Rattle.lists.proofs.Bools.{or_none}
 use Rattle.formats.specs.Formats.{format_for}
 use Rattle.utf8.specs.Chars.{valid, boundary}
-use Rattle.unicode.specs.Repertoire.{Repertoire}
+use Rattle.repertoire.specs.Repertoire.{Repertoire}
 use Rattle.keymap.specs.declared.Movement.{Movement}
 use Rattle.motion_lines.specs.declared.Range.{Range}
 use Rattle.checks.specs.Checks.{Tests, both, refusal, lent_text, own_tests}

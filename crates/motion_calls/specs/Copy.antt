@@ -1,6 +1,6 @@
 -- copy: line_buffer.rs, copy, which answers the text between two places. The call answers the places.
 use Rattle.std.specs.Prelude.{ℕ, true, false, List}
-use Rattle.unicode.specs.Repertoire.{Repertoire}
+use Rattle.repertoire.specs.Repertoire.{Repertoire}
 use Rattle.keymap.specs.Codes.{movement_of}
 use Rattle.keymap.specs.declared.Movement.{Movement}
 use Rattle.keymap.specs.declared.MovementCode.{MovementCode}

@@ -1,7 +1,9 @@
 // The movements of LineBuffer, and copy: calls that are lent a text and change at most the cursor. Any text, cursor, code and number
 // may be handed over: what is unfit is turned away by a number of document 01.
+#![tactic(auto)]
+
 ghost use Rattle.std.specs.Prelude.{◌≡◌};
-ghost use Rattle.unicode.specs.Repertoire.{catalogue};
+ghost use Rattle.repertoire.specs.Repertoire.{catalogue};
 ghost use Rattle.checks.specs.Answers.{line_answer};
 ghost use Rattle.motion_calls.specs.Moves.{next_pos_call, move_forward, move_backward, move_buffer_start, move_buffer_end, move_home, move_end, is_cursor_at_end, is_end_of_input, set_pos};
 ghost use Rattle.motion_calls.specs.Moves.{move_to_line_up, move_to_line_down, move_to_prev_word, move_to_next_word, move_to};
@@ -15,7 +17,7 @@ use keymap::{
 use motion::Found;
 use motion_lines::{Range, end_of_line, line_down, line_up, start_of_line};
 use motion_ranges::{copied, is_foreign, starts_after};
-use unicode::check_char;
+use repertoire::check_char;
 use utf8::is_boundary;
 
 // To a place, unless the cursor is there.

@@ -4,7 +4,7 @@ use mathlib.Core.Bool.{false}
 use mathlib.Core.List.{List}
 use Prim.Native.Nat.{ℕ, ◌+◌}
 use Rattle.lists.specs.Lists.{part}
-use Rattle.unicode.specs.Repertoire.{Repertoire}
+use Rattle.repertoire.specs.Repertoire.{Repertoire}
 use Rattle.layout.specs.Width.{has_tab}
 use Rattle.layout.proofs.Columns.{width-plain}
 use Rattle.motion_lines.specs.Lines.{start_of_line}

@@ -12,7 +12,7 @@ use Rattle.lists.specs.Lists.{sum, part}
 use Rattle.lists.proofs.Bools.{by_test}
 use Rattle.lists.proofs.Parts.{part-tail}
 use Rattle.utf8.proofs.Forms.{first-end}
-use Rattle.unicode.specs.Repertoire.{Repertoire}
+use Rattle.repertoire.specs.Repertoire.{Repertoire}
 use Rattle.cluster.specs.Clusters.{first_cluster, bytes, first_size}
 use Rattle.cluster.specs.Facts.{facts}
 use Rattle.cluster.specs.declared.Cluster.{Cluster}

@@ -13,7 +13,7 @@ use Rattle.utf8.specs.Utf8.{tail}
 use Rattle.utf8.specs.Chars.{valid, boundary, In}
 use Rattle.utf8.proofs.Forms.{within-below, first_one, first-drop}
 use Rattle.utf8.proofs.Boundary.{boundary_test, boundary-zero, boundary_end, boundary-drop, boundary-take, boundary-next}
-use Rattle.unicode.specs.Repertoire.{Repertoire}
+use Rattle.repertoire.specs.Repertoire.{Repertoire}
 use Rattle.motion.specs.Steps.{sizes}
 use Rattle.motion.proofs.Places.{sizes-place, second_at}
 use Rattle.motion.specs.declared.Found.TheVariants.{At, Nothing}

@@ -3,7 +3,7 @@
 use Rattle.std.specs.Prelude.{ℕ, zero, suc, ◌+◌, ◌-◌, cond, List, eqb, ltb, length, take}
 use Rattle.lists.specs.Lists.{sum, part}
 use Rattle.utf8.specs.Chars.{chars}
-use Rattle.unicode.specs.Repertoire.{Repertoire}
+use Rattle.repertoire.specs.Repertoire.{Repertoire}
 use Rattle.layout.specs.Width.{width, plain_width}
 use Rattle.motion.specs.Steps.{sizes}
 use Rattle.motion.specs.declared.Found.{Found}

@@ -1,6 +1,8 @@
 // Lines: line_buffer.rs, start_of_line, end_of_line, n_lines_up, n_lines_down, move_to_line_up and move_to_line_down.
+#![tactic(auto)]
+
 ghost use Rattle.std.specs.Prelude.{◌≡◌, ◌+◌, ◌-◌, ◌≤◌, ◌<◌, length};
-ghost use Rattle.unicode.specs.Repertoire.{catalogue};
+ghost use Rattle.repertoire.specs.Repertoire.{catalogue};
 ghost use Rattle.motion_lines.specs.Lines.{start_of_line, end_of_line, behind_line, lines_up, lines_down, n_lines_up, n_lines_down};
 ghost use Rattle.motion_lines.specs.Columns.{offset, nth_cluster, line_above, line_below, line_up, line_down};
 
@@ -10,14 +12,14 @@ use layout::width;
 use motion::Found;
 
 // The two places of a part of a text, where there is one.
-#[derive(Drop)]
+#[derive(Clone, Copy)]
 pub enum Range {
     Places(usize, usize),
     Nowhere,
 }
 
 // Two places of a text: those of a line, without its \n, or of some lines.
-#[derive(Drop)]
+#[derive(Clone, Copy)]
 pub struct Span {
     pub start: usize,
     pub end: usize,

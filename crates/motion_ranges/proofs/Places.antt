@@ -11,7 +11,7 @@ use lib.ListN.{length}
 use Rattle.utf8.specs.Chars.{valid, boundary, In}
 use Rattle.utf8.specs.Encode.{size}
 use Rattle.utf8.proofs.Boundary.{boundary-zero, boundary_end}
-use Rattle.unicode.specs.Repertoire.{Repertoire}
+use Rattle.repertoire.specs.Repertoire.{Repertoire}
 use Rattle.keymap.specs.declared.Word.TheVariants.{Big}
 use Rattle.keymap.specs.declared.At.TheVariants.{Start}
 use Rattle.keymap.specs.declared.CharSearch.{CharSearch}

@@ -9,7 +9,7 @@ use denote.Enum.Declared.{tag_of}
 use lib.ListN.{length}
 use types.Run.{OneOf, miss}
 use Rattle.utf8.specs.Encode.{size}
-use Rattle.unicode.specs.Repertoire.{Repertoire}
+use Rattle.repertoire.specs.Repertoire.{Repertoire}
 use Rattle.keymap.specs.declared.CharSearch.{CharSearch}
 use Rattle.keymap.specs.declared.CharSearch.TheVariants.{BackwardAfter}
 use Rattle.keymap.specs.declared.Movement.{Movement}

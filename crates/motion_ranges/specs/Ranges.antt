@@ -1,8 +1,8 @@
 -- The range of a movement: the two places between which copy answers the text and most kills cut it. line_buffer.rs, copy.
 use Rattle.std.specs.Prelude.{ℕ, ◌+◌, Bool, true, false, cond, ◌&&◌, not, List, eqb, ltb, length}
 use Rattle.utf8.specs.Encode.{size}
-use Rattle.unicode.specs.Repertoire.{Repertoire}
-use Rattle.unicode.specs.Text.{is_char}
+use Rattle.repertoire.specs.Repertoire.{Repertoire}
+use Rattle.repertoire.specs.Text.{is_char}
 use Rattle.keymap.specs.declared.Word.TheVariants.{Big}
 use Rattle.keymap.specs.declared.At.TheVariants.{Start}
 use Rattle.keymap.specs.declared.CharSearch.{CharSearch}

@@ -1,8 +1,10 @@
 // The range of a movement, for all fourteen: the two places between which copy answers the text and most kills cut it.
 // line_buffer.rs, copy.
+#![tactic(auto)]
+
 ghost use Rattle.std.specs.Prelude.{◌≡◌, true, ◌+◌, ◌≤◌, ◌<◌, length};
 ghost use Rattle.utf8.specs.Chars.{valid, boundary};
-ghost use Rattle.unicode.specs.Repertoire.{catalogue};
+ghost use Rattle.repertoire.specs.Repertoire.{catalogue};
 ghost use Rattle.motion_ranges.specs.Ranges.{up_to, back_to, between as Ranges·between, search_range, range_of, copied as Ranges·copied};
 ghost use Rattle.motion_ranges.specs.Ranges.{starts_after, char_of, is_foreign};
 
@@ -10,7 +12,7 @@ use keymap::{At, CharSearch, Movement, RepeatCount, Word};
 use motion::{Found, match_backward, match_forward, next_pos, prev_pos, search_char_pos};
 use motion_lines::{Range, end_of_line, n_lines_down, n_lines_up, start_of_line};
 use motion_words::{next_word_pos, prev_word_pos};
-use unicode::check_char;
+use repertoire::check_char;
 use utf8::char_size;
 
 // Two places that differ.

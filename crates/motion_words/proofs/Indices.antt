@@ -10,7 +10,7 @@ use lib.Seq.{drop-drop, length-take-le}
 use Rattle.lists.specs.Lists.{last_or, sum}
 use Rattle.lists.proofs.Bools.{by_less}
 use Rattle.utf8.specs.Chars.{chars, chars_from, boundary}
-use Rattle.unicode.specs.Repertoire.{Repertoire}
+use Rattle.repertoire.specs.Repertoire.{Repertoire}
 use Rattle.cluster.specs.Clusters.{clusters, clusters_of, first_cluster, last_cluster, bytes, first_size}
 use Rattle.cluster.specs.Facts.{facts}
 use Rattle.cluster.specs.declared.Cluster.{Cluster}

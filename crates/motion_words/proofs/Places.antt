@@ -17,7 +17,7 @@ use Rattle.utf8.specs.Encode.{size}
 use Rattle.utf8.proofs.Chars.{first-within, chars_cons}
 use Rattle.utf8.proofs.Append.{valid-cut}
 use Rattle.utf8.proofs.Boundary.{boundary_end, boundary-drop, boundary-take}
-use Rattle.unicode.specs.Repertoire.{Repertoire}
+use Rattle.repertoire.specs.Repertoire.{Repertoire}
 use Rattle.cluster.specs.Clusters.{clusters_of, bytes}
 use Rattle.cluster.proofs.Clusters.{clusters-concat}
 use Rattle.cluster.proofs.Facts.{bytes-append}

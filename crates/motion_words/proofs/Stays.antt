@@ -6,7 +6,7 @@ use mathlib.Core.Bool.{true}
 use mathlib.Core.List.{List}
 use lib.ListN.{length}
 use Rattle.utf8.specs.Chars.{valid, boundary}
-use Rattle.unicode.specs.Repertoire.{Repertoire}
+use Rattle.repertoire.specs.Repertoire.{Repertoire}
 use Rattle.keymap.specs.declared.Word.TheVariants.{Emacs}
 use Rattle.keymap.specs.declared.At.TheVariants.{AfterEnd}
 use Rattle.motion.specs.Steps.{next_pos, prev_pos, or_stay}

@@ -7,7 +7,7 @@ use native.Mathlib.Omega.{arith}
 use lib.ListN.{length, take, drop}
 use lib.Seq.{take-length}
 use Rattle.utf8.specs.Chars.{boundary}
-use Rattle.unicode.specs.Repertoire.{Repertoire}
+use Rattle.repertoire.specs.Repertoire.{Repertoire}
 use Rattle.cluster.specs.Clusters.{first_size}
 use Rattle.cluster.specs.declared.Cluster.{Cluster}
 use Rattle.keymap.specs.declared.Word.{Word}

@@ -1,6 +1,6 @@
 -- A movement's place in a text, or the place where it began: line_buffer.rs, where a movement that finds nothing stays.
 use Rattle.std.specs.Prelude.{ℕ, List}
-use Rattle.unicode.specs.Repertoire.{Repertoire}
+use Rattle.repertoire.specs.Repertoire.{Repertoire}
 use Rattle.keymap.specs.declared.Word.TheVariants.{Emacs}
 use Rattle.keymap.specs.declared.At.TheVariants.{AfterEnd}
 use Rattle.motion.specs.Steps.{next_pos, prev_pos, or_stay}

@@ -1,7 +1,7 @@
 -- Going over the clusters of a part, n times as far as the next stop: the two loops that next_word_pos and prev_word_pos of line_buffer.rs share.
 -- The forward motion goes over grapheme_indices, the backward one over the same list reversed.
 use Rattle.std.specs.Prelude.{ℕ, zero, suc, ◌+◌, Bool, cond, List, [], ◌∷◌}
-use Rattle.unicode.specs.Repertoire.{Repertoire}
+use Rattle.repertoire.specs.Repertoire.{Repertoire}
 use Rattle.cluster.specs.Clusters.{clusters_of, bytes}
 use Rattle.cluster.specs.Facts.{facts}
 use Rattle.cluster.specs.declared.Cluster.{Cluster}

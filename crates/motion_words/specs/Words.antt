@@ -1,6 +1,6 @@
 -- Word motions: line_buffer.rs, prev_word_pos and next_word_pos.
 use Rattle.std.specs.Prelude.{ℕ, ◌+◌, Bool, true, false, cond, List, reverse, eqb, length, take, drop}
-use Rattle.unicode.specs.Repertoire.{Repertoire}
+use Rattle.repertoire.specs.Repertoire.{Repertoire}
 use Rattle.keymap.specs.declared.Word.{Word}
 use Rattle.keymap.specs.declared.At.{At}
 use Rattle.keymap.specs.declared.At.TheVariants.{Start, BeforeEnd, AfterEnd}

@@ -1,8 +1,10 @@
 // Word motions: line_buffer.rs, prev_word_pos and next_word_pos with their rules. Each leaves both loops when the text runs
 // out. Then the place that a movement over clusters or words comes to, or the place where it began.
+#![tactic(auto)]
+
 ghost use Rattle.std.specs.Prelude.{◌≡◌, true, ◌+◌, ◌≤◌, ◌<◌, length};
 ghost use Rattle.utf8.specs.Chars.{valid, boundary};
-ghost use Rattle.unicode.specs.Repertoire.{catalogue};
+ghost use Rattle.repertoire.specs.Repertoire.{catalogue};
 ghost use Rattle.cluster.specs.Clusters.{first_size};
 ghost use Rattle.motion_words.specs.Rules.{is_word_char, is_other_char, is_start_of_word, stops_at, is_after_end, lands_behind};
 ghost use Rattle.motion_words.specs.Words.{lands_on, is_before_end, next_word, next_word_pos, prev_word, prev_word_pos};
@@ -14,7 +16,7 @@ use motion::{Found, next_pos, or_stay, prev_pos};
 
 // Where going over clusters came to: the place found, 0 where there is none; and the start of the last cluster read where
 // the text ran out behind it, else 0.
-#[derive(Drop)]
+#[derive(Clone, Copy)]
 pub struct Landing {
     pub found: usize,
     pub last: usize,

@@ -1,4 +1,6 @@
 // Numbers of some bytes, little-endian: document 01, "Log and ring". The log's records and the ring's lengths are written in them.
+#![tactic(auto)]
+
 ghost use Rattle.std.specs.Prelude.{◌≡◌, ◌+◌, ◌≤◌, ◌<◌, length};
 ghost use Rattle.std.proofs.lemmas.List.Edits.{sets};
 ghost use Rattle.numbers.specs.Numbers.{Width, top, le, num_at};

@@ -1,7 +1,9 @@
 // The scans of a text and of a log, exported for the benchmark in bench/ alone.
+#![tactic(auto)]
+
 ghost use Rattle.std.specs.Prelude.{◌≡◌, false};
-ghost use Rattle.unicode.specs.Repertoire.{catalogue};
-ghost use Rattle.unicode.specs.Text.{is_text};
+ghost use Rattle.repertoire.specs.Repertoire.{catalogue};
+ghost use Rattle.repertoire.specs.Text.{is_text};
 ghost use Rattle.formats.specs.Formats.{log_format};
 ghost use Rattle.log_state.specs.Calls.{lent, checked};
 
@@ -12,7 +14,7 @@ use log_state::Log;
 pub extern "C" fn tlf_bench_check_text(s: &[u8]) -> bool
     ensures { result ≡ is_text catalogue s.now }
 {
-    unicode::check_text(s)
+    repertoire::check_text(s)
 }
 
 // Checks 2 and 8 of a lent log.

@@ -9,8 +9,8 @@ use lib.ListN.{length}
 use borrow.Author.Tests.{eqb-true, le-leb, lt_leb}
 use Rattle.lists.proofs.Bools.{by_test}
 use Rattle.utf8.specs.Chars.{In}
-use Rattle.unicode.specs.Repertoire.{Repertoire}
-use Rattle.unicode.specs.Text.{is_text}
+use Rattle.repertoire.specs.Repertoire.{Repertoire}
+use Rattle.repertoire.specs.Text.{is_text}
 use Rattle.checks.specs.Outcome.{leaves}
 use Rattle.log_model.specs.Change.{Change, begin, end, edit, place, old, turn}
 use Rattle.formats.specs.declared.Format.{Format}

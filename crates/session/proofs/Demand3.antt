@@ -6,9 +6,9 @@ use mathlib.Core.Bool.{true, false}
 use mathlib.Core.List.{List, [], ◌∷◌}
 use lib.ListN.{length}
 use Rattle.utf8.specs.Chars.{In}
-use Rattle.unicode.specs.Repertoire.{Repertoire, Lawful, catalogue}
-use Rattle.unicode.specs.Text.{is_text}
-use Rattle.unicode.proofs.Catalogue.{catalogue_lawful}
+use Rattle.repertoire.specs.Repertoire.{Repertoire, Lawful, catalogue}
+use Rattle.repertoire.specs.Text.{is_text}
+use Rattle.repertoire.proofs.Catalogue.{catalogue_lawful}
 use Rattle.checks.specs.Checks.{own_tests}
 use Rattle.checks.specs.Outcome.{Outcome, called, number_in, leaves}
 use Rattle.checks.specs.declared.Line.{Line}

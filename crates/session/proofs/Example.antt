@@ -7,8 +7,8 @@ use lib.ListN.{length}
 use Rattle.utf8.specs.Utf8.{within, one, two, lead3, three, lead4, four, first_of, first}
 use Rattle.utf8.specs.Chars.{chars_from, valid_from, start_before}
 use Rattle.utf8.specs.Encode.{scalar, size, encode}
-use Rattle.unicode.specs.Repertoire.{catalogue, is_member, is_control, is_mark, is_alnum}
-use Rattle.unicode.specs.Text.{is_text, is_char}
+use Rattle.repertoire.specs.Repertoire.{catalogue, is_member, is_control, is_mark, is_alnum}
+use Rattle.repertoire.specs.Text.{is_text, is_char}
 use Rattle.checks.specs.Outcome.{answered}
 use Rattle.checks.specs.Checks.{refusal}
 use Rattle.log_model.specs.Change.{Change, begin, end, edit, insert, delete}

@@ -7,7 +7,7 @@ use lib.ListN.{length}
 use Rattle.formats.specs.declared.Format.{Format}
 use Rattle.formats.specs.Formats.{log_format}
 use Rattle.formats.proofs.Formats.{format-same}
-use Rattle.unicode.specs.Repertoire.{Repertoire}
+use Rattle.repertoire.specs.Repertoire.{Repertoire}
 use Rattle.checks.specs.Checks.{own_tests}
 use Rattle.edit.specs.Calls.{Lent, format_of, checked}
 use Rattle.calls.specs.Calls.{Asked, edit, move, log, undo, redo, cancel}

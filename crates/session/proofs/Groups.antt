@@ -9,7 +9,7 @@ use lib.Dec.{ltb}
 use lib.ListN.{length}
 use borrow.Author.Tests.{lt_leb, ne_eqb}
 use Rattle.lists.proofs.Bools.{and_both, by_test}
-use Rattle.unicode.specs.Repertoire.{Repertoire}
+use Rattle.repertoire.specs.Repertoire.{Repertoire}
 use Rattle.checks.specs.Checks.{Tests, later_number, refusal, both, own_tests}
 use Rattle.checks.specs.Outcome.{Outcome, refused, called, leaves}
 use Rattle.log_model.specs.Change.{Change, begin, end, edit}

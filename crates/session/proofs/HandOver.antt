@@ -8,7 +8,7 @@ use mathlib.Core.List.{List, [], ◌∷◌, map, reverse}
 use mathlib.Core.Option.{Option, some, none}
 use lib.Dec.{eqb, leb}
 use lib.ListN.{length, take, length-append, length-reverse}
-use Rattle.unicode.specs.Repertoire.{Repertoire}
+use Rattle.repertoire.specs.Repertoire.{Repertoire}
 use Rattle.checks.specs.declared.Line.{Line}
 use Rattle.checks.specs.declared.LineAnswer.{LineAnswer}
 use Rattle.checks.specs.Answers.{line_answer}

@@ -8,8 +8,8 @@ use lib.Dec.{ltb}
 use lib.ListN.{length, length-append, length-reverse}
 use borrow.Author.Tests.{ltb-true}
 use Rattle.lists.proofs.Bools.{and_both}
-use Rattle.unicode.specs.Repertoire.{Repertoire}
-use Rattle.unicode.specs.Text.{is_text}
+use Rattle.repertoire.specs.Repertoire.{Repertoire}
+use Rattle.repertoire.specs.Text.{is_text}
 use Rattle.checks.specs.Checks.{own_tests}
 use Rattle.log_model.specs.Change.{Edit, insert, delete, replace, Change, begin, end, edit, old, new, turn}
 use Rattle.numbers.specs.Numbers.{top}

@@ -8,9 +8,9 @@ use lib.ListN.{length, length-append}
 use lib.Seq.{take-append_seam, drop-append_seam, take-append-add, drop-append-add}
 use Rattle.utf8.specs.Chars.{boundary, In, valid}
 use Rattle.utf8.proofs.Append.{valid-append}
-use Rattle.unicode.specs.Repertoire.{Repertoire}
-use Rattle.unicode.specs.Text.{is_text}
-use Rattle.unicode.proofs.Text.{text-append, text-valid}
+use Rattle.repertoire.specs.Repertoire.{Repertoire}
+use Rattle.repertoire.specs.Text.{is_text}
+use Rattle.repertoire.proofs.Text.{text-append, text-valid}
 use Rattle.log_model.specs.Change.{Edit, insert, delete, replace, edit, place, old, new, flipped}
 use Rattle.edit.specs.Plan.{splice}
 use Rattle.undo_step.specs.UndoStep.{StepState, done, exchanging, undoing}

@@ -9,9 +9,9 @@ use lib.ListN.{length}
 use borrow.Author.Tests.{ltb-false, not-false}
 use Rattle.utf8.specs.Chars.{valid, boundary, In}
 use Rattle.utf8.proofs.Boundary.{boundary-zero, boundary_end}
-use Rattle.unicode.specs.Repertoire.{Repertoire}
-use Rattle.unicode.specs.Text.{is_text, is_char}
-use Rattle.unicode.proofs.Text.{text-valid}
+use Rattle.repertoire.specs.Repertoire.{Repertoire}
+use Rattle.repertoire.specs.Text.{is_text, is_char}
+use Rattle.repertoire.proofs.Text.{text-valid}
 use Rattle.keymap.specs.Codes.{word_of, at_of, search_of, movement_of}
 use Rattle.keymap.specs.declared.WordCode.{WordCode}
 use Rattle.keymap.specs.declared.WordCode.TheVariants as word

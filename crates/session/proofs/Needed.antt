@@ -5,8 +5,8 @@ use Prim.Native.Nat.{ℕ}
 use Rattle.utf8.specs.Utf8.{within, one, two, lead3, three, lead4, four, first_of, first}
 use Rattle.utf8.specs.Chars.{chars_from, valid_from, start_before}
 use Rattle.utf8.specs.Encode.{scalar, size, encode}
-use Rattle.unicode.specs.Repertoire.{is_member, is_control, is_mark, is_alnum}
-use Rattle.unicode.specs.Text.{is_text, is_char}
+use Rattle.repertoire.specs.Repertoire.{is_member, is_control, is_mark, is_alnum}
+use Rattle.repertoire.specs.Text.{is_text, is_char}
 use Rattle.cluster.specs.Clusters.{joined, clusters}
 use Rattle.motion.specs.Steps.{sizes, prev_pos}
 use Rattle.motion_ranges.specs.Ranges.{copied}

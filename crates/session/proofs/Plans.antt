@@ -8,8 +8,8 @@ use lib.ListN.{length}
 use borrow.Author.Tests.{ltb-false, not-false}
 use Rattle.lists.proofs.Bools.{never}
 use Rattle.utf8.specs.Chars.{boundary, In}
-use Rattle.unicode.specs.Repertoire.{Repertoire, Lawful}
-use Rattle.unicode.specs.Text.{is_text, is_char}
+use Rattle.repertoire.specs.Repertoire.{Repertoire, Lawful}
+use Rattle.repertoire.specs.Text.{is_text, is_char}
 use Rattle.keymap.specs.Codes.{movement_of}
 use Rattle.keymap.specs.declared.Movement.{Movement}
 use Rattle.keymap.specs.declared.Movement.TheVariants as m

@@ -12,9 +12,9 @@ use Rattle.lists.specs.Lists.{part}
 use Rattle.lists.proofs.Bools.{and_both, or_none, by_test}
 use Rattle.lists.proofs.Parts.{halves}
 use Rattle.utf8.specs.Chars.{In}
-use Rattle.unicode.specs.Repertoire.{Repertoire}
-use Rattle.unicode.specs.Text.{is_text}
-use Rattle.unicode.proofs.Text.{text-append, text-cut, text_nil}
+use Rattle.repertoire.specs.Repertoire.{Repertoire}
+use Rattle.repertoire.specs.Text.{is_text}
+use Rattle.repertoire.proofs.Text.{text-append, text-cut, text_nil}
 use Rattle.checks.specs.Outcome.{Outcome, refused, answered, leaves}
 use Rattle.log_model.specs.Change.{Edit, insert, delete, replace, Change, begin, end, edit, place, old, new}
 use Rattle.formats.specs.declared.Format.{Format}

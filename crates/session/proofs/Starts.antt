@@ -7,7 +7,7 @@ use mathlib.Core.List.{List, [], map, reverse}
 use lib.ListN.{length, take}
 use lib.Seq.{length-take-le}
 use Rattle.lists.proofs.Bools.{or_none}
-use Rattle.unicode.specs.Repertoire.{Repertoire}
+use Rattle.repertoire.specs.Repertoire.{Repertoire}
 use Rattle.checks.specs.Checks.{both, own_tests}
 use Rattle.checks.proofs.Fit.{Fit, Passed, fit}
 use Rattle.log_model.specs.Change.{Change, turn}

@@ -7,8 +7,8 @@ use mathlib.Core.List.{List, [], ◌∷◌}
 use mathlib.Core.Option.{some}
 use lib.ListN.{length}
 use Rattle.utf8.specs.Chars.{In}
-use Rattle.unicode.specs.Repertoire.{Repertoire, Lawful}
-use Rattle.unicode.specs.Text.{is_text}
+use Rattle.repertoire.specs.Repertoire.{Repertoire, Lawful}
+use Rattle.repertoire.specs.Text.{is_text}
 use Rattle.checks.specs.Checks.{both, line_tests, own_tests}
 use Rattle.checks.specs.Outcome.{Outcome, called, leaves}
 use Rattle.log_model.specs.Change.{Change, begin as Change·begin, end as Change·end, edit as Change·edit}

@@ -8,7 +8,7 @@ use lib.Dec.{eqb}
 use lib.ListN.{length}
 use Rattle.lists.proofs.Bools.{by_test}
 use Rattle.utf8.specs.Chars.{In}
-use Rattle.unicode.specs.Repertoire.{Repertoire}
+use Rattle.repertoire.specs.Repertoire.{Repertoire}
 use Rattle.checks.specs.Outcome.{Outcome, refused, answered, number_in, leaves}
 use Rattle.log_model.specs.Change.{Change, begin, end, edit}
 use Rattle.formats.specs.declared.Format.{Format}

@@ -1,7 +1,7 @@
 -- The calls of the list of demand 3: document 01's (calls/specs/Calls), and a key. Order 1 of document 02: "In demands 1 and 3 a number that these orders
 -- add counts as 01's, and a key or added call as the calls it stands for." What each entry answers, and its contract.
 use Rattle.std.specs.Prelude.{ℕ, List}
-use Rattle.unicode.specs.Repertoire.{Repertoire}
+use Rattle.repertoire.specs.Repertoire.{Repertoire}
 use Rattle.edit.specs.Calls.{Lent}
 use Rattle.kill_ring.specs.Calls as rings
 use Rattle.calls.specs.Calls as calls

@@ -1,6 +1,6 @@
 -- Demand 3: what holds of undo and redo after every run, said of answers and of the bytes in the buffers.
 use Rattle.std.specs.Prelude.{ℕ, ◌+◌, ◌≤◌, ◌≡◌, false, List, [], ◌∷◌, map, length}
-use Rattle.unicode.specs.Repertoire.{Repertoire}
+use Rattle.repertoire.specs.Repertoire.{Repertoire}
 use Rattle.checks.specs.Checks.{own_tests}
 use Rattle.edit.specs.Calls.{Lent, format_of, checked}
 use Rattle.session.specs.Calls.{undo, redo}

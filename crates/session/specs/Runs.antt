@@ -1,7 +1,7 @@
 -- A run of the program: calls on one text, cursor and log, one after the other, each known by the contract of its entry for C alone. Document 01, "The list of
 -- demand 3", said of answers and of the bytes in the buffers; keys (order 1 of document 02) are calls of the list.
 use Rattle.std.specs.Prelude.{ℕ, ◌+◌, ◌≤◌, ◌≡◌, cond, List, [], ◌∷◌, eqb, leb, length, take}
-use Rattle.unicode.specs.Repertoire.{Repertoire}
+use Rattle.repertoire.specs.Repertoire.{Repertoire}
 use Rattle.checks.specs.declared.Line.{Line}
 use Rattle.formats.specs.declared.Format.{Format}
 use Rattle.log_state.specs.declared.Log.{Log}

@@ -8,7 +8,7 @@ use lib.Seq.{sets}
 use borrow.Author.Tests.{lt-ltb, le-ltb}
 use Rattle.lists.proofs.Bools.{by_less}
 use Rattle.formats.specs.declared.Format.{Format}
-use Rattle.unicode.specs.Repertoire.{Repertoire}
+use Rattle.repertoire.specs.Repertoire.{Repertoire}
 use Rattle.checks.specs.Checks.{lower, refusal, text_tests}
 use Rattle.checks.specs.Answers.{value_answer}
 use Rattle.checks.specs.declared.ValueAnswer.{ValueAnswer}

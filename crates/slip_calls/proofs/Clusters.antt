@@ -11,7 +11,7 @@ use Rattle.utf8.specs.Chars.{chars, valid}
 use Rattle.utf8.specs.Encode.{encode_all}
 use Rattle.utf8.proofs.Append.{valid-cut}
 use Rattle.utf8.proofs.Encode.{encode-chars}
-use Rattle.unicode.specs.Repertoire.{Repertoire}
+use Rattle.repertoire.specs.Repertoire.{Repertoire}
 use Rattle.cluster.specs.Clusters.{clusters_of, first_cluster, bytes, first_size}
 use Rattle.cluster.specs.Facts.{facts}
 use Rattle.cluster.specs.declared.Cluster.{Cluster}

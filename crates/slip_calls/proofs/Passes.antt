@@ -10,8 +10,8 @@ use Rattle.lists.specs.Lists.{part}
 use Rattle.lists.proofs.Stores.{sets-append}
 use Rattle.utf8.specs.Utf8.{within}
 use Rattle.utf8.specs.Chars.{valid}
-use Rattle.unicode.specs.Repertoire.{catalogue, is_white}
-use Rattle.unicode.proofs.Catalogue.{catalogue_lawful}
+use Rattle.repertoire.specs.Repertoire.{catalogue, is_white}
+use Rattle.repertoire.proofs.Catalogue.{catalogue_lawful}
 use Rattle.cluster.specs.Clusters.{clusters_of}
 use Rattle.slip_model.specs.declared.Filled.{Filled}
 use Rattle.slip_model.specs.declared.Filled.TheVariants.{Fresh}

@@ -9,7 +9,7 @@ use lib.ListN.{length, drop, drop_of_length-le}
 use borrow.Author.Tests.{le-leb, lt_leb}
 use Rattle.lists.specs.Lists.{any, concat, part}
 use Rattle.utf8.specs.Chars.{chars_from, valid}
-use Rattle.unicode.specs.Repertoire.{Repertoire}
+use Rattle.repertoire.specs.Repertoire.{Repertoire}
 use Rattle.cluster.specs.Clusters.{clusters, clusters_of, bytes}
 use Rattle.cluster.specs.declared.Cluster.{Cluster}
 use Rattle.cluster.proofs.Facts.{bytes-append}

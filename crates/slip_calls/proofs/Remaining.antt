@@ -12,7 +12,7 @@ use Rattle.lists.proofs.Bools.{by_test}
 use Rattle.lists.proofs.Every.{Every, every_weaken}
 use Rattle.utf8.specs.Encode.{encode, encode_all}
 use Rattle.utf8.proofs.Encode.{encode_all-append}
-use Rattle.unicode.specs.Repertoire.{Repertoire, Lawful}
+use Rattle.repertoire.specs.Repertoire.{Repertoire, Lawful}
 use Rattle.cluster.specs.Clusters.{clusters, clusters_of}
 use Rattle.slip_model.specs.declared.Filled.{Filled}
 use Rattle.slip_model.specs.declared.Filled.TheVariants.{Fresh, Blank, UpTo}

@@ -14,7 +14,7 @@ use Rattle.lists.proofs.Every.{Every}
 use Rattle.utf8.specs.Chars.{chars, chars_from, valid}
 use Rattle.utf8.specs.Encode.{encode_all}
 use Rattle.utf8.proofs.Encode.{encode-chars}
-use Rattle.unicode.specs.Repertoire.{Repertoire, Lawful}
+use Rattle.repertoire.specs.Repertoire.{Repertoire, Lawful}
 use Rattle.cluster.specs.Clusters.{clusters, clusters_of, bytes}
 use Rattle.cluster.specs.declared.Cluster.{Cluster}
 use Rattle.cluster.proofs.Clusters.{clusters-concat}

@@ -2,7 +2,7 @@
 use Rattle.std.specs.Prelude.{ℕ, zero, suc, ◌≡◌, cond, List, ltb, length}
 use Rattle.std.proofs.lemmas.List.Edits.{sets}
 use Rattle.formats.specs.declared.Format.{Format}
-use Rattle.unicode.specs.Repertoire.{Repertoire}
+use Rattle.repertoire.specs.Repertoire.{Repertoire}
 use Rattle.checks.specs.Checks.{Tests, no_tests, with_later, both, refusal, text_tests}
 use Rattle.checks.specs.Answers.{value_answer}
 use Rattle.checks.specs.declared.ValueAnswer.{ValueAnswer}

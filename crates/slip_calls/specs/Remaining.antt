@@ -2,7 +2,7 @@
 use Rattle.std.specs.Prelude.{ℕ, ◌-◌, List, [], ◌∷◌, ◌++◌, map}
 use Rattle.lists.specs.Lists.{concat}
 use Rattle.utf8.specs.Encode.{encode_all}
-use Rattle.unicode.specs.Repertoire.{Repertoire}
+use Rattle.repertoire.specs.Repertoire.{Repertoire}
 use Rattle.slip_model.specs.declared.Filled.{Filled}
 use Rattle.slip_model.specs.declared.Filled.TheVariants.{Fresh, Blank, UpTo}
 use Rattle.slip_model.specs.Slip.{Row, columns, Line, with, items_of, lines_from, spaces, printed}

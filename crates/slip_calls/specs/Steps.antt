@@ -2,7 +2,7 @@
 use Rattle.std.specs.Prelude.{ℕ, ◌≤◌, ◌<◌, ◌≡◌, true, List, ◌++◌, length, drop}
 use Rattle.lists.specs.Lists.{part}
 use Rattle.utf8.specs.Chars.{valid}
-use Rattle.unicode.specs.Repertoire.{Repertoire}
+use Rattle.repertoire.specs.Repertoire.{Repertoire}
 use Rattle.cluster.specs.Clusters.{clusters_of}
 use Rattle.slip_model.specs.declared.Filled.{Filled}
 use Rattle.slip_calls.specs.declared.Step.{Step}

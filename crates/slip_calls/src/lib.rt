@@ -1,11 +1,13 @@
 // Order 2 of document 02: a text as a slip of 60 columns on a lent page. One pass adds up the slip's length, and a second one
 // writes it; both go by the same steps.
+#![tactic(auto)]
+
 ghost use Rattle.std.specs.Prelude.{◌≡◌, true, ◌+◌, ◌≤◌, ◌<◌, eqb, length, drop};
 ghost use Rattle.std.proofs.lemmas.List.Edits.{sets};
 ghost use Rattle.lists.specs.Lists.{any, part};
 ghost use Rattle.formats.specs.Formats.{format_for};
 ghost use Rattle.utf8.specs.Chars.{valid};
-ghost use Rattle.unicode.specs.Repertoire.{catalogue};
+ghost use Rattle.repertoire.specs.Repertoire.{catalogue};
 ghost use Rattle.slip_model.specs.Slip.{spaced as Slip·spaced, slip as Slip·slip};
 ghost use Rattle.slip_calls.specs.Places.{filled_to, space_before, line_end, place_for, white_place, closing_place, placed};
 ghost use Rattle.slip_calls.specs.Pieces.{PieceAt};
@@ -19,14 +21,14 @@ use layout::width;
 use slip_model::Filled;
 
 // Where a piece of a word ends, and its columns.
-#[derive(Drop)]
+#[derive(Clone, Copy)]
 pub struct Piece {
     pub end: usize,
     pub columns: usize,
 }
 
 // What stands on the page in front of a word, or at a line's end: spaces, and a \n or none; and how far the line is filled then.
-#[derive(Drop)]
+#[derive(Clone, Copy)]
 pub struct Place {
     pub spaces: usize,
     pub newline: bool,
@@ -34,7 +36,7 @@ pub struct Place {
 }
 
 // What a step prints: a place, and the bytes of the text between two places. The text goes on behind them.
-#[derive(Drop)]
+#[derive(Clone, Copy)]
 pub struct Step {
     pub place: Place,
     pub from: usize,

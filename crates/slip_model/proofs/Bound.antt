@@ -20,9 +20,9 @@ use Rattle.utf8.proofs.Chars.{chars_step, chars-bad, size_pos, first-within}
 use Rattle.utf8.proofs.Append.{by_chars}
 use Rattle.utf8.proofs.Encode.{size_1}
 use Rattle.utf8.proofs.Forms.{within-below}
-use Rattle.unicode.specs.Repertoire.{Repertoire, Lawful, catalogue, is_mark}
-use Rattle.unicode.proofs.Widths.{width-most}
-use Rattle.unicode.proofs.Catalogue.{catalogue_lawful}
+use Rattle.repertoire.specs.Repertoire.{Repertoire, Lawful, catalogue, is_mark}
+use Rattle.repertoire.proofs.Widths.{width-most}
+use Rattle.repertoire.proofs.Catalogue.{catalogue_lawful}
 use Rattle.cluster.specs.Clusters.{joined, attach, clusters, clusters_of, bytes}
 use Rattle.cluster.proofs.Clusters.{clusters-concat}
 use Rattle.cluster.proofs.Facts.{bytes-append}

@@ -5,7 +5,7 @@ use mathlib.Core.Bool.{Bool, cond}
 use mathlib.Core.List.{List, [], ◌∷◌, ◌++◌}
 use native.Mathlib.Omega.{arith}
 use Rattle.lists.specs.Lists.{concat}
-use Rattle.unicode.specs.Repertoire.{Repertoire, Lawful}
+use Rattle.repertoire.specs.Repertoire.{Repertoire, Lawful}
 use Rattle.layout.specs.Width.{advance, column_after, columns_after}
 use Rattle.layout.proofs.Columns.{column_append, columns-concat}
 use Rattle.slip_model.specs.Slip.{Word, Row, columns, spelled, row_columns}

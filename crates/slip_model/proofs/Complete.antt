@@ -6,7 +6,7 @@ use mathlib.Core.List.{List, [], ◌∷◌, ◌++◌, map}
 use lib.Dec.{leb}
 use Rattle.lists.specs.Lists.{concat}
 use Rattle.lists.proofs.Concat.{concat-append}
-use Rattle.unicode.specs.Repertoire.{Repertoire}
+use Rattle.repertoire.specs.Repertoire.{Repertoire}
 use Rattle.slip_model.specs.Slip.{Word, Row, Item, word, gap, newline, columns, onto, pieces}
 use Rattle.slip_model.specs.Slip.{before, Line, empty_line, put, Filled, Fresh, Blank, UpTo, with, spaced, closing, laid, lines_from}
 use Rattle.slip_model.specs.Promised.{read_back, cut_items, words_in}

@@ -9,8 +9,8 @@ use borrow.Author.Tests.{leb-true, leb-false, eqb-false, ne_eqb}
 use Rattle.lists.specs.Lists.{any}
 use Rattle.lists.proofs.Every.{Every, every_weaken}
 use Rattle.lists.proofs.Bools.{never, or_none, by_test}
-use Rattle.unicode.specs.Repertoire.{Repertoire, Lawful}
-use Rattle.unicode.proofs.Widths.{width-most}
+use Rattle.repertoire.specs.Repertoire.{Repertoire, Lawful}
+use Rattle.repertoire.proofs.Widths.{width-most}
 use Rattle.cluster.specs.Clusters.{joined, attach, clusters}
 use Rattle.layout.specs.Width.{advance, column_after, columns_after}
 use Rattle.slip_model.specs.Slip.{Word, Item, word, gap, newline, grown, items_of, columns, onto, pieces}

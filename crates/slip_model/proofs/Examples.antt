@@ -5,7 +5,7 @@ use mathlib.Core.List.{List, [], ◌∷◌, ◌++◌, map}
 use Rattle.utf8.specs.Utf8.{within, one, two, lead3, three, lead4, four, first_of, first}
 use Rattle.utf8.specs.Chars.{chars_from}
 use Rattle.utf8.specs.Encode.{size, encode, encode_all}
-use Rattle.unicode.specs.Repertoire.{catalogue, is_control, is_mark, is_white, width_of}
+use Rattle.repertoire.specs.Repertoire.{catalogue, is_control, is_mark, is_white, width_of}
 use Rattle.cluster.specs.Clusters.{joined, clusters}
 use Rattle.layout.specs.Width.{advance, column_after, columns_after}
 use Rattle.slip_model.specs.Slip.{Word, Row, items_of, pieces, Ends, at_newline, at_text_end, Line, laid, lines_from, lines_of, spaces, padded, slip}

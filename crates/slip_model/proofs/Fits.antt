@@ -4,7 +4,7 @@ use mathlib.Core.Path.{◌≡◌, ap, ◌∙◌}
 use mathlib.Core.List.{List, [], ◌∷◌}
 use native.Mathlib.Omega.{arith}
 use Rattle.lists.proofs.Every.{Every, every_weaken}
-use Rattle.unicode.specs.Repertoire.{Repertoire, Lawful}
+use Rattle.repertoire.specs.Repertoire.{Repertoire, Lawful}
 use Rattle.layout.specs.Width.{column_after}
 use Rattle.slip_model.specs.Slip.{Word, Row, Item, columns, pieces, Line, Filled, Fresh, Blank, UpTo, with, spaced, lines_from, row_columns}
 use Rattle.slip_model.specs.Promised.{CutAt60, words_in}

@@ -12,7 +12,7 @@ use Rattle.lists.proofs.Concat.{concat-append}
 use Rattle.lists.proofs.Every.{Every}
 use Rattle.utf8.specs.Encode.{scalar, encode, encode_all}
 use Rattle.utf8.proofs.Encode.{encode_all-append}
-use Rattle.unicode.specs.Repertoire.{Repertoire}
+use Rattle.repertoire.specs.Repertoire.{Repertoire}
 use Rattle.slip_model.specs.Slip.{Word, Row, Line, spaces, spelled, row_columns, padded, printed}
 use Rattle.slip_model.specs.Promised.{inked}
 use Rattle.slip_model.proofs.Page.{ascii_bytes}

@@ -9,7 +9,7 @@ use lib.Dec.{leb}
 use borrow.Author.Tests.{leb-true, leb-false}
 use Rattle.lists.specs.Lists.{concat}
 use Rattle.lists.proofs.Every.{Every}
-use Rattle.unicode.specs.Repertoire.{Repertoire}
+use Rattle.repertoire.specs.Repertoire.{Repertoire}
 use Rattle.slip_model.specs.Slip.{Word, Item, word, gap, newline, columns, pieces, at_newline, at_text_end, before, Line, empty_line, put}
 use Rattle.slip_model.specs.Slip.{Filled, Fresh, Blank, UpTo, with, spaced, closing, laid, lines_from}
 use Rattle.slip_model.specs.Promised.{CutAt60, words_in}

@@ -10,7 +10,7 @@ use lib.ListN.{replicate}
 use borrow.Author.Tests.{le-leb}
 use Rattle.utf8.specs.Utf8.{within, one, two, lead3, three, lead4, four, first_of, first}
 use Rattle.utf8.specs.Chars.{chars_from}
-use Rattle.unicode.specs.Repertoire.{catalogue, is_control, is_mark, is_white, width_of}
+use Rattle.repertoire.specs.Repertoire.{catalogue, is_control, is_mark, is_white, width_of}
 use Rattle.cluster.specs.Clusters.{joined, clusters, clusters_of}
 use Rattle.layout.specs.Width.{advance, column_after, columns_after}
 use Rattle.slip_model.specs.Slip.{Word, Item, word, gap, newline, grown, items_of, onto, pieces, at_newline, at_text_end, before, Line, put}

@@ -14,7 +14,7 @@ use Rattle.lists.proofs.Every.{Every, every_weaken}
 use Rattle.utf8.specs.Chars.{chars}
 use Rattle.utf8.specs.Encode.{scalar, two_bytes, three_bytes, four_bytes, encode, encode_all}
 use Rattle.utf8.proofs.Encode.{scalar_low, encode_all-append, chars-encode}
-use Rattle.unicode.specs.Repertoire.{Repertoire, Lawful}
+use Rattle.repertoire.specs.Repertoire.{Repertoire, Lawful}
 use Rattle.layout.specs.Width.{column_after, width}
 use Rattle.layout.proofs.Columns.{width-columns}
 use Rattle.slip_model.specs.Slip.{Row, Line, spaces, spelled, row_columns, padded}

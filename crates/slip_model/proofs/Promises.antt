@@ -11,7 +11,7 @@ use Rattle.lists.proofs.Every.{Every, every_weaken, every_append, every_parts, e
 use Rattle.utf8.specs.Chars.{chars}
 use Rattle.utf8.specs.Encode.{scalar, encode_all}
 use Rattle.utf8.proofs.Encode.{scalar_low, chars-scalar}
-use Rattle.unicode.specs.Repertoire.{Repertoire, Lawful}
+use Rattle.repertoire.specs.Repertoire.{Repertoire, Lawful}
 use Rattle.cluster.specs.Clusters.{clusters_of}
 use Rattle.cluster.proofs.Clusters.{clusters-concat}
 use native.Mathlib.Omega.{arith}

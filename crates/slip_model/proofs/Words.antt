@@ -11,7 +11,7 @@ use Rattle.lists.specs.Lists.{any, concat}
 use Rattle.lists.proofs.Bools.{or_none, never, by_test}
 use Rattle.lists.proofs.Every.{Every}
 use Rattle.lists.proofs.Alls.{any_none}
-use Rattle.unicode.specs.Repertoire.{Repertoire}
+use Rattle.repertoire.specs.Repertoire.{Repertoire}
 use Rattle.slip_model.specs.Slip.{Word, Item, word, gap, newline, grown, items_of}
 use Rattle.slip_model.specs.Promised.{words_in}
 

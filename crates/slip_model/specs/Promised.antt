@@ -4,7 +4,7 @@ use Rattle.std.specs.Prelude.{ℕ, ◌+◌, ◌≤◌, ◌<◌, ◌≡◌, false
 use Rattle.lists.specs.Lists.{any, concat}
 use Rattle.lists.proofs.Every.{Every}
 use Rattle.utf8.specs.Encode.{encode_all}
-use Rattle.unicode.specs.Repertoire.{Repertoire}
+use Rattle.repertoire.specs.Repertoire.{Repertoire}
 use Rattle.layout.specs.Width.{width}
 use Rattle.slip_model.specs.Slip.{Word, Row, Item, word, gap, newline, columns, pieces, Ends, at_newline, at_text_end, before, Line}
 use Rattle.slip_model.specs.Slip.{text_items, lines_of, row_columns, padded, slip}

@@ -2,7 +2,7 @@
 use Rattle.std.specs.Prelude.{ℕ, ◌+◌, ◌-◌, cond, List, [], ◌∷◌, ◌++◌, map, eqb, leb, replicate}
 use Rattle.lists.specs.Lists.{any, concat}
 use Rattle.utf8.specs.Encode.{encode_all}
-use Rattle.unicode.specs.Repertoire.{Repertoire}
+use Rattle.repertoire.specs.Repertoire.{Repertoire}
 use Rattle.cluster.specs.Clusters.{clusters_of}
 use Rattle.layout.specs.Width.{column_after, columns_after}
 pub use Rattle.slip_model.specs.declared.Filled.{Filled}

@@ -41,7 +41,7 @@ pub fn report(number: usize, found: u8) {
 }
 
 // The name of the call whose lines are counted, between two places, and how many of them agree.
-#[derive(Drop)]
+#[derive(Clone, Copy)]
 pub struct Count {
     pub first: usize,
     pub last: usize,

@@ -1,5 +1,7 @@
 // Replays the files of data/, each below its name: the recorded answers that `differential/record` writes, and the cases that are
 // written by hand or by `tools/key_cases` and `tools/slip_cases`; last the longest slips.
+#![tactic(auto)]
+
 mod counts;
 mod replay;
 

@@ -1,5 +1,7 @@
 // The calls that are lent a text or a log by their names in the interface for C, without its first word: each is called at one place.
 // The arguments besides texts stand in the order of the call's parameters.
+#![tactic(auto)]
+
 mod changeset_calls;
 mod line_calls;
 

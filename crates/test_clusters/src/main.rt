@@ -6,12 +6,14 @@
 // any other form, or whose text is over 64 bytes, agrees in neither direction. The last line may lack its line feed.
 //
 // A row of marks has a byte for each place of a text, its end too: 1 at a break, else 0.
+#![tactic(auto)]
+
 ghost use Rattle.std.specs.Prelude.{◌<◌, ◌≤◌, length};
 
 use cluster::{next_cluster, prev_cluster};
 use libc::STDOUT_FILENO;
 use test_fields::{is_at, one_if, past, place_of};
-use unicode::check_text;
+use repertoire::check_text;
 use utf8::encode_at;
 
 // The mark of what is no sign.
@@ -54,7 +56,7 @@ fn digit_of(b: u8) -> u32
 }
 
 // A number, and the place after it.
-#[derive(Drop)]
+#[derive(Clone, Copy)]
 struct Number {
     value: u32,
     next: usize,
@@ -186,7 +188,7 @@ fn goes_backward(text: &[u8], row: &mut [u8]) -> bool
 }
 
 // The lines counted, and those of them that agree.
-#[derive(Drop)]
+#[derive(Clone, Copy)]
 struct Tally {
     lines: usize,
     forward: usize,

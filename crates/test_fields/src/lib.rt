@@ -1,4 +1,6 @@
 // The fields of a recorded answer's line: the call's name, decimal numbers, and texts in hexadecimal.
+#![tactic(auto)]
+
 ghost use Rattle.std.specs.Prelude.{◌≡◌, true, ◌+◌, ◌<◌, ◌≤◌, min, length};
 
 use check::same;
@@ -23,7 +25,7 @@ fn digit_of(b: u8) -> u8
 }
 
 // A value, and the place after it: the place where it would begin if it is malformed.
-#[derive(Drop)]
+#[derive(Clone, Copy)]
 pub struct Field {
     pub value: usize,
     pub next: usize,

@@ -2,6 +2,8 @@
 //     NAME TEXT RECORDS TEXTS SLOTS LENS KEY LEN CURSOR UR UT RR RT LEVEL SIZE COUNT INDEX ACTION YANKED >
 //     TEXT RECORDS TEXTS SLOTS LENS NUMBER FROM TO LEN CURSOR UR UT RR RT LEVEL SIZE COUNT INDEX ACTION YANKED
 // The head of a data file of `test_answers` says what its fields are.
+#![tactic(auto)]
+
 mod left;
 
 use key_calls::key;

@@ -1,6 +1,8 @@
 // A line of a call that is lent a ring:
 //     NAME SLOTS LENS TEXT SIZE COUNT INDEX ACTION YANKED ARGUMENT* > SLOTS LENS NUMBER SLOT SIZE SIZE COUNT INDEX ACTION YANKED
 // The head of a data file of `test_answers` says what its fields are.
+#![tactic(auto)]
+
 pub mod left;
 pub mod record;
 mod ring_calls;
@@ -20,7 +22,7 @@ fn no_call(ring: Ring) -> AnswerAndRing {
 }
 
 // The lengths of what a line lends and hands over, and how many numbers it has.
-#[derive(Drop)]
+#[derive(Clone, Copy)]
 pub struct LentRing {
     pub slots: usize,
     pub lens: usize,

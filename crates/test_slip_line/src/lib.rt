@@ -1,6 +1,8 @@
 // A line of a slip:
 //     NAME TEXT PAGE > PAGE NUMBER VALUE
 // The head of a data file of `test_answers` says what its fields are.
+#![tactic(auto)]
+
 pub mod longest;
 
 use checks::ValueAnswer;

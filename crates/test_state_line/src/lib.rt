@@ -1,6 +1,8 @@
 // A line of a call that is lent a text or a log:
 //     NAME TEXT RECORDS TEXTS BUF NEW LEN CURSOR UR UT RR RT LEVEL ARGUMENT* > TEXT RECORDS TEXTS NUMBER FROM TO LEN CURSOR UR UT RR RT LEVEL
 // The head of a data file of `test_answers` says what its fields are.
+#![tactic(auto)]
+
 pub mod left;
 
 ghost use Rattle.std.specs.Prelude.{◌≤◌, length};
@@ -41,7 +43,7 @@ pub fn log_of(v: &[usize]) -> Log {
 }
 
 // The lengths of a text and of a log's two buffers as a line lends them, and the place after them.
-#[derive(Drop)]
+#[derive(Clone, Copy)]
 pub struct LentState {
     pub text: usize,
     pub records: usize,
@@ -65,7 +67,7 @@ pub fn lend_state(lent: &[u8], text: &mut [u8], records: &mut [u8], texts: &mut 
 }
 
 // The lengths of what a line lends and hands over, and how many numbers it has.
-#[derive(Drop)]
+#[derive(Clone, Copy)]
 struct Lent {
     text: usize,
     records: usize,

@@ -8,9 +8,9 @@ use lib.Dec.{leb, ltb}
 use lib.ListN.{length}
 use borrow.Author.Tests.{leb-true, not-false}
 use Rattle.lists.proofs.Bools.{and_both, by_test}
-use Rattle.unicode.specs.Repertoire.{Repertoire, catalogue}
-use Rattle.unicode.specs.Text.{is_text}
-use Rattle.unicode.proofs.Text.{text-valid}
+use Rattle.repertoire.specs.Repertoire.{Repertoire, catalogue}
+use Rattle.repertoire.specs.Text.{is_text}
+use Rattle.repertoire.proofs.Text.{text-valid}
 use Rattle.utf8.specs.Chars.{boundary, In}
 use Rattle.log_model.proofs.Newest.{turn-turn}
 use Rattle.log_model.specs.Change.{insert, delete, replace, Change, begin, end, edit, place, old, new, turn}

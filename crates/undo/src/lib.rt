@@ -1,8 +1,10 @@
 // Undo: undo.rs, undo of Changeset, and document 01 for the stops 12 and 9. Any text, cursor and log may be handed over: what is
 // unfit is turned away by a number of document 01. Records and their texts are only read: the seam between the two lists moves.
 // The text is changed as edits change it: a cut closes the gap, an insertion shifts the tail from its place onward.
+#![tactic(auto)]
+
 ghost use Rattle.std.specs.Prelude.{◌≡◌, true, false, cond, ◌≤◌, ◌<◌, eqb, length};
-ghost use Rattle.unicode.specs.Repertoire.{catalogue};
+ghost use Rattle.repertoire.specs.Repertoire.{catalogue};
 ghost use Rattle.formats.specs.Formats.{Fit};
 ghost use Rattle.edit.specs.Calls.{lent, state_of, Edited, Ready, Answers};
 ghost use Rattle.log_records.specs.Records.{record_at};
@@ -19,7 +21,7 @@ use log_state::Log;
 use undo_step::{Step, undo_or_redo};
 
 // A record undone or redone: where the walk has come to, the log with its seam there, and the record's kind.
-#[derive(Drop)]
+#[derive(Clone, Copy)]
 pub struct Taken {
     pub step: Step,
     pub log: Log,

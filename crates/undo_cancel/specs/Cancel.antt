@@ -1,6 +1,6 @@
 -- Cancel on values: document 01.
 use Rattle.std.specs.Prelude.{ℕ, suc, ◌-◌, Bool, true, false, cond, List, [], ◌∷◌, eqb, length}
-use Rattle.unicode.specs.Repertoire.{Repertoire}
+use Rattle.repertoire.specs.Repertoire.{Repertoire}
 use Rattle.checks.specs.Checks.{own_tests}
 use Rattle.checks.specs.Outcome.{Outcome, answered, called}
 use Rattle.log_model.specs.Change.{Change, begin, end, edit, turn}

@@ -1,6 +1,6 @@
 -- A group that is open, found in the records of a list.
 use Rattle.std.specs.Prelude.{ℕ, ◌≡◌, cond, List, reverse}
-use Rattle.unicode.specs.Repertoire.{catalogue}
+use Rattle.repertoire.specs.Repertoire.{catalogue}
 use Rattle.log_model.specs.Change.{Change}
 use Rattle.formats.specs.declared.Format.{Format}
 use Rattle.log_model.specs.Layout.{Layout}

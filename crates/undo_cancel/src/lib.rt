@@ -1,7 +1,9 @@
 // Cancel: document 01, with undo's walk over the records. Any text, cursor and log may be handed over: what is unfit is turned
 // away by a number of document 01. Records and their texts are only read. The text is changed as edits change it, as in undo.
+#![tactic(auto)]
+
 ghost use Rattle.std.specs.Prelude.{◌≡◌, true, ◌≤◌, length};
-ghost use Rattle.unicode.specs.Repertoire.{catalogue};
+ghost use Rattle.repertoire.specs.Repertoire.{catalogue};
 ghost use Rattle.formats.specs.Formats.{Fit, records_max};
 ghost use Rattle.edit.specs.Calls.{lent, state_of, Edited, Ready, Answers};
 ghost use Rattle.log_records.specs.Walks.{SizesOf};

@@ -1,7 +1,7 @@
 -- Redo on values: undo.rs, redo of Changeset, and document 01 for the stops 12 and 9. The redo list has every record turned round, so
 -- one unit redone is one undone with the two lists exchanged.
 use Rattle.std.specs.Prelude.{ℕ, zero, suc, ◌≡◌, false, cond, ◌&&◌, List, eqb, length}
-use Rattle.unicode.specs.Repertoire.{Repertoire, catalogue}
+use Rattle.repertoire.specs.Repertoire.{Repertoire, catalogue}
 use Rattle.checks.specs.Checks.{own_tests}
 use Rattle.checks.specs.Outcome.{Outcome, refused, answered, called}
 use Rattle.formats.specs.declared.Format.{Format}

@@ -1,8 +1,10 @@
 // Redo: undo.rs, redo of Changeset, and document 01 for the stops 12 and 9. Any text, cursor and log may be handed over: what is
 // unfit is turned away by a number of document 01. Records and their texts are only read: the seam between the two lists moves.
 // The text is changed as edits change it, as in undo.
+#![tactic(auto)]
+
 ghost use Rattle.std.specs.Prelude.{◌≡◌, false, cond, ◌&&◌, ◌<◌, eqb, length};
-ghost use Rattle.unicode.specs.Repertoire.{catalogue};
+ghost use Rattle.repertoire.specs.Repertoire.{catalogue};
 ghost use Rattle.formats.specs.Formats.{Fit};
 ghost use Rattle.edit.specs.Calls.{lent, state_of, Edited, Ready, Answers};
 ghost use Rattle.undo_redo.specs.Redo.{redo_out, redo_call, Redone};

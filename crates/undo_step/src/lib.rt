@@ -1,7 +1,9 @@
 // One record undone or redone: undo.rs, undo and redo of Change. Records and their texts are only read.
+#![tactic(auto)]
+
 ghost use Rattle.std.specs.Prelude.{◌≡◌, true, ◌+◌, ◌≤◌, ◌<◌, length, take};
-ghost use Rattle.unicode.specs.Repertoire.{catalogue};
-ghost use Rattle.unicode.specs.Text.{is_text};
+ghost use Rattle.repertoire.specs.Repertoire.{catalogue};
+ghost use Rattle.repertoire.specs.Text.{is_text};
 ghost use Rattle.log_model.specs.Change.{Change};
 ghost use Rattle.formats.specs.declared.Format.{Format};
 ghost use Rattle.log_records.specs.Records.{Carries};
@@ -37,7 +39,7 @@ fn exchange(text: &mut [u8], len: usize, place: usize, out: usize, put: &[u8]) -
 }
 
 // The text's length, the cursor and whether a record of a text was undone; and the number of a stop, 0 where there was none.
-#[derive(Drop)]
+#[derive(Clone, Copy)]
 pub struct Step {
     pub number: u32,
     pub len: usize,

@@ -1,5 +1,7 @@
 // UTF-8 as RFC 3629 defines it: the character at a place of a slice, the places between characters, and the bytes of a
 // code point.
+#![tactic(auto)]
+
 ghost use Rattle.std.specs.Prelude.{◌≡◌, true, false, ◌+◌, ◌*◌, ◌%◌, ◌<◌, ◌^◌, get_or, drop};
 ghost use Rattle.utf8.specs.Utf8.{within, tail, lead_len, two, lead3, three, lead4, four, first_of, first};
 ghost use Rattle.utf8.specs.Answer.{as_first};
@@ -7,7 +9,7 @@ ghost use Rattle.utf8.specs.Chars.{valid, boundary, no_tail, start_before};
 ghost use Rattle.utf8.specs.Encode.{scalar, size, EncodedAt};
 
 // What stands at a place: a character, or none that RFC 3629 allows.
-#[derive(Drop)]
+#[derive(Clone, Copy)]
 pub enum Decoded {
     Char { cp: u32, len: usize },
     Bad,

@@ -3,7 +3,7 @@
 use contract.Running.{tables, tables_of}
 use denote.Triple.Spec.{triple_of}
 use denote.Triple.Table.{entered, cited}
-use Rattle.unicode.specs.Repertoire.{catalogue}
+use Rattle.repertoire.specs.Repertoire.{catalogue}
 use Rattle.kill_ring.specs.Calls.{yank_call}
 use Rattle.kill_ring.specs.contracts.yank as core
 use Rattle.kill_ring.proofs.yank.Symbol as core-def

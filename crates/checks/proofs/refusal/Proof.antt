@@ -1,6 +1,6 @@
 use mathlib.Core.Path.{ap, ◌∙◌}
 use Rattle.formats.specs.declared.Format.{Format}
-use Rattle.unicode.specs.Repertoire.{catalogue}
+use Rattle.repertoire.specs.Repertoire.{catalogue}
 use Rattle.checks.specs.Checks as Checks
 use borrow.Author.Rules.{rules}
 use Rattle.checks.proofs.refusal.Statement.{statement}

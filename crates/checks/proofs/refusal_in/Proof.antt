@@ -1,8 +1,8 @@
 use mathlib.Core.Path.{sym, ◌∙◌}
 use borrow.Author.Tests.{lt-ltb, le-ltb, not-true, not-false}
 use lib.Seq.{length-take-le}
-use Rattle.unicode.specs.Repertoire.{catalogue}
-use Rattle.unicode.proofs.Text.{text-valid}
+use Rattle.repertoire.specs.Repertoire.{catalogue}
+use Rattle.repertoire.proofs.Text.{text-valid}
 use Rattle.checks.specs.Checks.{refusal}
 use borrow.Author.Rules.{rules}
 use Rattle.checks.proofs.refusal_in.Statement.{statement}

@@ -3,7 +3,7 @@ use mathlib.Core.Path.{sym, ap, ◌∙◌}
 use native.Mathlib.Omega.{arith}
 use Rattle.formats.specs.Formats.{format_for}
 use Rattle.formats.specs.declared.Format.{Format}
-use Rattle.unicode.specs.Repertoire.{catalogue}
+use Rattle.repertoire.specs.Repertoire.{catalogue}
 use Rattle.checks.proofs.Texts.{text_over, text-foreign, text-fits}
 use Rattle.checks.proofs.text_refusal.Statement.{statement}
 use Rattle.checks.proofs.text_refusal.Tie as tie

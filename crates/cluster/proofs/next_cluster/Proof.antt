@@ -7,8 +7,8 @@ use lib.ListN.{length}
 use Rattle.utf8.specs.Answer.{as_first}
 use Rattle.utf8.proofs.Chars.{first-within}
 use Rattle.utf8.proofs.Forms.{first-end}
-use Rattle.unicode.specs.Repertoire.{catalogue}
-use Rattle.unicode.proofs.Text.{within-at}
+use Rattle.repertoire.specs.Repertoire.{catalogue}
+use Rattle.repertoire.proofs.Text.{within-at}
 use Rattle.cluster.proofs.Forward.{Scanned, scan-start, scan_none, scan_more, scan_break, scan-end}
 use Rattle.cluster.proofs.next_cluster.Statement.{statement}
 use Rattle.cluster.proofs.next_cluster.Tie as tie

@@ -4,7 +4,7 @@ use mathlib.Core.Path.{◌≡◌, refl, sym, ap}
 use lib.ListN.{length, take, drop}
 use Prim.Native.Nat.{ℕ, ◌-◌}
 use lib.Seq.{length-take-le}
-use Rattle.unicode.specs.Repertoire.{catalogue}
+use Rattle.repertoire.specs.Repertoire.{catalogue}
 use Rattle.edit.specs.Calls.{lent, sizes_of, state_of}
 use Rattle.edit.proofs.Made.{outcome_as}
 use Rattle.edit.proofs.Once.{once-paste}

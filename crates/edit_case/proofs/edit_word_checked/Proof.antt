@@ -1,7 +1,7 @@
 use mathlib.Core.Path.{sym}
 use lib.Seq.{length-take-le}
 use Rattle.utf8.specs.Chars.{In}
-use Rattle.unicode.specs.Repertoire.{catalogue}
+use Rattle.repertoire.specs.Repertoire.{catalogue}
 use Rattle.edit.specs.Calls.{Lent, lent, text_of}
 use Rattle.edit.proofs.Answers.{cursor_in, stays}
 use Rattle.edit.proofs.Made.{plan_made}

@@ -3,7 +3,7 @@ use mathlib.Core.Path.{◌≡◌}
 use mathlib.Core.Logic.{⊎_elim}
 use native.Mathlib.Omega.{arith}
 use lib.ListN.{length, drop}
-use Rattle.unicode.specs.Repertoire.{catalogue}
+use Rattle.repertoire.specs.Repertoire.{catalogue}
 use Rattle.edit_indent_plans.specs.Touched.{split_lines}
 use Rattle.edit_indent_plans.specs.Counts.{cuts_in, bytes_in}
 use Rattle.edit_indent_plans.proofs.Walks.{line_in, line-width, one_some, one_none, cuts_last, cuts_more}

@@ -1,5 +1,5 @@
 use mathlib.Core.Path.{sym, ap, ◌∙◌}
-use Rattle.unicode.specs.Repertoire.{catalogue}
+use Rattle.repertoire.specs.Repertoire.{catalogue}
 use Rattle.edit_indent_plans.specs.Touched.{or_cursor, span_of}
 use Rattle.edit_indent_plans.proofs.Spans.{word_back, word_on}
 use borrow.Author.Rules.{rules}

@@ -5,7 +5,7 @@ use native.Mathlib.Omega.{arith}
 use lib.ListN.{length, drop}
 use borrow.Author.Tests.{not-true, not-false}
 use Rattle.utf8.specs.Chars.{valid}
-use Rattle.unicode.specs.Repertoire.{catalogue}
+use Rattle.repertoire.specs.Repertoire.{catalogue}
 use Rattle.edit_indent_plans.specs.Touched.{split_lines, splits}
 use Rattle.edit_indent_plans.proofs.Walks.{line_in, line-valid, rest-valid, splits_here, splits_last, splits_more}
 use borrow.Author.Rules.{rules}

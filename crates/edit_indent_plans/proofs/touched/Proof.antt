@@ -1,5 +1,5 @@
 use native.Mathlib.Omega.{arith}
-use Rattle.unicode.specs.Repertoire.{catalogue}
+use Rattle.repertoire.specs.Repertoire.{catalogue}
 use Rattle.edit_indent_plans.proofs.Spans.{touched_as, span_as}
 use borrow.Author.Rules.{rules}
 use Rattle.edit_indent_plans.proofs.touched.Statement.{statement}

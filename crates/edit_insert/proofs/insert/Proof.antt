@@ -1,7 +1,7 @@
 use mathlib.Core.Path.{◌≡◌, refl, ◌∙◌}
 use mathlib.Core.Bool.{true, false, not}
-use Rattle.unicode.specs.Repertoire.{catalogue}
-use Rattle.unicode.specs.Text.{is_char}
+use Rattle.repertoire.specs.Repertoire.{catalogue}
+use Rattle.repertoire.specs.Text.{is_char}
 use Rattle.checks.specs.Checks.{own_tests}
 use Rattle.log_records.proofs.Walks.{newest_last}
 use Rattle.formats.specs.declared.Format.{Format}

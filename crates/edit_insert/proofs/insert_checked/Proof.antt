@@ -5,9 +5,9 @@ use lib.ListN.{length, take}
 use lib.Seq.{length-take-le}
 use Rattle.utf8.specs.Encode.{encode}
 use Rattle.utf8.proofs.Encode.{encode_max}
-use Rattle.unicode.specs.Repertoire.{catalogue}
-use Rattle.unicode.specs.Text.{is_text}
-use Rattle.unicode.proofs.Typed.{typed-text, typed-within, typed-bytes}
+use Rattle.repertoire.specs.Repertoire.{catalogue}
+use Rattle.repertoire.specs.Text.{is_text}
+use Rattle.repertoire.proofs.Typed.{typed-text, typed-within, typed-bytes}
 use Rattle.edit.specs.Calls.{Lent, lent}
 use Rattle.edit_insert.proofs.Calls.{plan_one, plan_many}
 use Rattle.edit.proofs.Made.{plan_made}

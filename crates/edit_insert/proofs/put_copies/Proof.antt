@@ -5,8 +5,8 @@ use mathlib.Core.Path.{refl, sym, ◌∙◌}
 use lib.ListN.{length}
 use borrow.Author.Tests.{not-true, not-false}
 use Rattle.lists.proofs.Parts.{none_left}
-use Rattle.unicode.specs.Repertoire.{catalogue}
-use Rattle.unicode.proofs.Text.{text_nil}
+use Rattle.repertoire.specs.Repertoire.{catalogue}
+use Rattle.repertoire.proofs.Text.{text_nil}
 use Rattle.buffer.specs.Edit.{copies}
 use Rattle.buffer.proofs.Copies.{copies_length}
 use Rattle.edit.specs.Calls.{lent}

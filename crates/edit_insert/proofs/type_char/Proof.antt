@@ -1,11 +1,11 @@
 use native.Mathlib.Omega.{arith}
 use mathlib.Core.Path.{refl, ap, ◌∙◌}
 use lib.ListN.{length, take}
-use Rattle.unicode.specs.Repertoire.{catalogue}
-use Rattle.unicode.specs.Text.{is_text}
+use Rattle.repertoire.specs.Repertoire.{catalogue}
+use Rattle.repertoire.specs.Text.{is_text}
 use Rattle.edit.specs.Calls.{lent}
 use Rattle.utf8.proofs.Encode.{encode_max}
-use Rattle.unicode.proofs.Typed.{typed-text}
+use Rattle.repertoire.proofs.Typed.{typed-text}
 use Rattle.edit.proofs.Parts.{an_insert}
 use Rattle.edit_insert.proofs.Puts.{char-put}
 use borrow.Author.Rules.{rules}

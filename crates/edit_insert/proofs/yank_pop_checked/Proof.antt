@@ -1,4 +1,4 @@
-use Rattle.unicode.specs.Repertoire.{catalogue}
+use Rattle.repertoire.specs.Repertoire.{catalogue}
 use Rattle.edit.specs.Calls.{Lent, lent, text_of}
 use Rattle.edit.proofs.Answers.{cursor_in}
 use Rattle.edit_insert.proofs.Suits.{yank_pop_suits}

@@ -1,7 +1,7 @@
 use native.Mathlib.Omega.{arith}
 use mathlib.Core.Path.{◌≡◌, sym, ap, ◌∙◌}
 use Prim.Native.Nat.{ℕ, ◌+◌}
-use Rattle.unicode.specs.Repertoire.{catalogue}
+use Rattle.repertoire.specs.Repertoire.{catalogue}
 use Rattle.motion_lines.specs.declared.Range.TheVariants.{Places}
 use Rattle.motion_ranges.specs.Ranges.{back_to}
 use Rattle.edit_kill.proofs.Ranges.{line-front, line_before}

@@ -1,6 +1,6 @@
 use mathlib.Core.Path.{◌≡◌, refl, sym, ap, ◌∙◌}
 use mathlib.Core.Bool.{Bool, false}
-use Rattle.unicode.specs.Repertoire.{catalogue}
+use Rattle.repertoire.specs.Repertoire.{catalogue}
 use Rattle.motion_ranges.specs.Ranges.{is_foreign}
 use Rattle.checks.specs.Checks.{own_tests}
 use Rattle.log_records.proofs.Walks.{newest_last}

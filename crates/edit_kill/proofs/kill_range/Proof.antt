@@ -1,5 +1,5 @@
 use mathlib.Core.Path.{sym, ap, ◌∙◌}
-use Rattle.unicode.specs.Repertoire.{catalogue}
+use Rattle.repertoire.specs.Repertoire.{catalogue}
 use Rattle.motion_ranges.specs.Ranges.{copied}
 use Rattle.edit_kill.specs.Kills.{kill_line, kill_range}
 use borrow.Author.Rules.{rules}

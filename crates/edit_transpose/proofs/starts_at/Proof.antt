@@ -1,5 +1,5 @@
 use borrow.Author.Tests.{eq-eqb, ne_eqb}
-use Rattle.unicode.specs.Repertoire.{catalogue}
+use Rattle.repertoire.specs.Repertoire.{catalogue}
 use Rattle.edit_transpose.proofs.Starts.{starts_nowhere, starts-back, starts_here}
 use borrow.Author.Rules.{rules}
 use Rattle.edit_transpose.proofs.starts_at.Statement.{statement}

@@ -1,6 +1,6 @@
 use mathlib.Core.Path.{◌≡◌, refl, sym, ap, ◌∙◌}
 use mathlib.Core.Bool.{false}
-use Rattle.unicode.specs.Repertoire.{catalogue}
+use Rattle.repertoire.specs.Repertoire.{catalogue}
 use Rattle.checks.specs.Checks.{own_tests}
 use Rattle.log_records.proofs.Walks.{newest_last}
 use Rattle.formats.specs.declared.Format.{Format}

@@ -2,8 +2,8 @@ use mathlib.Core.Path.{◌≡◌, sym}
 use mathlib.Core.Bool.{true}
 use lib.Seq.{length-take-le}
 use Rattle.utf8.specs.Chars.{In, valid}
-use Rattle.unicode.specs.Repertoire.{catalogue}
-use Rattle.unicode.proofs.Text.{text-valid}
+use Rattle.repertoire.specs.Repertoire.{catalogue}
+use Rattle.repertoire.proofs.Text.{text-valid}
 use Rattle.edit.specs.Calls.{Lent, lent, text_of}
 use Rattle.edit.proofs.Answers.{cursor_in, stays_at}
 use Rattle.edit.proofs.Made.{plan_made}

@@ -1,4 +1,4 @@
-use Rattle.unicode.specs.Repertoire.{catalogue}
+use Rattle.repertoire.specs.Repertoire.{catalogue}
 use Rattle.edit_transpose.proofs.Starts.{under-two}
 use borrow.Author.Rules.{rules}
 use Rattle.edit_transpose.proofs.under_two.Statement.{statement}

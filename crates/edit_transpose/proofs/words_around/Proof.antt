@@ -1,5 +1,5 @@
 use native.Mathlib.Omega.{arith}
-use Rattle.unicode.specs.Repertoire.{catalogue}
+use Rattle.repertoire.specs.Repertoire.{catalogue}
 use Rattle.edit_transpose.proofs.Four.{place_d, place_c, within_a, around_is}
 use borrow.Author.Rules.{rules}
 use Rattle.edit_transpose.proofs.words_around.Statement.{statement}

@@ -1,6 +1,6 @@
 use mathlib.Core.Path.{◌≡◌, sym, ap, ◌∙◌}
 use mathlib.Core.Bool.{false}
-use Rattle.unicode.specs.Repertoire.{catalogue}
+use Rattle.repertoire.specs.Repertoire.{catalogue}
 use Rattle.formats.proofs.Formats.{fit_for}
 use Rattle.checks.specs.Checks.{both, own_tests}
 use Rattle.log_records.proofs.Walks.{newest_last}

@@ -1,6 +1,6 @@
 use mathlib.Core.Path.{◌≡◌, sym, subst}
 use mathlib.Core.Bool.{true}
-use Rattle.unicode.specs.Repertoire.{catalogue}
+use Rattle.repertoire.specs.Repertoire.{catalogue}
 use Rattle.edit.specs.Calls.{Lent, lent}
 use Rattle.kill_ring.specs.Calls as rings
 use Rattle.key_press.specs.declared.Press.{Press}

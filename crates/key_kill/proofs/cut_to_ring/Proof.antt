@@ -5,7 +5,7 @@ use Prim.Native.Nat.{ℕ, ◌-◌}
 use lib.ListN.{length, take, drop}
 use borrow.Author.Tests.{not-true, not-false}
 use Rattle.lists.specs.Lists.{part}
-use Rattle.unicode.specs.Repertoire.{catalogue}
+use Rattle.repertoire.specs.Repertoire.{catalogue}
 use Rattle.checks.specs.Outcome.{Outcome, answered}
 use Rattle.edit.specs.Plan.{State, edited, planned, cutting, once}
 use Rattle.edit.specs.Calls.{Lent, lent, text_of, sizes_of, state_of}

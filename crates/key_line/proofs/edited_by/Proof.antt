@@ -1,5 +1,5 @@
 use mathlib.Core.Path.{sym, ap, ◌∙◌}
-use Rattle.unicode.specs.Repertoire.{catalogue}
+use Rattle.repertoire.specs.Repertoire.{catalogue}
 use Rattle.edit.specs.Calls.{Lent, lent}
 use Rattle.key_press.specs.declared.EditKey.TheVariants as ek
 use Rattle.key_model.specs.Own.{fit_key}

@@ -1,7 +1,7 @@
 use mathlib.Core.Path.{sym, ap, ◌∙◌}
 use lib.ListN.{length}
 use lib.Seq.{length-take-le}
-use Rattle.unicode.specs.Repertoire.{catalogue}
+use Rattle.repertoire.specs.Repertoire.{catalogue}
 use Rattle.formats.specs.Formats.{format_for}
 use Rattle.checks.specs.Checks.{no_tests}
 use Rattle.checks.proofs.Fit.{Fit, fit, fit-valid, fit-within}

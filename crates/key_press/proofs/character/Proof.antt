@@ -3,7 +3,7 @@ use mathlib.Core.Bool.{Bool, ◌&&◌}
 use lib.Dec.{eqb}
 use lib.ListN.{length}
 use Rattle.utf8.specs.Answer.{as_first}
-use Rattle.unicode.specs.Repertoire.{catalogue}
+use Rattle.repertoire.specs.Repertoire.{catalogue}
 use Rattle.key_press.proofs.Presses.{typed-whole, typed-not, typed-bad}
 use borrow.Author.Rules.{rules}
 use Rattle.key_press.proofs.character.Statement.{statement}

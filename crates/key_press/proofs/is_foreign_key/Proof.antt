@@ -4,9 +4,9 @@ use mathlib.Core.Path.{◌≡◌, refl, sym, ap, ◌∙◌}
 use mathlib.Core.Bool.{not}
 use mathlib.Core.List.{List}
 use lib.ListN.{length, drop}
-use Rattle.unicode.specs.Repertoire.{catalogue}
-use Rattle.unicode.specs.Text.{is_text}
-use Rattle.unicode.proofs.Text.{scan_on, scan_stuck, scan-end}
+use Rattle.repertoire.specs.Repertoire.{catalogue}
+use Rattle.repertoire.specs.Text.{is_text}
+use Rattle.repertoire.proofs.Text.{scan_on, scan_stuck, scan-end}
 use Rattle.key_press.specs.Keys.{untried, foreign_key}
 use borrow.Author.Rules.{rules}
 use Rattle.key_press.proofs.is_foreign_key.Statement.{statement}

@@ -1,5 +1,5 @@
 use mathlib.Core.Path.{◌∙◌}
-use Rattle.unicode.specs.Repertoire.{catalogue}
+use Rattle.repertoire.specs.Repertoire.{catalogue}
 use Rattle.key_press.proofs.Presses.{press_control, press_one}
 use borrow.Author.Rules.{rules}
 use Rattle.key_press.proofs.one_byte.Statement.{statement}

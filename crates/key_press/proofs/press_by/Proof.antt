@@ -1,6 +1,6 @@
 use native.Mathlib.Omega.{arith}
 use mathlib.Core.Path.{◌∙◌}
-use Rattle.unicode.specs.Repertoire.{catalogue}
+use Rattle.repertoire.specs.Repertoire.{catalogue}
 use Rattle.key_press.proofs.Presses.{press_none, press_long}
 use borrow.Author.Rules.{rules}
 use Rattle.key_press.proofs.press_by.Statement.{statement}

@@ -2,7 +2,7 @@ use mathlib.Core.Path.{ap₂, ◌∙◌}
 use mathlib.Core.List.{List}
 use Prim.Native.Nat.{ℕ}
 use Rattle.lists.proofs.Parts.{part-tail}
-use Rattle.unicode.specs.Repertoire.{catalogue}
+use Rattle.repertoire.specs.Repertoire.{catalogue}
 use Rattle.key_press.specs.Keys.{press_by, press_of}
 use borrow.Author.Rules.{rules}
 use Rattle.key_press.proofs.press_of.Statement.{statement}

@@ -1,8 +1,8 @@
 use mathlib.Core.Path.{sym, ap, ap₂, ◌∙◌}
 use mathlib.Core.Bool.{Bool, ◌||◌}
 use Rattle.utf8.specs.Answer.{as_first}
-use Rattle.unicode.specs.Repertoire.{catalogue}
-use Rattle.unicode.proofs.Text.{member_in, member-out, member-bad}
+use Rattle.repertoire.specs.Repertoire.{catalogue}
+use Rattle.repertoire.proofs.Text.{member_in, member-out, member-bad}
 use Rattle.key_press.specs.Keys.{untried}
 use borrow.Author.Rules.{rules}
 use Rattle.key_press.proofs.tried_len.Statement.{statement}

@@ -3,8 +3,8 @@ use native.Mathlib.Omega.{arith}
 use mathlib.Core.Path.{◌≡◌, sym, ap, ◌∙◌}
 use borrow.Author.Rules.{rules}
 use borrow.Author.Tests.{not-true, not-false}
-use Rattle.unicode.specs.Repertoire.{catalogue}
-use Rattle.unicode.specs.Text.{is_text}
+use Rattle.repertoire.specs.Repertoire.{catalogue}
+use Rattle.repertoire.specs.Text.{is_text}
 use Rattle.kill_ring.specs.Calls.{slot_bytes, any_foreign, slots_from}
 use Rattle.kill_ring.proofs.Slots.{from-none, short_at, slot_part, foreign_here, foreign_on, foreign-end}
 use Rattle.kill_ring.proofs.any_foreign.Statement.{statement}

@@ -1,7 +1,7 @@
 use mathlib.Core.Path.{sym, ap, ◌∙◌}
 use mathlib.Core.Bool.{Bool, true, not}
 use borrow.Author.Rules.{rules}
-use Rattle.unicode.specs.Repertoire.{catalogue}
+use Rattle.repertoire.specs.Repertoire.{catalogue}
 use Rattle.kill_ring.specs.Calls.{Lent, lent, checked}
 use Rattle.kill_ring.proofs.Kills.{unnamed, named}
 use Rattle.kill_ring.proofs.kill.Statement.{statement}

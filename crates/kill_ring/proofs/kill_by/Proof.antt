@@ -2,8 +2,8 @@ use Prim.Native.Nat.{ℕ}
 use mathlib.Core.Path.{◌≡◌, sym, ap, ◌∙◌}
 use mathlib.Core.Bool.{Bool, false, not}
 use borrow.Author.Rules.{rules}
-use Rattle.unicode.specs.Repertoire.{catalogue}
-use Rattle.unicode.specs.Text.{is_text}
+use Rattle.repertoire.specs.Repertoire.{catalogue}
+use Rattle.repertoire.specs.Text.{is_text}
 use Rattle.checks.specs.Outcome.{Outcome}
 use Rattle.kill_ring.specs.Ring.{KillRing, kill_out}
 use Rattle.kill_ring.specs.Calls.{Lent, lent, checked, value_of}

@@ -4,7 +4,7 @@ use mathlib.Core.Path.{ap, ◌∙◌}
 use mathlib.Core.Bool.{false}
 use lib.ListN.{length}
 use borrow.Author.Rules.{rules}
-use Rattle.unicode.specs.Repertoire.{catalogue}
+use Rattle.repertoire.specs.Repertoire.{catalogue}
 use Rattle.kill_ring.specs.Killed.{used_of}
 use Rattle.kill_ring.specs.Calls.{Lent, lent}
 use Rattle.kill_ring.proofs.Passed.{Ready, passed}

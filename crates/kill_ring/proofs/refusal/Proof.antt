@@ -1,7 +1,7 @@
 use mathlib.Core.Path.{◌≡◌, sym, ◌∙◌}
 use mathlib.Core.Bool.{false}
 use borrow.Author.Rules.{rules}
-use Rattle.unicode.specs.Repertoire.{catalogue}
+use Rattle.repertoire.specs.Repertoire.{catalogue}
 use Rattle.kill_ring.specs.Calls.{Lent, lent, over_sizes}
 use Rattle.kill_ring.proofs.Passed.{says-sizes, says-code, says-foreign, says-damaged, says-passed}
 use Rattle.kill_ring.proofs.refusal.Statement.{statement}

@@ -5,7 +5,7 @@ use mathlib.Core.Bool.{false}
 use mathlib.Core.Logic.{⊎_elim}
 use borrow.Author.Rules.{rules}
 use denote.Enum.Declared.{tag_of}
-use Rattle.unicode.specs.Repertoire.{catalogue}
+use Rattle.repertoire.specs.Repertoire.{catalogue}
 use Rattle.kill_ring.specs.declared.Action.TheVariants.{Yank}
 use Rattle.kill_ring.specs.Calls.{Lent, lent, action_of}
 use Rattle.kill_ring.specs.contracts.Action.{the_type}

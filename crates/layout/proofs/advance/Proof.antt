@@ -1,9 +1,9 @@
 use mathlib.Core.Path.{ap}
 use Prim.Native.Nat.{ℕ, ◌+◌}
 use native.Mathlib.Omega.{arith}
-use Rattle.unicode.specs.Repertoire.{catalogue}
-use Rattle.unicode.proofs.Catalogue.{catalogue_lawful}
-use Rattle.unicode.proofs.Widths.{width-most}
+use Rattle.repertoire.specs.Repertoire.{catalogue}
+use Rattle.repertoire.proofs.Catalogue.{catalogue_lawful}
+use Rattle.repertoire.proofs.Widths.{width-most}
 use Rattle.layout.specs.Width.{advance}
 use borrow.Author.Rules.{rules}
 use Rattle.layout.proofs.advance.Statement.{statement}

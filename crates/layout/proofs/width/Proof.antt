@@ -5,9 +5,9 @@ use native.Mathlib.Omega.{arith}
 use lib.ListN.{length}
 use Rattle.utf8.specs.Answer.{as_first}
 use Rattle.utf8.proofs.Forms.{first-end}
-use Rattle.unicode.specs.Repertoire.{catalogue}
-use Rattle.unicode.proofs.Text.{within-at}
-use Rattle.unicode.proofs.Catalogue.{catalogue_lawful}
+use Rattle.repertoire.specs.Repertoire.{catalogue}
+use Rattle.repertoire.proofs.Text.{within-at}
+use Rattle.repertoire.proofs.Catalogue.{catalogue_lawful}
 use Rattle.layout.specs.Width.{most_columns}
 use Rattle.layout.proofs.Columns.{Reach, Measured, measure_start, measure_on, measure_end, lawful_reach}
 use Rattle.layout.proofs.width.Statement.{statement}

@@ -1,5 +1,5 @@
 use mathlib.Core.Path.{sym}
-use Rattle.unicode.specs.Repertoire.{catalogue}
+use Rattle.repertoire.specs.Repertoire.{catalogue}
 use Rattle.checks.specs.Outcome.{called}
 use Rattle.formats.specs.declared.Format.{Format}
 use Rattle.log_state.specs.Calls.{lent, sizes_of, value_of, checked, end_call}

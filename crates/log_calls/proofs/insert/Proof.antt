@@ -5,9 +5,9 @@ use mathlib.Core.List.{List}
 use lib.ListN.{take}
 use lib.Seq.{length-take-le}
 use borrow.Author.Tests.{not-false}
-use Rattle.unicode.specs.Repertoire.{catalogue}
-use Rattle.unicode.specs.Text.{is_char, is_text}
-use Rattle.unicode.proofs.Typed.{typed-text, typed-within, typed-bytes}
+use Rattle.repertoire.specs.Repertoire.{catalogue}
+use Rattle.repertoire.specs.Text.{is_char, is_text}
+use Rattle.repertoire.proofs.Typed.{typed-text, typed-within, typed-bytes}
 use Rattle.utf8.specs.Encode.{encode}
 use Rattle.formats.specs.declared.Format.{Format}
 use Rattle.formats.proofs.Formats.{fit_for}

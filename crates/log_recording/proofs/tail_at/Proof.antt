@@ -1,5 +1,5 @@
 use mathlib.Core.Path.{◌∙◌}
-use Rattle.unicode.specs.Repertoire.{catalogue}
+use Rattle.repertoire.specs.Repertoire.{catalogue}
 use Rattle.log_recording.proofs.Newest.{no_edit_last, edit_last}
 use borrow.Author.Rules.{rules}
 use Rattle.log_recording.proofs.tail_at.Statement.{statement}

@@ -1,6 +1,6 @@
 use mathlib.Core.Path.{◌∙◌}
 use borrow.Author.Tests.{not-true, not-false}
-use Rattle.unicode.specs.Repertoire.{catalogue}
+use Rattle.repertoire.specs.Repertoire.{catalogue}
 use Rattle.log_recording.proofs.Joins.{joined_for}
 use Rattle.log_recording.proofs.Newest.{tail_apart}
 use borrow.Author.Rules.{rules}

@@ -2,7 +2,7 @@ use native.Mathlib.Omega.{arith}
 use mathlib.Core.Path.{sym, ◌∙◌}
 use borrow.Author.Rules.{rules}
 use borrow.Author.Tests.{not-true, not-false}
-use Rattle.unicode.specs.Repertoire.{catalogue}
+use Rattle.repertoire.specs.Repertoire.{catalogue}
 use Rattle.log_records.proofs.Check.{no_room-at, bad-end, one_at, middle_says}
 use Rattle.log_records.proofs.are_texts_at.Statement.{statement}
 use Rattle.log_records.proofs.are_texts_at.Tie as tie

@@ -4,7 +4,7 @@ use mathlib.Core.Path.{sym, ◌∙◌}
 use mathlib.Core.Bool.{true≢false}
 use lib.ListN.{length}
 use borrow.Author.Tests.{not-true, not-false}
-use Rattle.unicode.specs.Repertoire.{catalogue}
+use Rattle.repertoire.specs.Repertoire.{catalogue}
 use Rattle.log_model.proofs.Texts.{no_text}
 use Rattle.log_records.proofs.Records.{size_is, whole_by}
 use Rattle.log_records.proofs.Check.{no_record, no_texts, further, Looks, looks_first, looks_bad, looks_on, looks_bare, looks_end}

@@ -1,7 +1,7 @@
 use native.Mathlib.Omega.{arith}
 use Prim.Native.Nat.{◌+◌, ◌-◌, ◌≤◌, ◌<◌}
 use lib.ListN.{length}
-use Rattle.unicode.specs.Repertoire.{catalogue}
+use Rattle.repertoire.specs.Repertoire.{catalogue}
 use Rattle.log_model.proofs.Walk.{Come, come_end, come_whole}
 use Rattle.log_records.proofs.Walks.{LastOf, last_none, passes, last_on}
 use Rattle.log_records.proofs.last_start.Statement.{statement}

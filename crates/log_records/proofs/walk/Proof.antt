@@ -1,7 +1,7 @@
 use native.Mathlib.Omega.{arith}
 use Prim.Native.Nat.{◌+◌, ◌-◌, ◌*◌, ◌≤◌, ◌<◌}
 use lib.ListN.{length}
-use Rattle.unicode.specs.Repertoire.{catalogue}
+use Rattle.repertoire.specs.Repertoire.{catalogue}
 use Rattle.log_model.proofs.Walk.{Come, come_whole}
 use Rattle.log_records.proofs.Walks.{CountOf, counts_none, passes, counts_on, stops, ends}
 use Rattle.log_records.proofs.walk.Statement.{statement}

@@ -1,4 +1,4 @@
-use Rattle.unicode.specs.Repertoire.{catalogue}
+use Rattle.repertoire.specs.Repertoire.{catalogue}
 use Rattle.log_state.proofs.Single.{single}
 use borrow.Author.Rules.{rules}
 use Rattle.log_state.proofs.is_single.Statement.{statement}

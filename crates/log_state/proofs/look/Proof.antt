@@ -2,7 +2,7 @@ use mathlib.Core.Path.{sym}
 use native.Mathlib.Omega.{arith}
 use lib.Dec.{leb}
 use lib.Seq.{length-take-le}
-use Rattle.unicode.specs.Repertoire.{catalogue}
+use Rattle.repertoire.specs.Repertoire.{catalogue}
 use Rattle.log_state.specs.Logs.{damaged}
 use Rattle.log_state.proofs.Sums.{list_behind}
 use Rattle.log_state.proofs.Passed.{sound_is, both_sound}

@@ -6,7 +6,7 @@ use mathlib.Core.Logic.{⊎_elim}
 use native.Mathlib.Omega.{arith}
 use lib.ListN.{length, take}
 use Rattle.utf8.specs.Answer.{as_first}
-use Rattle.unicode.proofs.Text.{within-at}
+use Rattle.repertoire.proofs.Text.{within-at}
 use Rattle.motion.specs.Search.{last_found, nth_match}
 use Rattle.motion.specs.declared.Found.TheVariants.{Nothing}
 use Rattle.motion.proofs.match_from.Statement.{statement}

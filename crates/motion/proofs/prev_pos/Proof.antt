@@ -7,7 +7,7 @@ use lib.ListN.{length, take, length-take}
 use lib.Seq.{length-take-le}
 use Rattle.lists.specs.Lists.{sum}
 use Rattle.utf8.specs.Chars.{boundary}
-use Rattle.unicode.specs.Repertoire.{catalogue}
+use Rattle.repertoire.specs.Repertoire.{catalogue}
 use Rattle.cluster.proofs.Steps.{prev_some, prev_none}
 use Rattle.motion.specs.Steps.{sizes}
 use Rattle.motion.proofs.Steps.{backward_more, backward_done, backward_start, prev_found, prev_start, prev_zero}

@@ -3,7 +3,7 @@ use mathlib.Core.Path.{sym, ap, ◌∙◌}
 use native.Mathlib.Omega.{arith}
 use Rattle.utf8.specs.Chars.{start_before}
 use Rattle.utf8.specs.Encode.{size}
-use Rattle.unicode.specs.Repertoire.{catalogue}
+use Rattle.repertoire.specs.Repertoire.{catalogue}
 use Rattle.keymap.specs.declared.CharSearch.{CharSearch}
 use Rattle.motion.specs.Search.{moved, search_char_pos}
 use Rattle.motion.proofs.Matches.{backward_fits}

@@ -3,7 +3,7 @@ use Prim.Native.Nat.{◌≤◌, ◌-◌}
 use mathlib.Core.Path.{◌≡◌, refl, sym, ◌∙◌}
 use native.Mathlib.Omega.{arith}
 use lib.ListN.{length}
-use Rattle.unicode.specs.Repertoire.{catalogue}
+use Rattle.repertoire.specs.Repertoire.{catalogue}
 use Rattle.cluster.proofs.Steps.{next_told}
 use Rattle.motion.specs.Trim.{skip_whitespace}
 use Rattle.motion.proofs.Trim.{alnum_from, alnum_here, alnum-later, alnum_none, alnum-end}

@@ -9,7 +9,7 @@ use Rattle.utf8.specs.Answer.{as_first}
 use Rattle.utf8.specs.Chars.{boundary, EndsAt}
 use Rattle.utf8.proofs.Boundary.{boundary_end}
 use Rattle.utf8.proofs.Ends.{ends-before, ends_never}
-use Rattle.unicode.specs.Repertoire.{catalogue}
+use Rattle.repertoire.specs.Repertoire.{catalogue}
 use Rattle.motion.specs.Trim.{trim_end}
 use Rattle.motion.proofs.Trim.{trim_more, trim_stop, trim_start, trim_whole}
 use Rattle.motion.proofs.trim_end.Statement.{statement}

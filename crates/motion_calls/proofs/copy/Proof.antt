@@ -1,6 +1,6 @@
 use mathlib.Core.Path.{sym, ap, ◌∙◌}
 use mathlib.Core.Bool.{false}
-use Rattle.unicode.specs.Repertoire.{catalogue}
+use Rattle.repertoire.specs.Repertoire.{catalogue}
 use Rattle.motion_calls.proofs.Called.{unnamed-refused}
 use Rattle.motion_calls.specs.Copy.{copy_by}
 use Rattle.checks.specs.Answers.{line_answer}

@@ -1,7 +1,7 @@
 use mathlib.Core.Path.{sym}
 use mathlib.Core.Logic.{inl, inr, ⊎_elim}
 use lib.Seq.{length-take-le}
-use Rattle.unicode.specs.Repertoire.{catalogue}
+use Rattle.repertoire.specs.Repertoire.{catalogue}
 use Rattle.motion_calls.proofs.CopyCalls.{lent-used, lent-fit, copy_early, copy-after, copy-split, copy-ranged}
 use borrow.Author.Rules.{rules}
 use Rattle.motion_calls.proofs.copy_movement.Statement.{statement}

@@ -1,4 +1,4 @@
-use Rattle.unicode.specs.Repertoire.{catalogue}
+use Rattle.repertoire.specs.Repertoire.{catalogue}
 use Rattle.checks.specs.Checks.{no_tests}
 use Rattle.motion_calls.specs.Moves.{tells}
 use Rattle.motion_calls.proofs.Called.{refused, accepted}

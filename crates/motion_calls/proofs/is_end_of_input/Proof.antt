@@ -2,7 +2,7 @@ use Prim.Native.Nat.{ℕ}
 use lib.Dec.{leb}
 use mathlib.Core.Path.{sym, ap, ◌∙◌}
 use lib.Seq.{length-take-le}
-use Rattle.unicode.specs.Repertoire.{catalogue}
+use Rattle.repertoire.specs.Repertoire.{catalogue}
 use Rattle.checks.specs.Checks.{no_tests}
 use Rattle.checks.proofs.Fit.{fit-valid}
 use Rattle.motion_calls.specs.Moves.{tells}

@@ -1,5 +1,5 @@
 use mathlib.Core.Path.{ap, ◌∙◌}
-use Rattle.unicode.specs.Repertoire.{catalogue}
+use Rattle.repertoire.specs.Repertoire.{catalogue}
 use Rattle.checks.specs.Checks.{no_tests}
 use Rattle.checks.specs.Answers.{line_answer, moved_to}
 use Rattle.motion_calls.specs.Moves.{elsewhere}

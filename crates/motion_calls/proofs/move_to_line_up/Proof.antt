@@ -2,7 +2,7 @@ use mathlib.Core.Path.{sym, ap, ◌∙◌}
 use native.Mathlib.Omega.{arith}
 use lib.Seq.{length-take-le}
 use Rattle.formats.proofs.Formats.{format-fit}
-use Rattle.unicode.specs.Repertoire.{catalogue}
+use Rattle.repertoire.specs.Repertoire.{catalogue}
 use Rattle.checks.specs.Checks.{no_tests}
 use Rattle.checks.specs.Answers.{line_answer, moved_to}
 use Rattle.motion_calls.specs.Moves.{prompt_tests}

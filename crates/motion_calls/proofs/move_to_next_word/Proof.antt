@@ -1,5 +1,5 @@
 use mathlib.Core.Path.{sym, ap, ◌∙◌, ap₂}
-use Rattle.unicode.specs.Repertoire.{catalogue}
+use Rattle.repertoire.specs.Repertoire.{catalogue}
 use Rattle.motion_calls.proofs.Called.{unnamed-refused}
 use Rattle.keymap.specs.Codes.{word_of}
 use Rattle.keymap.specs.declared.AtCode.{AtCode}

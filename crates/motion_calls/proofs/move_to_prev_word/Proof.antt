@@ -1,5 +1,5 @@
 use mathlib.Core.Path.{sym, ap, ◌∙◌}
-use Rattle.unicode.specs.Repertoire.{catalogue}
+use Rattle.repertoire.specs.Repertoire.{catalogue}
 use Rattle.motion_calls.proofs.Called.{unnamed-refused}
 use Rattle.motion_calls.specs.Moves.{prev_word_by}
 use mathlib.Core.Bool.{false}

@@ -1,6 +1,6 @@
 use mathlib.Core.Path.{sym, ap, ◌∙◌}
 use lib.Seq.{length-take-le}
-use Rattle.unicode.specs.Repertoire.{catalogue}
+use Rattle.repertoire.specs.Repertoire.{catalogue}
 use Rattle.checks.specs.Checks.{no_tests}
 use Rattle.checks.specs.Answers.{line_answer, moved_to}
 use Rattle.checks.proofs.Fit.{fit-valid, fit-within}

@@ -1,12 +1,12 @@
 use mathlib.Core.Path.{sym, ap, ◌∙◌}
 use lib.Seq.{length-take-le}
-use Rattle.unicode.specs.Repertoire.{catalogue}
+use Rattle.repertoire.specs.Repertoire.{catalogue}
 use Rattle.checks.specs.Checks.{own_tests, refusal, both}
 use Rattle.checks.specs.Answers.{line_answer, moved_to}
 use Rattle.checks.proofs.Fit.{fit-valid, fit-within}
 use Rattle.motion_calls.proofs.Called.{lent, refused, accepted, fit_of}
 use mathlib.Core.Bool.{Bool, false, not}
-use Rattle.unicode.specs.Text.{is_char}
+use Rattle.repertoire.specs.Text.{is_char}
 use borrow.Author.Rules.{rules}
 use Rattle.motion_calls.proofs.search_char.Statement.{statement}
 use Rattle.motion_calls.proofs.search_char.Tie as tie

@@ -1,7 +1,7 @@
 use mathlib.Core.Path.{sym, ◌∙◌}
 use native.Mathlib.Omega.{arith}
 use lib.Seq.{length-take-le}
-use Rattle.unicode.specs.Repertoire.{catalogue}
+use Rattle.repertoire.specs.Repertoire.{catalogue}
 use Rattle.checks.specs.Checks.{own_tests}
 use Rattle.checks.proofs.Fit.{fit-valid}
 use Rattle.motion_calls.proofs.Called.{refused, accepted, fit_of, place-before, place-split, place-fits}

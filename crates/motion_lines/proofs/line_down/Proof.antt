@@ -1,7 +1,7 @@
 use borrow.Author.Rules.{rules}
 use native.Mathlib.Omega.{arith}
 use lib.ListN.{length-take, length-drop}
-use Rattle.unicode.specs.Repertoire.{catalogue}
+use Rattle.repertoire.specs.Repertoire.{catalogue}
 use Rattle.motion_lines.proofs.Columns.{line_down_none, line_down_some, offset-le}
 use Rattle.motion_lines.proofs.line_down.Statement.{statement}
 use Rattle.motion_lines.proofs.line_down.Tie as tie

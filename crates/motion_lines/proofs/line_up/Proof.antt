@@ -1,5 +1,5 @@
 use borrow.Author.Rules.{rules}
-use Rattle.unicode.specs.Repertoire.{catalogue}
+use Rattle.repertoire.specs.Repertoire.{catalogue}
 use Rattle.motion_lines.proofs.Columns.{line_up_none, line_up_some}
 use Rattle.motion_lines.proofs.line_up.Statement.{statement}
 use Rattle.motion_lines.proofs.line_up.Tie as tie

@@ -3,7 +3,7 @@ use Prim.Native.Nat.{◌≤◌, ◌-◌}
 use mathlib.Core.Path.{◌≡◌, sym, ◌∙◌}
 use native.Mathlib.Omega.{arith}
 use lib.ListN.{length-take, length-drop, length, drop}
-use Rattle.unicode.specs.Repertoire.{catalogue}
+use Rattle.repertoire.specs.Repertoire.{catalogue}
 use Rattle.lists.specs.Lists.{part}
 use Rattle.motion_lines.specs.Columns.{nth_cluster}
 use Rattle.motion_lines.proofs.Columns.{nth_from, nth_start, nth_end, nth_stuck, nth_found, nth_more}

@@ -1,4 +1,4 @@
-use Rattle.unicode.specs.Repertoire.{catalogue}
+use Rattle.repertoire.specs.Repertoire.{catalogue}
 use Rattle.motion_ranges.proofs.Ranges.{copied-empty, copied_full}
 use Rattle.motion_ranges.proofs.copied.Statement.{statement}
 use Rattle.motion_ranges.proofs.copied.Tie as tie

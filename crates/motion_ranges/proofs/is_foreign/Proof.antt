@@ -1,6 +1,6 @@
 use mathlib.Core.Bool.{not}
-use Rattle.unicode.specs.Repertoire.{catalogue}
-use Rattle.unicode.specs.Text.{is_char}
+use Rattle.repertoire.specs.Repertoire.{catalogue}
+use Rattle.repertoire.specs.Text.{is_char}
 use Rattle.motion_ranges.specs.Ranges.{is_foreign}
 use Rattle.motion_ranges.proofs.Ranges.{no_search}
 use mathlib.Core.Path.{sym, ap, ◌∙◌}

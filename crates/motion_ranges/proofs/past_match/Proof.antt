@@ -2,7 +2,7 @@ use mathlib.Core.Path.{sym, ap, ◌∙◌}
 use native.Mathlib.Omega.{arith}
 use Prim.Native.Nat.{ℕ, ◌+◌}
 use Rattle.utf8.specs.Encode.{size}
-use Rattle.unicode.specs.Repertoire.{catalogue}
+use Rattle.repertoire.specs.Repertoire.{catalogue}
 use Rattle.motion_lines.specs.declared.Range.TheVariants.{Places}
 use Rattle.motion.proofs.Matches.{forward-stands}
 use Rattle.motion_ranges.specs.Ranges.{up_to}

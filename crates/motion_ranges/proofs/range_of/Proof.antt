@@ -1,6 +1,6 @@
 use mathlib.Core.Path.{sym, ap, ◌∙◌}
 use Prim.Native.Nat.{ℕ}
-use Rattle.unicode.specs.Repertoire.{catalogue}
+use Rattle.repertoire.specs.Repertoire.{catalogue}
 use Rattle.motion_ranges.specs.Ranges.{range_of, up_to, back_to, between}
 use borrow.Author.Rules.{rules}
 use Rattle.motion_ranges.proofs.range_of.Statement.{statement}

@@ -1,5 +1,5 @@
 use mathlib.Core.Path.{sym, ap, ◌∙◌}
-use Rattle.unicode.specs.Repertoire.{catalogue}
+use Rattle.repertoire.specs.Repertoire.{catalogue}
 use Rattle.motion_ranges.specs.Ranges.{search_range, up_to, back_to}
 use Rattle.motion_ranges.proofs.Ranges.{behind_back}
 use borrow.Author.Rules.{rules}

@@ -1,4 +1,4 @@
-use Rattle.unicode.specs.Repertoire.{catalogue}
+use Rattle.repertoire.specs.Repertoire.{catalogue}
 use Rattle.motion_ranges.specs.Ranges.{is_after}
 use Rattle.motion_ranges.proofs.Ranges.{no_first, starts_other, starts_empty, starts_first}
 use mathlib.Core.Path.{sym, ap, ◌∙◌}

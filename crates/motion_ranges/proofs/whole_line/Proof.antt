@@ -1,4 +1,4 @@
-use Rattle.unicode.specs.Repertoire.{catalogue}
+use Rattle.repertoire.specs.Repertoire.{catalogue}
 use Rattle.motion_ranges.proofs.Ranges.{line-empty, line_full}
 use borrow.Author.Rules.{rules}
 use Rattle.motion_ranges.proofs.whole_line.Statement.{statement}

@@ -1,5 +1,5 @@
 use native.Mathlib.Omega.{arith}
-use Rattle.unicode.specs.Repertoire.{catalogue}
+use Rattle.repertoire.specs.Repertoire.{catalogue}
 use Rattle.motion_words.proofs.Landings.{pos_end, pos_found, pos_behind, pos_nothing, pos_last}
 use Rattle.motion_words.proofs.Places.{landing_fits}
 use borrow.Author.Rules.{rules}

@@ -7,7 +7,7 @@ use lib.ListN.{length}
 use lib.Seq.{length-take-le}
 use Rattle.utf8.specs.Chars.{boundary}
 use Rattle.utf8.proofs.Boundary.{boundary_end}
-use Rattle.unicode.specs.Repertoire.{catalogue}
+use Rattle.repertoire.specs.Repertoire.{catalogue}
 use Rattle.motion_words.specs.Words.{prev_word}
 use Rattle.motion_words.proofs.Indices.{back_step}
 use Rattle.motion_words.proofs.Walks.{

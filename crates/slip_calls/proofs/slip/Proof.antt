@@ -7,8 +7,8 @@ use lib.ListN.{length}
 use Rattle.formats.specs.Formats.{format_for}
 use Rattle.formats.proofs.Formats.{format-fit}
 use Rattle.utf8.specs.Chars.{valid}
-use Rattle.unicode.specs.Repertoire.{catalogue}
-use Rattle.unicode.proofs.Text.{text-valid}
+use Rattle.repertoire.specs.Repertoire.{catalogue}
+use Rattle.repertoire.proofs.Text.{text-valid}
 use Rattle.checks.proofs.Texts.{text-passes}
 use Rattle.slip_calls.proofs.Answer.{slip-refused, slip_full, slip-done}
 use Rattle.slip_calls.proofs.slip.Statement.{statement}

@@ -3,8 +3,8 @@ use mathlib.Core.List.{List}
 use Prim.Native.Nat.{ℕ}
 use native.Mathlib.Omega.{arith}
 use lib.ListN.{drop}
-use Rattle.unicode.specs.Repertoire.{catalogue}
-use Rattle.unicode.proofs.Catalogue.{catalogue_lawful}
+use Rattle.repertoire.specs.Repertoire.{catalogue}
+use Rattle.repertoire.proofs.Catalogue.{catalogue_lawful}
 use Rattle.cluster.specs.Clusters.{first_cluster}
 use Rattle.slip_calls.proofs.Clusters.{ClusterAt, cluster_told}
 use Rattle.slip_calls.proofs.Steps.{step_white, step_piece}

@@ -1,7 +1,7 @@
 use mathlib.Core.Path.{sym, ◌∙◌}
 use borrow.Author.Tests.{not-false}
-use Rattle.unicode.specs.Repertoire.{catalogue}
-use Rattle.unicode.proofs.Text.{text-valid}
+use Rattle.repertoire.specs.Repertoire.{catalogue}
+use Rattle.repertoire.proofs.Text.{text-valid}
 use borrow.Author.Rules.{rules}
 use Rattle.test_clusters.proofs.last_len.Statement.{statement}
 use Rattle.test_clusters.proofs.last_len.Tie as tie

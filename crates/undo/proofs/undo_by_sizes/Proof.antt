@@ -4,7 +4,7 @@ use Prim.Native.Nat.{◌+◌, ◌-◌}
 use mathlib.Core.Path.{◌∙◌}
 use mathlib.Core.Bool.{true}
 use lib.ListN.{length}
-use Rattle.unicode.specs.Repertoire.{catalogue}
+use Rattle.repertoire.specs.Repertoire.{catalogue}
 use Rattle.edit.specs.Calls.{state_of}
 use Rattle.log_records.specs.Walks.{SizesOf}
 use Rattle.undo.specs.Undo.{undo_walk, undo_out}

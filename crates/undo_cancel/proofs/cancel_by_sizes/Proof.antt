@@ -1,7 +1,7 @@
 use borrow.Author.Rules.{rules}
 use native.Mathlib.Omega.{arith}
 use mathlib.Core.Path.{ap, ◌∙◌}
-use Rattle.unicode.specs.Repertoire.{catalogue}
+use Rattle.repertoire.specs.Repertoire.{catalogue}
 use Rattle.edit.specs.Calls.{says, state_of}
 use Rattle.log_records.specs.Walks.{SizesOf}
 use Rattle.undo.specs.Steps.{line_of, lent_by}

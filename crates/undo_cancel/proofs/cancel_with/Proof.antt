@@ -3,7 +3,7 @@ use native.Mathlib.Omega.{arith}
 use mathlib.Core.Path.{refl, sym, ◌∙◌}
 use lib.ListN.{length-reverse}
 use lib.Seq.{length-take-le}
-use Rattle.unicode.specs.Repertoire.{catalogue}
+use Rattle.repertoire.specs.Repertoire.{catalogue}
 use Rattle.log_state.specs.Calls.{undos}
 use Rattle.log_state.proofs.Recorded.{lays, listed}
 use Rattle.edit.specs.Calls.{lent, log_lent, state_of}

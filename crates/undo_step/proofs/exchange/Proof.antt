@@ -5,8 +5,8 @@ use lib.ListN.{length, take}
 use lib.Seq.{length-take-le}
 use borrow.Author.Tests.{not-true, not-false}
 use Rattle.utf8.specs.Chars.{valid}
-use Rattle.unicode.specs.Repertoire.{catalogue}
-use Rattle.unicode.proofs.Text.{text-valid}
+use Rattle.repertoire.specs.Repertoire.{catalogue}
+use Rattle.repertoire.proofs.Text.{text-valid}
 use Rattle.undo_step.proofs.Exchanges.{ends_outside, cuts_first, cuts_last, too_long, stopped, exchanged}
 use borrow.Author.Rules.{rules}
 use Rattle.undo_step.proofs.exchange.Statement.{statement}

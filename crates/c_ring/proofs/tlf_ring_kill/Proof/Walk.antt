@@ -44,7 +44,7 @@ use denote.Triple.Spec.{Meets, triple_of}
 use denote.Triple.Walked.{says, Stays, stay_ref, gave_slice, stay_none, stay_none_slice, walk_of, AllGo, Goes-ref, Goes-gave_slice}
 use denote.Triple.Walked.{Goes-none, Goes-none_slice, Walks, ends_at, walked, walk_Meets}
 use denote.Exit.{yes}
-use Rattle.unicode.specs.Repertoire.{catalogue}
+use Rattle.repertoire.specs.Repertoire.{catalogue}
 use Rattle.checks.specs.Outcome.{Outcome}
 use Rattle.kill_ring.specs.declared.Ring.{Ring}
 use Rattle.kill_ring.specs.declared.AnswerAndRing.{AnswerAndRing}

@@ -1,5 +1,5 @@
 use mathlib.Core.Path.{ap}
-use Rattle.unicode.specs.Repertoire.{catalogue}
+use Rattle.repertoire.specs.Repertoire.{catalogue}
 use Rattle.log_state.specs.declared.Log.{Log}
 use Rattle.log_state.specs.Outcomes.{begin_out}
 use Rattle.log_state.specs.Calls.{Lent, lent, sizes_of, value_of}

@@ -4,7 +4,7 @@ use mathlib.Core.Bool.{Bool, cond}
 use Prim.Native.Nat.{◌-◌, ◌≤◌}
 use lib.Seq.{length-take-le}
 use borrow.Author.Tests.{lt-ltb, le-ltb}
-use Rattle.unicode.specs.Repertoire.{catalogue}
+use Rattle.repertoire.specs.Repertoire.{catalogue}
 use Rattle.checks.specs.Outcome.{Outcome}
 use Rattle.log_model.specs.Groups as groups
 use Rattle.log_state.specs.Outcomes.{end_out}

@@ -1,7 +1,7 @@
 use native.Mathlib.Omega.{arith}
 use mathlib.Core.Path.{sym}
 use lib.Seq.{length-take-le}
-use Rattle.unicode.specs.Repertoire.{catalogue}
+use Rattle.repertoire.specs.Repertoire.{catalogue}
 use Rattle.log_state.specs.Outcomes.{truncate_out}
 use Rattle.log_state.specs.Calls.{lent, value_of}
 use Rattle.log_state.proofs.Answers.{answered_as}
