@@ -7,7 +7,7 @@ use native.Mathlib.Nat.{mul-le-mul}
 use native.Mathlib.Omega.{arith}
 use lib.Dec.{leb, ltb}
 use lib.ListN.{length, take, drop, length-append, length-drop, take-append-drop}
-use borrow.Author.Tests.{le-leb, lt_leb, lt-ltb, le-ltb}
+use borrow.Author.Tests.{le-leb, lt-leb, lt-ltb, le-ltb}
 use Rattle.lists.specs.Lists.{part}
 use Rattle.lists.proofs.Bools.{by_less, by_test}
 use Rattle.utf8.specs.Chars.{valid, In}
@@ -35,7 +35,7 @@ use Rattle.edit_indent_plans.proofs.Lines.{lines_plan, Begins}
 
 -- ---- room behind a bytes
 fits-behind : (a n z : ℕ) → a ≤ z → leb n (z - a) ≡ leb (a + n) z
-fits-behind a n z h = by_less _ (z - a) n (λ l. lt_leb n (z - a) l ∙ sym (lt_leb (a + n) z (omega arith))) (λ l. le-leb n (z - a) l ∙ sym (le-leb (a + n) z (omega arith)))
+fits-behind a n z h = by_less _ (z - a) n (λ l. lt-leb n (z - a) l ∙ sym (lt-leb (a + n) z (omega arith))) (λ l. le-leb n (z - a) l ∙ sym (le-leb (a + n) z (omega arith)))
 
 pub both-fit : (a b n k : ℕ) (y z : ℕ) → a ≤ y → b ≤ z → (leb n (y - a) && leb k (z - b)) ≡ (leb (a + n) y && leb (b + k) z)
 both-fit a b n k y z h i = ap₂ (λ (p q : Bool). p && q) (fits-behind a n y h) (fits-behind b k z i)

@@ -6,7 +6,7 @@ use mathlib.Core.Bool.{Bool, true, false, cond, ◌||◌}
 use mathlib.Core.List.{List, ◌∷◌}
 use lib.Dec.{eqb, ltb, leb}
 use lib.ListN.{length}
-use borrow.Author.Tests.{lt_leb, le-leb, le-ltb}
+use borrow.Author.Tests.{lt-leb, le-leb, le-ltb}
 use Rattle.lists.proofs.Bools.{by_less}
 use Rattle.utf8.specs.Chars.{valid}
 use Rattle.repertoire.specs.Repertoire.{Repertoire}
@@ -35,7 +35,7 @@ module _ (R : Repertoire) (t : List ℕ) where
       step_two R (leb (length t) m ≡ ltb (length (clusters_of R t)) 2) t v l
       (λ k ks s.
       let n : 2 ≤ length (first_cluster R t ∷ (k ∷ ks)) = omega arith in
-      lt_leb (length t) m l ∙ sym (ap (λ (x : List (List ℕ)). ltb (length x) 2) s ∙ le-ltb (length (first_cluster R t ∷ (k ∷ ks))) 2 n))
+      lt-leb (length t) m l ∙ sym (ap (λ (x : List (List ℕ)). ltb (length x) 2) s ∙ le-ltb (length (first_cluster R t ∷ (k ∷ ks))) 2 n))
 
   pub under-two : valid t ≡ true → (k : Cluster) → k ≡ facts R (first_cluster R t) → leb (length t) k.len ≡ ltb (length (clusters_of R t)) 2
   under-two v k e =

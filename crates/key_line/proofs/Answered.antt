@@ -5,7 +5,7 @@ use mathlib.Core.Path.{◌≡◌, refl, sym, ap, subst, ◌∙◌}
 use mathlib.Core.Bool.{Bool, true, false, cond, true≢false}
 use mathlib.Core.List.{List}
 use lib.Dec.{leb}
-use borrow.Author.Tests.{lt_leb}
+use borrow.Author.Tests.{lt-leb}
 use Rattle.repertoire.specs.Repertoire.{catalogue}
 use Rattle.formats.specs.declared.Format.{Format}
 use Rattle.checks.specs.Outcome.{Outcome, refused, answered, number_in}
@@ -47,7 +47,7 @@ module _ (F : Format) (l : Lent) (g : rings.Lent) (c : rings.checked catalogue g
   module _ {a : EditAnswer} {t rb tb : List ℕ} where
     by_number : (o : Outcome State) (b : Bool) → b ≡ leb (number_in o) 1 → Refuses o → Edited F l o a t rb tb
         → KeyDone F l g (together o (cond b (reset_out v) (answered 0 0 0 v))) (with_ring a (ring_after b)) (key_buffers t rb tb g.slots g.lens)
-    by_number (refused k) true e h x = absurd (true≢false (e ∙ lt_leb k 1 h))
+    by_number (refused k) true e h x = absurd (true≢false (e ∙ lt-leb k 1 h))
     by_number (refused k) false e h x =
         record { answer = ap (λ (y : EditAnswer). with_ring y g.ring) x.answer; bytes = (x.bytes, record { slots = refl; lens = refl }) }
     by_number (answered k i j s) true e h x =

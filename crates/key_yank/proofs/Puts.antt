@@ -8,7 +8,7 @@ use mathlib.Core.List.{List, [], ◌∷◌}
 use mathlib.Core.Option.{some}
 use lib.Dec.{leb}
 use lib.ListN.{length}
-use borrow.Author.Tests.{le-leb, lt_leb}
+use borrow.Author.Tests.{le-leb, lt-leb}
 use Rattle.utf8.specs.Chars.{boundary}
 use Rattle.repertoire.specs.Repertoire.{catalogue}
 use Rattle.repertoire.specs.Text.{is_text}
@@ -106,7 +106,7 @@ module _ (F : Format) (l : Lent) (g : rings.Lent) where
       together-done (refused k) h a t rb tb e =
           record {
             answer = ap answer_by e.answer
-                ∙ ap (λ (b : Bool). with_ring (says k l.line l.log) (cond b left g.ring)) (lt_leb k 1 h);
+                ∙ ap (λ (b : Bool). with_ring (says k l.line l.log) (cond b left g.ring)) (lt-leb k 1 h);
             bytes = (e.bytes, record { slots = refl; lens = refl });
           }
       together-done (answered k i j s) h a t rb tb e =

@@ -4,7 +4,7 @@ use native.Mathlib.Omega.{arith}
 use mathlib.Core.Path.{◌≡◌, refl, sym, ap, ap₂, ◌∙◌}
 use mathlib.Core.Bool.{Bool, false, cond, not, ◌||◌, ◌&&◌}
 use mathlib.Core.List.{List, [], ◌∷◌}
-use borrow.Author.Tests.{le-ltb, lt_leb, not-false, eq-eqb}
+use borrow.Author.Tests.{le-ltb, lt-leb, not-false, eq-eqb}
 use lib.Dec.{eqb, leb, ltb, eqb-suc-zero}
 use lib.ListN.{length, take, drop}
 use Rattle.lists.proofs.Bools.{or_none}
@@ -87,7 +87,7 @@ index-passes v h = go v.slots h
   where
     go : (ss : List (List ℕ)) → SoundIndex v.index ss → cond (eqb (length ss) 0) (not (eqb v.index 0)) (leb (length ss) v.index) ≡ false
     go [] e = ap not (eq-eqb v.index 0 e)
-    go (s ∷ ss) k = ap (λ (b : Bool). cond b (not (eqb v.index 0)) (leb (suc (length ss)) v.index)) (eqb-suc-zero (length ss)) ∙ lt_leb (suc (length ss)) v.index k
+    go (s ∷ ss) k = ap (λ (b : Bool). cond b (not (eqb v.index 0)) (leb (suc (length ss)) v.index)) (eqb-suc-zero (length ss)) ∙ lt-leb (suc (length ss)) v.index k
 
 -- a sound last action meets none of the tests
 action-breaks : (a : Action) (size : ℕ) (ss : List (List ℕ)) → SoundAction a size ss

@@ -2,10 +2,10 @@
 use Prim.Native.Nat.{ℕ, ◌+◌, ◌≤◌, ◌<◌}
 use mathlib.Core.Path.{◌≡◌, refl, sym, ap, subst, ◌∙◌}
 use mathlib.Core.List.{List, [], ◌∷◌, ◌++◌, reverse, reverse-cons}
-use mathlib.Core.Bool.{true, false, and_false}
+use mathlib.Core.Bool.{true, false, and-false}
 use lib.ListN.{length, length-append}
 use lib.Dec.{leb}
-use borrow.Author.Tests.{lt-ltb, le-ltb, le-leb, lt_leb}
+use borrow.Author.Tests.{lt-ltb, le-ltb, le-leb, lt-leb}
 use Rattle.repertoire.specs.Repertoire.{Repertoire}
 use Rattle.log_model.specs.Change.{Edit, insert, delete, replace, Change, begin, end, edit, place}
 use Rattle.numbers.specs.Numbers.{top}
@@ -67,11 +67,11 @@ module _ (F : Format) (z : Sizes) (u : List Change) where
 
   pub full_records : z.records < length (undo_records F u) → fits F z u ≡ false
   unfolding fits
-  full_records h = rw (lt_leb (length (undo_records F u)) z.records h) (and_false (all_numbers_fit F.width u))
+  full_records h = rw (lt-leb (length (undo_records F u)) z.records h) (and-false (all_numbers_fit F.width u))
 
   pub full_texts : z.texts < length (undo_texts u) → fits F z u ≡ false
   unfolding fits
-  full_texts h = rw (lt_leb (length (undo_texts u)) z.texts h, and_false (leb (length (undo_records F u)) z.records)) (and_false (all_numbers_fit F.width u))
+  full_texts h = rw (lt-leb (length (undo_texts u)) z.texts h, and-false (leb (length (undo_records F u)) z.records)) (and-false (all_numbers_fit F.width u))
 
 pub full_place : (F : Format) (z : Sizes) (x : Edit) (u : List Change) → top F.width ≤ place x → fits F z (edit x ∷ u) ≡ false
 unfolding fits all_numbers_fit

@@ -6,7 +6,7 @@ use mathlib.Core.Bool.{Bool, false, cond}
 use mathlib.Core.List.{List, [], ◌∷◌, reverse, reverse-reverse}
 use lib.Dec.{leb}
 use lib.ListN.{length, drop}
-use borrow.Author.Tests.{le-leb, lt_leb}
+use borrow.Author.Tests.{le-leb, lt-leb}
 use Rattle.repertoire.specs.Repertoire.{Repertoire}
 use Rattle.log_model.specs.Change.{insert, delete, replace, Change, begin, end, edit}
 use Rattle.formats.specs.declared.Format.{Format}
@@ -59,7 +59,7 @@ module _ (R : Repertoire) (F : Format) (rs : List ℕ) where
 
     pub edit_last : 2 < r.kind → (ts : List ℕ) (us : List Change) → Layout R F rs ts us → t ≡ length ts
         → tail (length rs) t r.kind r.place r.old r.new ≡ tail_of F (reverse us)
-    edit_last h ts us l e = sym (rw (lt_leb r.kind 2 h)) ∙ tail-is ts us l e
+    edit_last h ts us l e = sym (rw (lt-leb r.kind 2 h)) ∙ tail-is ts us l e
 
   -- as far as a change looks at it that is not joined
   pub tail_apart : (t : ℕ) (j : Bool) → j ≡ false → (ts : List ℕ) (us : List Change) → Layout R F rs ts us → t ≡ length ts

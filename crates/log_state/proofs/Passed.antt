@@ -8,7 +8,7 @@ use mathlib.Core.Option.{Option, some, none}
 use lib.Dec.{ltb, leb}
 use lib.ListN.{length, take, drop}
 use lib.Seq.{get_or-drop}
-use borrow.Author.Tests.{ltb-false, lt-ltb, le-ltb, lt_leb, le-leb}
+use borrow.Author.Tests.{ltb-false, lt-ltb, le-ltb, lt-leb, le-leb}
 use Rattle.lists.proofs.Bools.{never, or_none, by_less, and_both}
 use Rattle.repertoire.specs.Repertoire.{catalogue}
 use Rattle.log_model.specs.Change.{Change}
@@ -106,7 +106,7 @@ module _ (F : Format) (l : Lent) (foreign : Bool) where
 
 -- ---- check 8 by its tests: the level v, and whether each of the two lists is one
 low_level : (v : ℕ) → leb v 255 ≡ not (ltb 255 v)
-low_level v = by_less _ 255 v (λ h. rw (lt-ltb 255 v h, lt_leb v 255 h)) (λ h. rw (le-ltb 255 v h, le-leb v 255 h))
+low_level v = by_less _ 255 v (λ h. rw (lt-ltb 255 v h, lt-leb v 255 h)) (λ h. rw (le-ltb 255 v h, le-leb v 255 h))
 
 pub sound_is : (v : ℕ) (a b x y : Bool) → a ≡ x → b ≡ y → leb v 255 && (a && b) ≡ not (ltb 255 v || (not x || not y))
 sound_is v a b x y e f = ap₂ (λ (c d : Bool). leb v 255 && (c && d)) e f ∙ ap (λ (c : Bool). c && (x && y)) (low_level v) ∙ tests (ltb 255 v) x y

@@ -1,10 +1,10 @@
 -- Steps over clusters, forward and backward, one at a time. Assumes nothing.
 use mathlib.Core.Path.{◌≡◌, sym, ap, subst, ◌∙◌}
-use mathlib.Core.Bool.{true, or_true}
+use mathlib.Core.Bool.{true, or-true}
 use mathlib.Core.List.{List, [], ◌∷◌, ◌++◌, map, map-append}
 use Prim.Native.Nat.{ℕ, zero, suc, ◌+◌, ◌-◌, ◌<◌, ◌≤◌}
 use native.Mathlib.Omega.{arith}
-use borrow.Author.Tests.{le-leb, lt_leb, eq-eqb, ne_eqb}
+use borrow.Author.Tests.{le-leb, lt-leb, eq-eqb, ne_eqb}
 use lib.ListN.{length, take, drop, length-append}
 use lib.Seq.{drop-drop, take-nil, take-append-le, take_all, length-take-le}
 use Rattle.lists.specs.Lists.{sum}
@@ -45,7 +45,7 @@ module _ (R : Repertoire) (s : List ℕ) where
 
   pub next_found : (pos n p : ℕ) → pos < length s → (n ≡ 0 → ⊥) → p ≡ pos + sum (take n (sizes R (drop pos s))) → At p ≡ next_pos R s pos n
   unfolding next_pos
-  next_found pos n p h z e = rw (lt_leb (length s) pos h, ne_eqb n 0 z, e)
+  next_found pos n p h z e = rw (lt-leb (length s) pos h, ne_eqb n 0 z, e)
 
   pub next-end : (pos n : ℕ) → length s ≤ pos → Nothing ≡ next_pos R s pos n
   unfolding next_pos
@@ -53,7 +53,7 @@ module _ (R : Repertoire) (s : List ℕ) where
 
   pub next-zero : (pos n : ℕ) → n ≡ 0 → Nothing ≡ next_pos R s pos n
   unfolding next_pos
-  next-zero pos n z = simp (eq-eqb n 0 z, or_true)
+  next-zero pos n z = simp (eq-eqb n 0 z, or-true)
 
   -- ---- backward: the clusters of the text before at
   abbrev back : ℕ → List ℕ
@@ -93,4 +93,4 @@ module _ (R : Repertoire) (s : List ℕ) where
 
   pub prev_zero : (pos n : ℕ) → n ≡ 0 → Nothing ≡ prev_pos R s pos n
   unfolding prev_pos
-  prev_zero pos n z = simp (eq-eqb n 0 z, or_true)
+  prev_zero pos n z = simp (eq-eqb n 0 z, or-true)

@@ -1,6 +1,6 @@
 -- A call of copy: ViFirstPrint's test of its start comes with the cursor's, after all tests of the lent text but the last. Assumes nothing.
 use mathlib.Core.Path.{◌≡◌, refl, sym, ap, ◌∙◌}
-use mathlib.Core.Bool.{Bool, true, false, cond, ◌||◌, or_true}
+use mathlib.Core.Bool.{Bool, true, false, cond, ◌||◌, or-true}
 use mathlib.Core.List.{List}
 use mathlib.Core.Logic.{◌⊎◌, inl, inr, ⊎_elim}
 use Prim.Native.Nat.{ℕ, ◌≤◌}
@@ -43,7 +43,7 @@ chain_late false true p q h = ⊎_elim (λ e. absurd (omega arith)) (λ e. absur
 chain_late false false p q h = (refl, refl)
 
 chain_place : (a c p x q : Bool) → a ≡ false → c ≡ false → x ≡ true → 5 ≡ chain a c (p || x) q
-chain_place a c p x q u v h = rw (u, v, h, or_true p)
+chain_place a c p x q u v h = rw (u, v, h, or-true p)
 
 module _ (R : Repertoire) (buffer : List ℕ) (line : Line) (mvt : Movement) (f : Bool) (w : f ≡ is_foreign R mvt) (r : ℕ)
     (e : r ≡ refusal (both (lent R buffer line) (own_tests false f false))) where

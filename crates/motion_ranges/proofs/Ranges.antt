@@ -1,6 +1,6 @@
 -- The two places of copy, by the tests that lead to them. Assumes nothing.
 use mathlib.Core.Path.{◌≡◌, refl, sym, ap, ◌∙◌}
-use mathlib.Core.Bool.{Bool, false, ◌&&◌, and_false}
+use mathlib.Core.Bool.{Bool, false, ◌&&◌, and-false}
 use mathlib.Core.List.{List, [], ◌∷◌}
 use Prim.Native.Nat.{ℕ, ◌+◌}
 use native.Mathlib.Omega.{arith}
@@ -45,7 +45,7 @@ module _ (R : Repertoire) (s : List ℕ) (pos : ℕ) where
 
     pub starts_empty : length s ≡ 0 → false ≡ starts_after R s pos mvt
     unfolding starts_after
-    starts_empty h = sym (and_false (is_first_print mvt)) ∙ ap (λ (r : Range). is_first_print mvt && is_after pos r) (copied-empty h)
+    starts_empty h = sym (and-false (is_first_print mvt)) ∙ ap (λ (r : Range). is_first_print mvt && is_after pos r) (copied-empty h)
 
     pub starts_other : false ≡ is_first_print mvt → false ≡ starts_after R s pos mvt
     unfolding starts_after

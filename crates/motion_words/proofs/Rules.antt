@@ -1,6 +1,6 @@
 -- The word rules, word by word and stop by stop, with the answers of the calls that they are made of. Assumes nothing.
 use mathlib.Core.Path.{◌≡◌, ap, ◌∙◌}
-use mathlib.Core.Bool.{Bool, true, false, ◌&&◌, ◌||◌, not, or-false, or_true}
+use mathlib.Core.Bool.{Bool, true, false, ◌&&◌, ◌||◌, not, or-false, or-true}
 use Prim.Native.Nat.{ℕ}
 use Rattle.cluster.specs.declared.Cluster.{Cluster}
 use Rattle.keymap.specs.declared.Word.{Word}
@@ -39,4 +39,4 @@ module _ (at : At) (w : Word) (i j : ℕ) where
 
   pub land_after : at ≡ AfterEnd → j ≡ lands_on at w i j
   unfolding lands_on lands_behind
-  land_after e = rw (e, or_true)
+  land_after e = rw (e, or-true)

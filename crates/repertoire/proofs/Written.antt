@@ -4,7 +4,7 @@ use mathlib.Core.Bool.{true, ◌&&◌}
 use mathlib.Core.List.{List, [], ◌∷◌, ◌++◌, append-nil, append_assoc}
 use Prim.Native.Nat.{ℕ, ◌+◌, ◌<◌, ◌≤◌}
 use native.Mathlib.Omega.{arith}
-use borrow.Author.Tests.{le-leb, lt_leb}
+use borrow.Author.Tests.{le-leb, lt-leb}
 use lib.ListN.{length, drop, length-append}
 use lib.Seq.{sets, length-sets, drop-drop}
 use Rattle.lists.proofs.Bools.{and_both}
@@ -123,7 +123,7 @@ module _ (R : Repertoire) (k : Case) (before s : List ℕ) where
 
 pub no_room : (before : List ℕ) (k : Case) (s : List ℕ) → length before < length s → CasedInto before k s before 0
 unfolding cased_into
-no_room before k s h = let l = lt_leb (length s) (length before) h in record { bytes = rw l; counted = rw l }
+no_room before k s h = let l = lt-leb (length s) (length before) h in record { bytes = rw l; counted = rw l }
 
 -- no further character
 pub writing_end : (before : List ℕ) (k : Case) (s after : List ℕ) (i n : ℕ) → Writing catalogue k before s after i n → first (drop i s) ≡ bad →

@@ -6,7 +6,7 @@ use mathlib.Core.Bool.{true, false≢true}
 use mathlib.Core.List.{List, [], ◌∷◌}
 use lib.Dec.{eqb}
 use lib.ListN.{length}
-use borrow.Author.Tests.{eqb-true, le-leb, lt_leb}
+use borrow.Author.Tests.{eqb-true, le-leb, lt-leb}
 use Rattle.lists.proofs.Bools.{by_test}
 use Rattle.utf8.specs.Chars.{In}
 use Rattle.repertoire.specs.Repertoire.{Repertoire}
@@ -39,7 +39,7 @@ below_all : (m k : ℕ) (u : List Change) → length u ≤ m → below m (open_m
 unfolding below
 below_all m zero u h = refl
 below_all m (suc k) [] h = refl
-below_all m (suc k) (begin ∷ u) h = rw (lt_leb m (length u) h, below_all m k u (omega arith))
+below_all m (suc k) (begin ∷ u) h = rw (lt-leb m (length u) h, below_all m k u (omega arith))
 below_all m (suc k) (end ∷ u) h = refl
 below_all m (suc k) (edit x ∷ u) h = below_all m (suc k) u (omega arith)
 

@@ -7,7 +7,7 @@ use mathlib.Core.List.{List, [], ◌∷◌}
 use mathlib.Core.Option.{Option, some, none}
 use lib.Dec.{ltb}
 use lib.ListN.{length}
-use borrow.Author.Tests.{lt_leb, ne_eqb}
+use borrow.Author.Tests.{lt-leb, ne_eqb}
 use Rattle.lists.proofs.Bools.{and_both, by_test}
 use Rattle.repertoire.specs.Repertoire.{Repertoire}
 use Rattle.checks.specs.Checks.{Tests, later_number, refusal, both, own_tests}
@@ -104,8 +104,8 @@ module _ (R : Repertoire) (F : Format) (Q : List ℕ → Type 0) (t₀ : List �
   pub refused_keeps : (a : Asked) (k : ℕ) (s : State) (g : List ℕ) → Inv R F Q t₀ s g → Keeps a (refused (suc (suc k))) s g
   refused_keeps (calls.edit x) k s g v = v
   refused_keeps (calls.move x) k s g v = v
-  refused_keeps (calls.log calls.begin) k s g v = rw (lt_leb (suc (suc k)) 1 (omega arith)) v
-  refused_keeps (calls.log calls.end) k s g v = rw (lt_leb (suc (suc k)) 1 (omega arith)) v
+  refused_keeps (calls.log calls.begin) k s g v = rw (lt-leb (suc (suc k)) 1 (omega arith)) v
+  refused_keeps (calls.log calls.end) k s g v = rw (lt-leb (suc (suc k)) 1 (omega arith)) v
   refused_keeps (calls.log calls.last_insert) k s g v = v
   refused_keeps (calls.undo n) k s g v = v
   refused_keeps (calls.redo n) k s g v = v

@@ -6,7 +6,7 @@ use mathlib.Core.List.{List, [], ◌∷◌}
 use native.Mathlib.Omega.{arith}
 use lib.Dec.{leb}
 use lib.ListN.{length, drop, drop_of_length-le}
-use borrow.Author.Tests.{le-leb, lt_leb}
+use borrow.Author.Tests.{le-leb, lt-leb}
 use Rattle.lists.specs.Lists.{any, concat, part}
 use Rattle.utf8.specs.Chars.{chars_from, valid}
 use Rattle.repertoire.specs.Repertoire.{Repertoire}
@@ -42,7 +42,7 @@ module _ (R : Repertoire) where
   pub stops_full : (col : ℕ) (k : List ℕ) (ks : List (List ℕ)) → any R.white k ≡ false → 60 < col + columns R (k ∷ []) → Stops col (k ∷ ks)
   unfolding piece_from behind_piece
   stops_full col k ks w h =
-      let e : leb (col + columns R (k ∷ [])) 60 ≡ false = lt_leb _ _ h in
+      let e : leb (col + columns R (k ∷ [])) 60 ≡ false = lt-leb _ _ h in
       record { none = rw (w, e); all = rw (w, e) }
 
   pub goes-on : (col : ℕ) (k : List ℕ) (ks : List (List ℕ)) → any R.white k ≡ false → col + columns R (k ∷ []) ≤ 60 → GoesOn col k ks

@@ -7,7 +7,7 @@ use native.Mathlib.Omega.{arith}
 use lib.Dec.{leb}
 use lib.ListN.{length, set, length-append}
 use lib.Seq.{sets}
-use borrow.Author.Tests.{le-leb, lt_leb}
+use borrow.Author.Tests.{le-leb, lt-leb}
 use Rattle.lists.proofs.Bools.{by_test}
 use Rattle.lists.proofs.Stores.{sets-append}
 use Rattle.slip_model.specs.declared.Filled.{Filled}
@@ -44,7 +44,7 @@ place-fits f n spaces columns e h m =
 pub place-below : (f : Filled) (n spaces columns : ℕ) → spaces ≡ space_before f → columns ≡ filled_to f + spaces + n → 60 < columns →
     line_end f (UpTo n) ≡ place_for f n
 place-below f n spaces columns e h m =
-    let t : leb (with f n) 60 ≡ false = lt_leb (with f n) 60 (omega (arith, e, h, m, with-columns f n)) in
+    let t : leb (with f n) 60 ≡ false = lt-leb (with f n) 60 (omega (arith, e, h, m, with-columns f n)) in
     rw t refl
 
 -- white space without \n

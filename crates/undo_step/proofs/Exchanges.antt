@@ -3,11 +3,11 @@ use Prim.Native.Nat.{ℕ, ◌+◌, ◌-◌, ◌≤◌, ◌<◌}
 use native.Mathlib.Omega.{arith}
 use native.Mathlib.Nat.{add-sub_cancel_left}
 use mathlib.Core.Path.{◌≡◌, refl, sym, ap, subst, ◌∙◌}
-use mathlib.Core.Bool.{true, false, and_false}
+use mathlib.Core.Bool.{true, false, and-false}
 use mathlib.Core.List.{List}
 use lib.Dec.{leb}
 use lib.ListN.{length, take}
-use borrow.Author.Tests.{le-leb, lt_leb, lt-ltb, le-ltb}
+use borrow.Author.Tests.{le-leb, lt-leb, lt-ltb, le-ltb}
 use Rattle.lists.proofs.Bools.{by_test, by_less}
 use Rattle.utf8.specs.Chars.{boundary}
 use Rattle.buffer.specs.Edit.{inserted, cut}
@@ -39,15 +39,15 @@ module _ (C p n : ℕ) (s t : List ℕ) where
   -- 12: the bytes leave the text, or cut a character at their start or at their end
   pub ends_outside : length t < p + n → exchanging C p n s t ≡ stops 12
   unfolding exchanging misfit
-  ends_outside h = rw (lt_leb (p + n) (length t) h)
+  ends_outside h = rw (lt-leb (p + n) (length t) h)
 
   pub cuts_first : boundary t p ≡ false → exchanging C p n s t ≡ stops 12
   unfolding exchanging misfit
-  cuts_first h = rw (h, and_false (leb (p + n) (length t)))
+  cuts_first h = rw (h, and-false (leb (p + n) (length t)))
 
   pub cuts_last : boundary t (p + n) ≡ false → exchanging C p n s t ≡ stops 12
   unfolding exchanging misfit
-  cuts_last h = rw (h, and_false (boundary t p), and_false (leb (p + n) (length t)))
+  cuts_last h = rw (h, and-false (boundary t p), and-false (leb (p + n) (length t)))
 
   -- 9
   pub too_long : p + n ≤ length t → boundary t p ≡ true → boundary t (p + n) ≡ true → C < length t - n + length s → exchanging C p n s t ≡ stops 9

@@ -7,7 +7,7 @@ use Prim.Native.Nat.{ℕ, zero, suc, ◌+◌, ◌*◌, ◌%◌, ◌<◌, ◌≤�
 use native.Mathlib.Omega.{arith}
 use lib.Dec.{T, leb}
 use lib.ListN.{length, get_or, drop}
-use borrow.Author.Tests.{le-leb, lt_leb, leb-true, eqb-true}
+use borrow.Author.Tests.{le-leb, lt-leb, leb-true, eqb-true}
 use Rattle.utf8.specs.Utf8.{First, char, bad, within, tail, one, two, lead3, three, lead4, four, or_else, first_of, first}
 use Rattle.utf8.specs.Chars.{chars_from, valid_from, chars, valid}
 use Rattle.utf8.specs.Encode.{size}
@@ -88,7 +88,7 @@ form_two a b cp n e =
     let y = within_true 0x80 0xBF b q.1 in
     let v = p.1 in
     let w = p.2 in
-    record { byte = omega arith; count = omega arith; sized = simp (lt_leb cp 0x7F (omega arith), le-leb cp 0x7FF (omega arith)) }
+    record { byte = omega arith; count = omega arith; sized = simp (lt-leb cp 0x7F (omega arith), le-leb cp 0x7FF (omega arith)) }
 
 pub form_three : (a b c cp n : ℕ) → three a b c ≡ char cp n → Form c cp n 2
 unfolding three size
@@ -102,7 +102,7 @@ form_three a b c cp n e =
     record {
       byte = omega arith;
       count = omega arith;
-      sized = simp (lt_leb cp 0x7F (omega arith), lt_leb cp 0x7FF (omega arith), le-leb cp 0xFFFF (omega arith));
+      sized = simp (lt-leb cp 0x7F (omega arith), lt-leb cp 0x7FF (omega arith), le-leb cp 0xFFFF (omega arith));
     }
 
 pub form_four : (a b c d cp n : ℕ) → four a b c d ≡ char cp n → Form d cp n 3
@@ -118,7 +118,7 @@ form_four a b c d cp n e =
     record {
       byte = omega arith;
       count = omega arith;
-      sized = simp (lt_leb cp 0x7F (omega arith), lt_leb cp 0x7FF (omega arith), lt_leb cp 0xFFFF (omega arith));
+      sized = simp (lt-leb cp 0x7F (omega arith), lt-leb cp 0x7FF (omega arith), lt-leb cp 0xFFFF (omega arith));
     }
 
 -- a character has its code point's size, is not empty and lies within the list

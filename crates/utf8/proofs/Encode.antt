@@ -1,6 +1,6 @@
 -- Laws of the bytes of a code point: they are read back as it, and every character has the bytes of its code point. Assumes nothing.
 use mathlib.Core.Path.{◌≡◌, refl, sym, ap, ◌∙◌}
-use mathlib.Core.Bool.{true, false, ◌&&◌, not, and_false}
+use mathlib.Core.Bool.{true, false, ◌&&◌, not, and-false}
 use mathlib.Core.List.{List, [], ◌∷◌, ◌++◌, append_assoc, append-nil}
 use mathlib.Core.Logic.{⊎_elim, ◌⊎◌, inl, inr}
 use Prim.Native.Nat.{ℕ, suc, ◌+◌, ◌*◌, ◌/◌, ◌%◌, ◌<◌, ◌≤◌}
@@ -8,7 +8,7 @@ use native.Mathlib.Omega.{arith}
 use lib.Dec.{leb, eqb}
 use lib.ListN.{length, get_or, take, drop, set, take-append-drop}
 use lib.Seq.{sets, take-suc, drop_at}
-use borrow.Author.Tests.{le-leb, lt_leb, leb-true, eqb-true, eqb-false}
+use borrow.Author.Tests.{le-leb, lt-leb, leb-true, eqb-true, eqb-false}
 use Rattle.lists.specs.Lists.{all}
 use Rattle.lists.proofs.Bools.{and_both, by_less, by_test, never}
 use Rattle.utf8.specs.Utf8.{char, bad, within, tail, one, two, lead3, three, lead4, four, or_else, first_of, first}
@@ -30,22 +30,22 @@ row_one c h = let a = le-leb c 0x7F h in record { sized = rw a; bytes = rw a }
 
 row-two : (c : ℕ) → 0x7F < c → c ≤ 0x7FF → Row c 2 (two_bytes c)
 unfolding size encode
-row-two c l h = let a = lt_leb c 0x7F l in let b = le-leb c 0x7FF h in record { sized = rw (a, b); bytes = rw (a, b) }
+row-two c l h = let a = lt-leb c 0x7F l in let b = le-leb c 0x7FF h in record { sized = rw (a, b); bytes = rw (a, b) }
 
 row-three : (c : ℕ) → 0x7FF < c → c ≤ 0xFFFF → Row c 3 (three_bytes c)
 unfolding size encode
 row-three c l h =
-    let a = lt_leb c 0x7F (omega arith) in
-    let b = lt_leb c 0x7FF l in
+    let a = lt-leb c 0x7F (omega arith) in
+    let b = lt-leb c 0x7FF l in
     let d = le-leb c 0xFFFF h in
     record { sized = rw (a, b, d); bytes = rw (a, b, d) }
 
 row-four : (c : ℕ) → 0xFFFF < c → Row c 4 (four_bytes c)
 unfolding size encode
 row-four c l =
-    let a = lt_leb c 0x7F (omega arith) in
-    let b = lt_leb c 0x7FF (omega arith) in
-    let d = lt_leb c 0xFFFF l in
+    let a = lt-leb c 0x7F (omega arith) in
+    let b = lt-leb c 0x7FF (omega arith) in
+    let d = lt-leb c 0xFFFF l in
     record { sized = rw (a, b, d); bytes = rw (a, b, d) }
 
 by_row : (P : Type 0) (c : ℕ) → (c ≤ 0x7F → P) → (0x7F < c → c ≤ 0x7FF → P) → (0x7FF < c → c ≤ 0xFFFF → P) → (0xFFFF < c → P) → P
@@ -340,7 +340,7 @@ refused s at c e = record { bytes = rw e; counted = rw e }
 
 pub no_room : (s : List ℕ) (at c n : ℕ) → n ≡ size c → length s < at + n → EncodedAt s at c s 0
 unfolding fitting
-no_room s at c n e h = let f = lt_leb (at + size c) (length s) (rw e at h) in record { bytes = rw (f, and_false); counted = rw (f, and_false) }
+no_room s at c n e h = let f = lt-leb (at + size c) (length s) (rw e at h) in record { bytes = rw (f, and-false); counted = rw (f, and-false) }
 
 wrote : (s : List ℕ) (at c n : ℕ) (l : List ℕ) → scalar c ≡ true → Row c n l → n ≡ length l → at + n ≤ length s → EncodedAt s at c (sets s at l) n
 unfolding fitting

@@ -1,13 +1,13 @@
 -- Which alternative of the ABNF a first byte leaves. Assumes nothing.
 use mathlib.Core.Path.{◌≡◌, refl, ◌∙◌}
-use mathlib.Core.Bool.{true, false, and_false}
+use mathlib.Core.Bool.{true, false, and-false}
 use mathlib.Core.List.{List}
 use Prim.Native.Nat.{ℕ, ◌+◌, ◌<◌, ◌≤◌}
 use native.Mathlib.Omega.{arith}
 use native.Mathlib.Nat.{add-zero}
 use lib.ListN.{length, get_or, drop, get_or-eq_default}
 use lib.Seq.{get_or-drop}
-use borrow.Author.Tests.{ne_eqb, le-leb, lt_leb}
+use borrow.Author.Tests.{ne_eqb, le-leb, lt-leb}
 use Rattle.utf8.specs.Utf8.{First, char, bad, within, one, two, lead3, three, lead4, four, or_else, first_of, first}
 
 pub within_in : (lo hi x : ℕ) → lo ≤ x → x ≤ hi → within lo hi x ≡ true
@@ -16,15 +16,15 @@ within_in lo hi x l h = rw (le-leb lo x l, le-leb x hi h)
 
 pub within-below : (lo hi x : ℕ) → x < lo → within lo hi x ≡ false
 unfolding within
-within-below lo hi x h = simp (lt_leb lo x h)
+within-below lo hi x h = simp (lt-leb lo x h)
 
 pub within-above : (lo hi x : ℕ) → hi < x → within lo hi x ≡ false
 unfolding within
-within-above lo hi x h = simp (lt_leb x hi h, and_false)
+within-above lo hi x h = simp (lt-leb x hi h, and-false)
 
 one-bad : (a : ℕ) → 0x7F < a → one a ≡ bad
 unfolding one
-one-bad a h = simp (lt_leb a 0x7F h)
+one-bad a h = simp (lt-leb a 0x7F h)
 
 two-below : (a b : ℕ) → a < 0xC2 → two a b ≡ bad
 unfolding two

@@ -1,0 +1,13 @@
+use mathlib.Core.Path.{◌≡◌, refl, sym, ap, ◌∙◌}
+use native.Mathlib.Omega.{arith}
+use borrow.Author.Tests.{not-true, not-false}
+use Rattle.utf8.specs.Utf8.{tail}
+use Rattle.utf8.specs.Chars.{start_before}
+use Rattle.utf8.proofs.Boundary.{start_here, start_back, start_none}
+use Rattle.utf8.proofs.prev_char.Given as goal
+
+abbrev pub invariant-loop-j : goal.invariant-loop-j
+invariant-loop-j l = start_before l.s l.i ≡ start_before l.s l.j
+
+abbrev pub decreases-loop-j : goal.decreases-loop-j
+decreases-loop-j l = l.j
