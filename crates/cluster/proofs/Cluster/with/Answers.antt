@@ -1,0 +1,4 @@
+use Rattle.cluster.proofs.Cluster.with.Goals as goal
+
+pub returns : goal.returns
+returns c = cc
