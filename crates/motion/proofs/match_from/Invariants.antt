@@ -1,0 +1,17 @@
+use Rattle.motion.proofs.Search.{ahead, ahead_in, ahead_out, ahead_end, found_zero, found_same}
+use Prim.Native.Nat.{◌≤◌, ◌-◌, ◌+◌}
+use mathlib.Core.Path.{◌≡◌, refl, sym, ap, ◌∙◌}
+use mathlib.Core.Logic.{⊎_elim}
+use native.Mathlib.Omega.{arith}
+use lib.ListN.{length, take}
+use Rattle.utf8.specs.Answer.{as_first}
+use Rattle.repertoire.proofs.Text.{within-at}
+use Rattle.motion.specs.Search.{last_found, nth_match}
+use Rattle.motion.specs.declared.Found.TheVariants.{Nothing}
+use Rattle.motion.proofs.match_from.Given as goal
+
+abbrev pub invariant-loop-left : goal.invariant-loop-left
+invariant-loop-left l = (l.at ≤ length l.s) × (last_found Nothing (take l.n (ahead l.s l.c l.from)) ≡ last_found l.found (take l.left (ahead l.s l.c l.at)))
+
+abbrev pub decreases-loop-left : goal.decreases-loop-left
+decreases-loop-left l = length l.s - l.at

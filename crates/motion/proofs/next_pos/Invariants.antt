@@ -1,0 +1,17 @@
+use Prim.Native.Nat.{◌≤◌, ◌+◌}
+use mathlib.Core.Path.{◌≡◌, refl, sym, ap, ◌∙◌}
+use native.Mathlib.Omega.{arith}
+use lib.ListN.{length, take, drop}
+use Rattle.lists.specs.Lists.{sum}
+use Rattle.repertoire.specs.Repertoire.{catalogue}
+use Rattle.cluster.specs.declared.Cluster.{Cluster}
+use Rattle.cluster.proofs.Steps.{next_told}
+use Rattle.motion.specs.Steps.{sizes}
+use Rattle.motion.proofs.Steps.{forward_more, forward-end, next_found, next-end, next-zero}
+use Rattle.motion.proofs.next_pos.Given as goal
+
+abbrev pub invariant-loop-left : goal.invariant-loop-left
+invariant-loop-left l = (l.at ≤ length l.s) × (l.at + sum (take l.left (sizes catalogue (drop l.at l.s))) ≡ l.pos + sum (take l.n (sizes catalogue (drop l.pos l.s))))
+
+abbrev pub decreases-loop-left : goal.decreases-loop-left
+decreases-loop-left l = l.left
