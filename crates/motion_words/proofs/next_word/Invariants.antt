@@ -1,0 +1,23 @@
+use mathlib.Core.Path.{◌≡◌, refl, sym, ap, ◌∙◌}
+use mathlib.Core.Logic.{⊎_elim}
+use native.Mathlib.Omega.{arith}
+use Prim.Native.Nat.{◌≤◌, ◌<◌, ◌-◌}
+use lib.ListN.{length}
+use Rattle.repertoire.specs.Repertoire.{catalogue}
+use Rattle.motion_words.specs.Words.{next_word}
+use Rattle.motion_words.proofs.Indices.{told}
+use Rattle.motion_words.proofs.Walks.{landing, rounds, in_round, rounds_done, rounds_out, rounds_in, in_out, in_hit, in_on, first-all, first-passed}
+use Rattle.motion_words.proofs.next_word.Given as goal
+
+abbrev pub invariant-inner : goal.invariant-inner
+invariant-inner l = (l.next ≤ length l.t) × (0 < l.left) × (l.found ≡ 0) × (l.last ≡ 0) ×
+    (next_word catalogue l.t l.at l.word l.n ≡ in_round catalogue l.t l.at l.word l.left l.i l.x l.next)
+
+abbrev pub decreases-inner : goal.decreases-inner
+decreases-inner l = length l.t - l.next
+
+abbrev pub invariant-outer : goal.invariant-outer
+invariant-outer l = (l.next ≤ length l.t) × (l.last ≡ 0) × (next_word catalogue l.t l.at l.word l.n ≡ rounds catalogue l.t l.at l.word l.left l.next l.found)
+
+abbrev pub decreases-outer : goal.decreases-outer
+decreases-outer l = l.left

@@ -1,0 +1,27 @@
+use mathlib.Core.Path.{◌≡◌, refl, sym, ap, ◌∙◌}
+use mathlib.Core.Bool.{true}
+use native.Mathlib.Omega.{arith}
+use Prim.Native.Nat.{◌≤◌, ◌<◌}
+use lib.ListN.{length}
+use lib.Seq.{length-take-le}
+use Rattle.utf8.specs.Chars.{boundary}
+use Rattle.utf8.proofs.Boundary.{boundary_end}
+use Rattle.repertoire.specs.Repertoire.{catalogue}
+use Rattle.motion_words.specs.Words.{prev_word}
+use Rattle.motion_words.proofs.Indices.{back_step}
+use Rattle.motion_words.proofs.Walks.{rounds_back, in_round_back, back_first, back_done, back_out, back_in, in_back_out, in_back_hit, in_back_on}
+use Rattle.motion_words.proofs.prev_word.Given as goal
+
+abbrev pub invariant-inner : goal.invariant-inner
+invariant-inner l = (l.rest ≤ length l.t) × (boundary l.t l.rest ≡ true) × (0 < l.left) × (l.found ≡ 0) ×
+    (prev_word catalogue l.t l.word l.n ≡ (in_round_back catalogue l.t l.word l.left l.j l.y l.rest).found)
+
+abbrev pub decreases-inner : goal.decreases-inner
+decreases-inner l = l.rest
+
+abbrev pub invariant-outer : goal.invariant-outer
+invariant-outer l = (l.rest ≤ length l.t) × (boundary l.t l.rest ≡ true) ×
+    (prev_word catalogue l.t l.word l.n ≡ (rounds_back catalogue l.t l.word l.left l.rest l.found).found)
+
+abbrev pub decreases-outer : goal.decreases-outer
+decreases-outer l = l.left
