@@ -5,16 +5,13 @@ use mathlib.Core.List.{List, [], ◌∷◌}
 use Prim.Native.Nat.{ℕ, ◌+◌}
 use native.Mathlib.Omega.{arith}
 use borrow.Author.Tests.{eq-eqb, ne_eqb}
-use denote.Enum.Declared.{tag_of}
 use lib.ListN.{length}
-use types.Run.{OneOf, miss}
 use Rattle.utf8.specs.Encode.{size}
 use Rattle.repertoire.specs.Repertoire.{Repertoire}
 use Rattle.keymap.specs.declared.CharSearch.{CharSearch}
 use Rattle.keymap.specs.declared.CharSearch.TheVariants.{BackwardAfter}
 use Rattle.keymap.specs.declared.Movement.{Movement}
 use Rattle.keymap.specs.declared.Movement.TheVariants as m
-use Rattle.keymap.specs.contracts.Movement.{the_type}
 use Rattle.motion.specs.Search.{match_backward, moved, search_char_pos}
 use Rattle.motion.specs.declared.Found.{Found}
 use Rattle.motion.specs.declared.Found.TheVariants.{At, Nothing}
@@ -58,14 +55,8 @@ module _ (R : Repertoire) (s : List ℕ) (pos : ℕ) where
         ap (is_after pos) z ∙ ap (λ (x : Movement). is_first_print x && is_after pos (copied R s pos mvt)) (sym q)
 
 -- ---- the movements but one, by the positions of their variants
-abbrev pub not_search : List ℕ
-not_search = 0 ∷ 1 ∷ 2 ∷ 3 ∷ 4 ∷ 6 ∷ 7 ∷ 8 ∷ 9 ∷ 10 ∷ 11 ∷ 12 ∷ 13 ∷ []
-
-abbrev pub not_first : List ℕ
-not_first = 0 ∷ 1 ∷ 2 ∷ 3 ∷ 4 ∷ 5 ∷ 7 ∷ 8 ∷ 9 ∷ 10 ∷ 11 ∷ 12 ∷ 13 ∷ []
-
-pub no_search : (R : Repertoire) (mvt : Movement) → OneOf not_search (tag_of the_type mvt) → false ≡ is_foreign R mvt
-no_search R (m.ViCharSearch n cs) h = absurd (miss not_search 5 tt h)
+pub no_search : (R : Repertoire) (mvt : Movement) → ((n : ℕ) (cs : CharSearch) → mvt ≡ m.ViCharSearch n cs → ⊥) → false ≡ is_foreign R mvt
+no_search R (m.ViCharSearch n cs) h = absurd (h n cs refl)
 no_search R m.WholeLine h = refl
 no_search R m.BeginningOfLine h = refl
 no_search R m.EndOfLine h = refl
@@ -80,8 +71,8 @@ no_search R m.WholeBuffer h = refl
 no_search R m.BeginningOfBuffer h = refl
 no_search R m.EndOfBuffer h = refl
 
-pub no_first : (mvt : Movement) → OneOf not_first (tag_of the_type mvt) → false ≡ is_first_print mvt
-no_first m.ViFirstPrint h = absurd (miss not_first 6 tt h)
+pub no_first : (mvt : Movement) → (mvt ≡ m.ViFirstPrint → ⊥) → false ≡ is_first_print mvt
+no_first m.ViFirstPrint h = absurd (h refl)
 no_first m.WholeLine h = refl
 no_first m.BeginningOfLine h = refl
 no_first m.EndOfLine h = refl
