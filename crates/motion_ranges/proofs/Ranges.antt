@@ -54,7 +54,7 @@ module _ (R : Repertoire) (s : List ℕ) (pos : ℕ) where
         let z : r ≡ copied R s pos mvt = copied_full h r (e ∙ sym (ap (range_of R s pos) q)) in
         ap (is_after pos) z ∙ ap (λ (x : Movement). is_first_print x && is_after pos (copied R s pos mvt)) (sym q)
 
--- ---- the movements but one, by the positions of their variants
+-- ---- the movements but the one that searches, and but the one to the first print
 pub no_search : (R : Repertoire) (mvt : Movement) → ((n : ℕ) (cs : CharSearch) → mvt ≡ m.ViCharSearch n cs → ⊥) → false ≡ is_foreign R mvt
 no_search R (m.ViCharSearch n cs) h = absurd (h n cs refl)
 no_search R m.WholeLine h = refl

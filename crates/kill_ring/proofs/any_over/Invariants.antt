@@ -1,0 +1,12 @@
+use native.Mathlib.Omega.{arith}
+use Prim.Native.Nat.{◌-◌, ◌≤◌}
+use mathlib.Core.Path.{◌≡◌, sym, ◌∙◌}
+use Rattle.kill_ring.specs.Calls.{any_over}
+use Rattle.kill_ring.proofs.Slots.{from-none, over_here, over_on, over_end}
+use Rattle.kill_ring.proofs.any_over.Given as goal
+
+abbrev pub invariant-loop-i : goal.invariant-loop-i
+invariant-loop-i l = (l.i ≤ l.n) × (any_over l.lens l.i (l.n - l.i) ≡ any_over l.lens 0 l.n)
+
+abbrev pub decreases-loop-i : goal.decreases-loop-i
+decreases-loop-i l = l.n - l.i

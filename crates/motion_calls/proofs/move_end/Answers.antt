@@ -1,0 +1,32 @@
+use mathlib.Core.Path.{sym, ap, ◌∙◌}
+use lib.Seq.{length-take-le}
+use Rattle.repertoire.specs.Repertoire.{catalogue}
+use Rattle.checks.specs.Checks.{no_tests}
+use Rattle.checks.specs.Answers.{line_answer, moved_to}
+use Rattle.motion_calls.specs.Moves.{elsewhere}
+use Rattle.checks.proofs.Fit.{fit-within}
+use Rattle.motion_calls.proofs.Called.{refused, accepted, fit_of}
+use Rattle.motion_calls.proofs.move_end.Goals as goal
+
+pub returns-then-r-ne0 : goal.returns-then-r-ne0
+returns-then-r-ne0 c =
+    refused catalogue c.args.text.now c.args.line no_tests _ c.refusal-r.ensures _ _ c.if-r-ne0.true c.says.ensures
+
+pub slice_bounds-end_of_line-end : goal.slice_bounds-end_of_line-end
+slice_bounds-end_of_line-end c = sym
+    (length-take-le _ _
+    (fit_of catalogue c.args.text.now c.args.line no_tests _ c.refusal-r.ensures c.if-r-ne0.false).used)
+
+pub end_of_line-requires : goal.end_of_line-requires
+end_of_line-requires c =
+    let a = c.args in
+    (fit-within catalogue _ a.text.now a.line
+    (fit_of catalogue a.text.now a.line no_tests _ c.refusal-r.ensures c.if-r-ne0.false))
+
+pub returns : goal.returns
+returns c =
+    let a = c.args in
+    accepted catalogue a.text.now a.line no_tests _ c.refusal-r.ensures _ _ c.if-r-ne0.false
+    (c.moved_to.ensures
+    ∙ ap (line_answer a.line)
+    (ap (moved_to a.line) (c.elsewhere.ensures ∙ ap (elsewhere a.line) c.end_of_line.ensures.0)))
