@@ -1,0 +1,7 @@
+use Rattle.edit_case.proofs.Cased.{case_back}
+use Rattle.edit_case.proofs.case_at.Goals as goal
+
+pub returns : goal.returns
+returns c =
+    let a = c.args in
+    case_back a.case a.out.now a.s.now a.at _ _ c.requires c.change_case.ensures

@@ -1,0 +1,64 @@
+use mathlib.Core.Path.{◌≡◌, refl, ◌∙◌}
+use mathlib.Core.Bool.{true}
+use Prim.Native.Nat.{◌-◌, ◌≤◌}
+use lib.ListN.{length}
+use Rattle.utf8.specs.Chars.{boundary}
+use Rattle.repertoire.specs.Repertoire.{catalogue}
+use Rattle.repertoire.specs.Text.{is_text}
+use Rattle.log_records.proofs.Walks.{newest_last}
+use Rattle.formats.specs.declared.Format.{Format}
+use Rattle.formats.proofs.Formats.{fit_for}
+use Rattle.edit.specs.Plan.{Plan}
+use Rattle.edit.specs.Calls.{Lent, lent, text_of, checked}
+use Rattle.edit.proofs.Called.{call_refused, call_made}
+use Rattle.edit_insert.specs.Inserts.{yank_pop_plan}
+use Rattle.edit_insert.proofs.Twice.{pop_tests, as_pop, pop_passed}
+use Rattle.edit_insert.proofs.yank_pop.Goals as goal
+use Rattle.edit_insert.proofs.yank_pop.Goals.{After-check-c, Else-c-ne0}
+
+-- ---- where the check is made: the format, what is lent, the plan, and the number
+abbrev format : After-check-c → Format
+format c = c.format_for-f.result
+
+abbrev lending : After-check-c → Lent
+lending c = let a = c.args in lent a.text.now a.records.now a.texts.now a.line a.log
+
+abbrev plan : After-check-c → Plan
+plan c = let a = c.args in yank_pop_plan a.line.cursor a.size a.buf.now
+
+number : (c : After-check-c)
+    → let a = c.args in checked catalogue ((c.format_for-f.result)) ((let a = c.args in lent a.text.now a.records.now a.texts.now a.line a.log)) (pop_tests ((c.format_for-f.result)) ((let a = c.args in lent a.text.now a.records.now a.texts.now a.line a.log)) a.size a.buf.now)
+    ≡ c.check-c.result.number
+number c = let a = c.args in
+    as_pop ((c.format_for-f.result)) ((let a = c.args in lent a.text.now a.records.now a.texts.now a.line a.log)) a.size a.buf.now c.back-at.ensures c.check-c.ensures.number
+    c.check_text.ensures c.is_split-split.ensures
+
+-- ---- where it has passed
+passed : (c : Else-c-ne0)
+    → let a = c.args in (is_text catalogue a.buf.now ≡ true)
+    × (length a.buf.now ≤ length a.text.now) × (a.size ≤ a.line.cursor)
+    × (boundary (text_of ((let a = c.args in lent a.text.now a.records.now a.texts.now a.line a.log))) (a.line.cursor - a.size) ≡ true)
+passed c = let a = c.args in
+    pop_passed ((c.format_for-f.result)) ((let a = c.args in lent a.text.now a.records.now a.texts.now a.line a.log)) a.size a.buf.now ((let a = c.args in as_pop ((c.format_for-f.result)) ((let a = c.args in lent a.text.now a.records.now a.texts.now a.line a.log)) a.size a.buf.now c.back-at.ensures c.check-c.ensures.number c.check_text.ensures c.is_split-split.ensures) ∙ c.if-c-ne0.false)
+
+pub check-c-requires : goal.check-c-requires
+check-c-requires c = fit_for _ c.format_for-f.ensures
+
+pub returns-then-c-ne0 : goal.returns-then-c-ne0
+returns-then-c-ne0 c =
+    call_refused (lending (goal.at.returns-then-c-ne0 c).After-check-c) _ (plan (goal.at.returns-then-c-ne0 c).After-check-c) c.format_for-f.ensures (number (goal.at.returns-then-c-ne0 c).After-check-c) c.if-c-ne0.true c.says.ensures
+
+pub yank_pop_checked-requires : goal.yank_pop_checked-requires
+yank_pop_checked-requires c = record {
+  ready = c.check-c.ensures.ready c.if-c-ne0.false;
+  last_at = newest_last catalogue (format (goal.at.yank_pop_checked-requires c).After-check-c) _ _ (c.check-c.ensures.newest c.if-c-ne0.false);
+  buf_value = (passed (goal.at.yank_pop_checked-requires c).Else-c-ne0).0;
+  buf_in_bounds = (passed (goal.at.yank_pop_checked-requires c).Else-c-ne0).1;
+  size_le_cursor = (passed (goal.at.yank_pop_checked-requires c).Else-c-ne0).2;
+  size_value = (passed (goal.at.yank_pop_checked-requires c).Else-c-ne0).3;
+}
+
+pub returns : goal.returns
+returns c =
+    call_made (lending (goal.at.returns c).After-check-c) _ (plan (goal.at.returns c).After-check-c) c.format_for-f.ensures (number (goal.at.returns c).After-check-c) c.if-c-ne0.false refl
+    c.yank_pop_checked.ensures
