@@ -1,6 +1,5 @@
 use Prim.Native.Nat.{◌≤◌, ◌-◌, ◌+◌}
 use mathlib.Core.Path.{◌≡◌}
-use mathlib.Core.Logic.{⊎_elim}
 use native.Mathlib.Omega.{arith}
 use lib.ListN.{length, drop}
 use Rattle.repertoire.specs.Repertoire.{catalogue}
@@ -8,6 +7,7 @@ use Rattle.edit_indent_plans.specs.Touched.{split_lines}
 use Rattle.edit_indent_plans.specs.Counts.{cuts_in, bytes_in}
 use Rattle.edit_indent_plans.proofs.Walks.{line_in, line-width, one_some, one_none, cuts_last, cuts_more}
 use Rattle.edit_indent_plans.proofs.count_cuts.Goals as goal
+use Rattle.edit_indent_plans.proofs.count_cuts.Goals.{else-d-gt0, then-d-gt0}
 
 pub loop-records-init : goal.loop-records-init
 loop-records-init c = (omega arith, omega arith, omega arith, omega arith, omega arith)
@@ -43,27 +43,28 @@ returns-then-e-p c =
     let a = c.args in
     let cuts-last1 = cuts_last a.p.now c.loop-records.i c.end_of_line-e.result c.loop-records.invariant.0
     c.end_of_line-e.ensures.0 catalogue a.m c.deleting-d.result c.deleting-d.ensures.0 c.if-e-p.true in
-    ⊎_elim
-    (λ w. (
-      omega (
-        arith,
-        cuts-last1.0,
-        one_some a.p.now c.loop-records.i c.end_of_line-e.result c.loop-records.invariant.0 c.end_of_line-e.ensures.0
-            catalogue a.m c.deleting-d.result c.deleting-d.ensures.0 w.0.taken,
-        c.loop-records.invariant.3,
-      ),
-      omega (arith, cuts-last1.1, c.loop-records.invariant.4),
-    ))
-    (λ w. (
-      omega (
-        arith,
-        cuts-last1.0,
-        one_none a.p.now c.loop-records.i c.end_of_line-e.result c.loop-records.invariant.0 c.end_of_line-e.ensures.0
-            catalogue a.m c.deleting-d.result c.deleting-d.ensures.0 w.0.left,
-        c.loop-records.invariant.3,
-      ),
-      omega (arith, cuts-last1.1, c.loop-records.invariant.4),
-    )) c.if-d-gt0.branch
+    elim c.if-d-gt0.branch [
+      | then-d-gt0 w ↦ (
+        omega (
+          arith,
+          cuts-last1.0,
+          one_some a.p.now c.loop-records.i c.end_of_line-e.result c.loop-records.invariant.0 c.end_of_line-e.ensures.0
+              catalogue a.m c.deleting-d.result c.deleting-d.ensures.0 w.if-d-gt0.true,
+          c.loop-records.invariant.3,
+        ),
+        omega (arith, cuts-last1.1, c.loop-records.invariant.4),
+      )
+      | else-d-gt0 w ↦ (
+        omega (
+          arith,
+          cuts-last1.0,
+          one_none a.p.now c.loop-records.i c.end_of_line-e.result c.loop-records.invariant.0 c.end_of_line-e.ensures.0
+              catalogue a.m c.deleting-d.result c.deleting-d.ensures.0 w.if-d-gt0.false,
+          c.loop-records.invariant.3,
+        ),
+        omega (arith, cuts-last1.1, c.loop-records.invariant.4),
+      )
+    ]
 
 pub overflow_add-i : goal.overflow_add-i
 overflow_add-i c = omega (
@@ -89,30 +90,31 @@ loop-records-preserved c =
     catalogue a.m c.deleting-d.result c.deleting-d.ensures.0 (omega (arith, line-in1, c.if-e-p.false)) in
     let line-width1 = line-width a.p.now c.loop-records.i c.end_of_line-e.result c.loop-records.invariant.0
     c.end_of_line-e.ensures.0 in
-    ⊎_elim
-    (λ w. (
-      omega (arith, line-in1, c.if-e-p.false),
-      omega (arith, line-in1, c.loop-records.invariant.1),
-      omega (arith, line-in1, c.loop-records.invariant.2, c.deleting-d.ensures.1, line-width1),
-      omega (
-        arith,
-        g.0,
-        one_some a.p.now c.loop-records.i c.end_of_line-e.result c.loop-records.invariant.0 c.end_of_line-e.ensures.0
-            catalogue a.m c.deleting-d.result c.deleting-d.ensures.0 w.0.taken,
-        c.loop-records.invariant.3,
-      ),
-      omega (arith, g.1, c.loop-records.invariant.4),
-    ))
-    (λ w. (
-      omega (arith, line-in1, c.if-e-p.false),
-      omega (arith, line-in1, c.loop-records.invariant.1),
-      omega (arith, line-in1, c.loop-records.invariant.2, c.deleting-d.ensures.1, line-width1),
-      omega (
-        arith,
-        g.0,
-        one_none a.p.now c.loop-records.i c.end_of_line-e.result c.loop-records.invariant.0 c.end_of_line-e.ensures.0
-            catalogue a.m c.deleting-d.result c.deleting-d.ensures.0 w.0.left,
-        c.loop-records.invariant.3,
-      ),
-      omega (arith, g.1, c.loop-records.invariant.4),
-    )) c.if-d-gt0.branch
+    elim c.if-d-gt0.branch [
+      | then-d-gt0 w ↦ (
+        omega (arith, line-in1, c.if-e-p.false),
+        omega (arith, line-in1, c.loop-records.invariant.1),
+        omega (arith, line-in1, c.loop-records.invariant.2, c.deleting-d.ensures.1, line-width1),
+        omega (
+          arith,
+          g.0,
+          one_some a.p.now c.loop-records.i c.end_of_line-e.result c.loop-records.invariant.0 c.end_of_line-e.ensures.0
+              catalogue a.m c.deleting-d.result c.deleting-d.ensures.0 w.if-d-gt0.true,
+          c.loop-records.invariant.3,
+        ),
+        omega (arith, g.1, c.loop-records.invariant.4),
+      )
+      | else-d-gt0 w ↦ (
+        omega (arith, line-in1, c.if-e-p.false),
+        omega (arith, line-in1, c.loop-records.invariant.1),
+        omega (arith, line-in1, c.loop-records.invariant.2, c.deleting-d.ensures.1, line-width1),
+        omega (
+          arith,
+          g.0,
+          one_none a.p.now c.loop-records.i c.end_of_line-e.result c.loop-records.invariant.0 c.end_of_line-e.ensures.0
+              catalogue a.m c.deleting-d.result c.deleting-d.ensures.0 w.if-d-gt0.false,
+          c.loop-records.invariant.3,
+        ),
+        omega (arith, g.1, c.loop-records.invariant.4),
+      )
+    ]

@@ -20,7 +20,7 @@ pub overflow_add-result : goal.overflow_add-result
 overflow_add-result c = omega (
   arith,
   (was_cut c.args.f (lending (goal.at.overflow_add-result c).After-kill_checked-a) c.args.n c.requires.ready c.kill_checked-a.ensures c.if-a-ne0.false).1,
-  c.fits,
+  c.well_formed,
 )
 
 pub returns : goal.returns

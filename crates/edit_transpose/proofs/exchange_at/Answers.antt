@@ -15,6 +15,7 @@ use Rattle.edit.proofs.Formats.{text-most}
 use Rattle.edit.proofs.Parts.{part_length, raw_part}
 use Rattle.edit_transpose.proofs.Exchange.{Clusters, reaches, goes_back, pair_suits, used-is, not_exchanged, exchanged}
 -- ---- the end of the cluster at p is found
+-- ---- its bytes are cut
 use Rattle.edit_transpose.proofs.exchange_at.Goals as goal
 use Rattle.edit_transpose.proofs.exchange_at.Goals.{After-insert_bytes, After-on_from-q, Start}
 
@@ -24,25 +25,21 @@ lending entry = let a = entry.args in lent a.text.now a.records.now a.texts.now 
 abbrev taken : After-on_from-q → List ℕ
 taken c = let a = c.args in take (c.on_from-q.result - a.p) (drop a.p a.text.now)
 
-behind : (c : After-on_from-q) → In (text_of ((let a = c.args in lent a.text.now a.records.now a.texts.now a.line a.log))) c.args.p c.on_from-q.result
-behind c = reaches c.args.f ((let a = c.args in lent a.text.now a.records.now a.texts.now a.line a.log)) c.requires.ready c.args.p c.requires.fact c.on_from-q.result c.on_from-q.ensures
+behind : (c : After-on_from-q) → In (text_of (let a = c.args in lent a.text.now a.records.now a.texts.now a.line a.log)) c.args.p c.on_from-q.result
+behind c = reaches c.args.f (let a = c.args in lent a.text.now a.records.now a.texts.now a.line a.log) c.requires.ready c.args.p c.requires.fact c.on_from-q.result c.on_from-q.ensures
 
 within : (c : After-on_from-q) → c.on_from-q.result ≤ c.args.line.len
-within c = omega (arith, ((reaches c.args.f ((let a = c.args in lent a.text.now a.records.now a.texts.now a.line a.log)) c.requires.ready c.args.p c.requires.fact c.on_from-q.result c.on_from-q.ensures)).1, length-kept c.args.f ((let a = c.args in lent a.text.now a.records.now a.texts.now a.line a.log)) c.requires.ready)
+within c = omega (arith, (behind c).1, length-kept c.args.f (let a = c.args in lent a.text.now a.records.now a.texts.now a.line a.log) c.requires.ready)
 
 most : (c : After-on_from-q) → c.on_from-q.result ≤ text_max
-most c = omega (arith, (omega (arith, ((reaches c.args.f ((let a = c.args in lent a.text.now a.records.now a.texts.now a.line a.log)) c.requires.ready c.args.p c.requires.fact c.on_from-q.result c.on_from-q.ensures)).1, length-kept c.args.f ((let a = c.args in lent a.text.now a.records.now a.texts.now a.line a.log)) c.requires.ready)), c.requires.ready.used, text-most _ _ c.requires.ready)
+most c = omega (arith, within c, c.requires.ready.used, text-most _ _ c.requires.ready)
 
-cut-length : (c : After-on_from-q) → length ((let a = c.args in take (c.on_from-q.result - a.p) (drop a.p a.text.now))) ≡ c.on_from-q.result - c.args.p
+cut-length : (c : After-on_from-q) → length (taken c) ≡ c.on_from-q.result - c.args.p
 cut-length c = let a = c.args in
-    ap length (sym (raw_part a.text.now a.line.len a.p c.on_from-q.result ((omega (arith, ((reaches c.args.f ((let a = c.args in lent a.text.now a.records.now a.texts.now a.line a.log)) c.requires.ready c.args.p c.requires.fact c.on_from-q.result c.on_from-q.ensures)).1, length-kept c.args.f ((let a = c.args in lent a.text.now a.records.now a.texts.now a.line a.log)) c.requires.ready)))))
-    ∙ part_length catalogue (text_of ((let a = c.args in lent a.text.now a.records.now a.texts.now a.line a.log))) a.p c.on_from-q.result ((reaches c.args.f ((let a = c.args in lent a.text.now a.records.now a.texts.now a.line a.log)) c.requires.ready c.args.p c.requires.fact c.on_from-q.result c.on_from-q.ensures))
+    ap length (sym (raw_part a.text.now a.line.len a.p c.on_from-q.result (within c)))
+    ∙ part_length catalogue (text_of (let a = c.args in lent a.text.now a.records.now a.texts.now a.line a.log)) a.p c.on_from-q.result (behind c)
 
--- ---- its bytes are cut
-abbrev begun : After-insert_bytes → Start
-begun c = c
-
-abbrev clusters : (c : After-insert_bytes) → Clusters ((c)).args.f (lending ((c))) ((c)).args.p
+abbrev clusters : (c : After-insert_bytes) → Clusters c.args.f (let a = c.args in lent a.text.now a.records.now a.texts.now a.line a.log) c.args.p
 clusters c = record {
   ready = c.requires.ready;
   inside = c.requires.fact;
@@ -52,8 +49,8 @@ clusters c = record {
   start_is = c.back_from-o.ensures;
   cut = _;
   cut-is =
-      copied _ _ _ (sym ((let a = c.args in ap length (sym (raw_part a.text.now a.line.len a.p c.on_from-q.result ((omega (arith, ((reaches c.args.f ((let a = c.args in lent a.text.now a.records.now a.texts.now a.line a.log)) c.requires.ready c.args.p c.requires.fact c.on_from-q.result c.on_from-q.ensures)).1, length-kept c.args.f ((let a = c.args in lent a.text.now a.records.now a.texts.now a.line a.log)) c.requires.ready))))) ∙ part_length catalogue (text_of ((let a = c.args in lent a.text.now a.records.now a.texts.now a.line a.log))) a.p c.on_from-q.result ((reaches c.args.f ((let a = c.args in lent a.text.now a.records.now a.texts.now a.line a.log)) c.requires.ready c.args.p c.requires.fact c.on_from-q.result c.on_from-q.ensures))))) c.insert_bytes.ensures
-      ∙ sym (raw_part c.args.text.now c.args.line.len c.args.p c.on_from-q.result ((omega (arith, ((reaches c.args.f ((let a = c.args in lent a.text.now a.records.now a.texts.now a.line a.log)) c.requires.ready c.args.p c.requires.fact c.on_from-q.result c.on_from-q.ensures)).1, length-kept c.args.f ((let a = c.args in lent a.text.now a.records.now a.texts.now a.line a.log)) c.requires.ready))));
+      copied _ _ _ (sym (let a = c.args in ap length (sym (raw_part a.text.now a.line.len a.p c.on_from-q.result (omega (arith, (reaches c.args.f (let a = c.args in lent a.text.now a.records.now a.texts.now a.line a.log) c.requires.ready c.args.p c.requires.fact c.on_from-q.result c.on_from-q.ensures).1, length-kept c.args.f (let a = c.args in lent a.text.now a.records.now a.texts.now a.line a.log) c.requires.ready)))) ∙ part_length catalogue (text_of (let a = c.args in lent a.text.now a.records.now a.texts.now a.line a.log)) a.p c.on_from-q.result (reaches c.args.f (let a = c.args in lent a.text.now a.records.now a.texts.now a.line a.log) c.requires.ready c.args.p c.requires.fact c.on_from-q.result c.on_from-q.ensures))) c.insert_bytes.ensures
+      ∙ sym (raw_part c.args.text.now c.args.line.len c.args.p c.on_from-q.result (omega (arith, (reaches c.args.f (let a = c.args in lent a.text.now a.records.now a.texts.now a.line a.log) c.requires.ready c.args.p c.requires.fact c.on_from-q.result c.on_from-q.ensures).1, length-kept c.args.f (let a = c.args in lent a.text.now a.records.now a.texts.now a.line a.log) c.requires.ready)));
 }
 
 pub slice_bounds-on_from-end-2 : goal.slice_bounds-on_from-end-2
@@ -95,14 +92,12 @@ slice_bounds-cut_and_put-end c =
     sym (length-take-le _ _ (omega (arith, c.insert_bytes.auto.s, most (goal.at.slice_bounds-cut_and_put-end c).After-on_from-q)))
 
 pub cut_and_put-a-requires : goal.cut_and_put-a-requires
-cut_and_put-a-requires c =
-    let entry = begun (goal.at.cut_and_put-a-requires c).After-insert_bytes in
-    record {
-      fit = entry.pre.0.log.fit;
-      ready = entry.pre.0;
-      last_at = entry.pre.1.0;
-      all_suit = pair_suits (clusters (goal.at.cut_and_put-a-requires c).After-insert_bytes);
-    }
+cut_and_put-a-requires c = record {
+  fit = c.requires.ready.log.fit;
+  ready = c.requires.ready;
+  last_at = c.requires.last_at;
+  all_suit = pair_suits (clusters (goal.at.cut_and_put-a-requires c).After-insert_bytes);
+}
 
 pub returns-then-a-ne0 : goal.returns-then-a-ne0
 returns-then-a-ne0 c =

@@ -8,71 +8,91 @@ use Rattle.repertoire.specs.Repertoire.{catalogue}
 use Rattle.repertoire.specs.Text.{is_text}
 use Rattle.log_state.specs.Calls as log
 use Rattle.log_state.proofs.Recorded.{listed}
+use Rattle.formats.specs.declared.Format.{Format}
 use Rattle.edit.specs.declared.EditAnswer.{EditAnswer}
 use Rattle.edit.specs.Plan.{PlannedChange, cutting, pasted, Plan, once}
 use Rattle.edit.specs.Calls.{Lent, lent, text_of, Makes}
 use Rattle.edit.proofs.Made.{edited_as}
 use Rattle.edit.proofs.Underway.{Underway, begins, goes-on, ends, next_suits}
+use Rattle.edit_transpose.specs.declared.Words.{Words}
 use Rattle.edit_transpose.specs.WordPairs.{words_plan}
 use Rattle.edit_transpose.proofs.Four.{words_suit}
--- ---- after each change
 use Rattle.edit_transpose.proofs.put_words.Goals as goal
 use Rattle.edit_transpose.proofs.put_words.Goals.{After-cut_out-r1, After-cut_out-r3, After-put_in-r2, Start}
 
 -- ---- the plan, and its four changes
-abbrev lending : Start → Lent
-lending s = let a = s.args in lent a.text.now a.records.now a.texts.now a.line a.log
+abbrev plan : Lent → Words → Plan
+plan l w = words_plan (text_of l) w
 
-abbrev plan : Start → Plan
-plan s = words_plan (text_of ((let a = s.args in lent a.text.now a.records.now a.texts.now a.line a.log))) s.args.w
+abbrev put1 : Lent → Words → PlannedChange
+put1 l w = pasted w.beg2 (part (text_of l) w.beg1 w.end1)
 
-abbrev put1 : Start → PlannedChange
-put1 s = let w = s.args.w in pasted w.beg2 (part (text_of ((let a = s.args in lent a.text.now a.records.now a.texts.now a.line a.log))) w.beg1 w.end1)
+abbrev cut2 : Words → PlannedChange
+cut2 w = cutting w.beg1 w.end1
 
-abbrev cut2 : Start → PlannedChange
-cut2 s = cutting s.args.w.beg1 s.args.w.end1
-
-abbrev put2 : Start → PlannedChange
-put2 s = let w = s.args.w in pasted w.beg1 (part (text_of ((let a = s.args in lent a.text.now a.records.now a.texts.now a.line a.log))) w.beg2 w.end2)
-
--- some of them remain to be made, and l is what is lent then
-abbrev Remaining : Start → List PlannedChange → Lent → Type 0
-Remaining s xs l = Underway s.args.f ((let a = s.args in lent a.text.now a.records.now a.texts.now a.line a.log)) ((words_plan (text_of ((let a = s.args in lent a.text.now a.records.now a.texts.now a.line a.log))) s.args.w)) xs l
-
-begun : (s : Start) → Remaining s ((words_plan (text_of ((let a = s.args in lent a.text.now a.records.now a.texts.now a.line a.log))) s.args.w)).changes ((let a = s.args in lent a.text.now a.records.now a.texts.now a.line a.log))
-begun s = begins s.args.f ((let a = s.args in lent a.text.now a.records.now a.texts.now a.line a.log)) ((words_plan (text_of ((let a = s.args in lent a.text.now a.records.now a.texts.now a.line a.log))) s.args.w)) s.requires.ready (words_suit catalogue (text_of ((let a = s.args in lent a.text.now a.records.now a.texts.now a.line a.log))) s.requires.ready.text s.args.w s.requires.apart) s.requires.text_value
-    s.requires.log_value
+abbrev put2 : Lent → Words → PlannedChange
+put2 l w = pasted w.beg1 (part (text_of l) w.beg2 w.end2)
 
 -- a word that was read is the one of the plan
-as_read : (s : tie.Start) (l : Lent) (at : ℕ) {x y : List ℕ} → x ≡ y → {r : EditAnswer} {t rb tb : List ℕ}
-    → Makes s.args.f l (once (pasted at x) at) r t rb tb → Makes s.args.f l (once (pasted at y) at) r t rb tb
-as_read s l at e {r} {t} {rb} {tb} q = subst (λ (z : List ℕ). Makes s.args.f l (once (pasted at z) at) r t rb tb) e q
+as_read : (f : Format) (l : Lent) (p at : ℕ) {x y : List ℕ} → x ≡ y → {r : EditAnswer} {t rb tb : List ℕ}
+    → Makes f l (once (pasted p x) at) r t rb tb → Makes f l (once (pasted p y) at) r t rb tb
+as_read f l p at e {r} {t} {rb} {tb} q = subst (λ (z : List ℕ). Makes f l (once (pasted p z) at) r t rb tb) e q
+
+-- ---- what is lent at the entry and after each change, and that the other changes remain
+abbrev lending : Start → Lent
+lending c = let a = c.args in lent a.text.now a.records.now a.texts.now a.line a.log
 
 abbrev lent1 : After-cut_out-r1 → Lent
-lent1 c = lent c.cut_out-r1.new.text c.cut_out-r1.new.records c.cut_out-r1.new.texts c.cut_out-r1.result.line c.cut_out-r1.result.log
+lent1 c = let k = c.cut_out-r1 in lent k.new.text k.new.records k.new.texts k.result.line k.result.log
 
-remaining1 : (c : After-cut_out-r1) → Remaining c.before.before.before.before.before.before.before.before.before ((let w = c.args.w in pasted w.beg2 (part (text_of ((let a = c.args in lent a.text.now a.records.now a.texts.now a.line a.log))) w.beg1 w.end1)) ∷ (cutting c.args.w.beg1 c.args.w.end1) ∷ (let w = c.args.w in pasted w.beg1 (part (text_of ((let a = c.args in lent a.text.now a.records.now a.texts.now a.line a.log))) w.beg2 w.end2)) ∷ []) ((lent c.cut_out-r1.new.text c.cut_out-r1.new.records c.cut_out-r1.new.texts c.cut_out-r1.result.line c.cut_out-r1.result.log))
-remaining1 c = goes-on c.args.f ((let a = c.args in lent a.text.now a.records.now a.texts.now a.line a.log)) ((words_plan (text_of ((let a = c.args in lent a.text.now a.records.now a.texts.now a.line a.log))) c.args.w)) _ _ ((let a = c.args in lent a.text.now a.records.now a.texts.now a.line a.log)) ((begins c.args.f ((let a = c.args in lent a.text.now a.records.now a.texts.now a.line a.log)) ((words_plan (text_of ((let a = c.args in lent a.text.now a.records.now a.texts.now a.line a.log))) c.args.w)) c.requires.ready (words_suit catalogue (text_of ((let a = c.args in lent a.text.now a.records.now a.texts.now a.line a.log))) c.requires.ready.text c.args.w c.requires.apart) c.requires.text_value c.requires.log_value)) c.cut_out-r1.result _ _ _ c.cut_out-r1.ensures c.cut_out-r1.auto.text c.cut_out-r1.auto.records c.cut_out-r1.auto.texts
-
-abbrev start2 : After-put_in-r2 → Start
-start2 c = c
+remaining1 : (c : After-cut_out-r1) →
+    let a = c.args in
+    let l = lent a.text.now a.records.now a.texts.now a.line a.log in
+    Underway a.f l (plan l a.w) (put1 l a.w ∷ cut2 a.w ∷ put2 l a.w ∷ []) (lent1 c)
+remaining1 c =
+    let a = c.args in
+    let l = lent a.text.now a.records.now a.texts.now a.line a.log in
+    let q = c.requires in
+    let k = c.cut_out-r1 in
+    goes-on a.f l (plan l a.w) _ _ l
+    (begins a.f l (plan l a.w) q.ready (words_suit catalogue (text_of l) q.ready.text a.w q.apart) q.text_value q.log_value) k.result _ _ _
+    k.ensures k.auto.text k.auto.records k.auto.texts
 
 abbrev lent2 : After-put_in-r2 → Lent
-lent2 c = lent c.put_in-r2.new.text c.put_in-r2.new.records c.put_in-r2.new.texts c.put_in-r2.result.line c.put_in-r2.result.log
+lent2 c = let k = c.put_in-r2 in lent k.new.text k.new.records k.new.texts k.result.line k.result.log
 
-remaining2 : (c : After-put_in-r2) → Remaining ((c)) (cut2 ((c)) ∷ put2 ((c)) ∷ []) ((lent c.put_in-r2.new.text c.put_in-r2.new.records c.put_in-r2.new.texts c.put_in-r2.result.line c.put_in-r2.result.log))
-remaining2 c = goes-on c.args.f ((let a = c.args in lent a.text.now a.records.now a.texts.now a.line a.log)) ((words_plan (text_of ((let a = c.args in lent a.text.now a.records.now a.texts.now a.line a.log))) c.args.w)) _ _ ((lent c.cut_out-r1.new.text c.cut_out-r1.new.records c.cut_out-r1.new.texts c.cut_out-r1.result.line c.cut_out-r1.result.log)) ((goes-on c.args.f ((let a = c.args in lent a.text.now a.records.now a.texts.now a.line a.log)) ((words_plan (text_of ((let a = c.args in lent a.text.now a.records.now a.texts.now a.line a.log))) c.args.w)) _ _ ((let a = c.args in lent a.text.now a.records.now a.texts.now a.line a.log)) ((begins c.args.f ((let a = c.args in lent a.text.now a.records.now a.texts.now a.line a.log)) ((words_plan (text_of ((let a = c.args in lent a.text.now a.records.now a.texts.now a.line a.log))) c.args.w)) c.requires.ready (words_suit catalogue (text_of ((let a = c.args in lent a.text.now a.records.now a.texts.now a.line a.log))) c.requires.ready.text c.args.w c.requires.apart) c.requires.text_value c.requires.log_value)) c.cut_out-r1.result _ _ _ c.cut_out-r1.ensures c.cut_out-r1.auto.text c.cut_out-r1.auto.records c.cut_out-r1.auto.texts)) c.cut_out-r1.result _ _ _
-    (as_read c.before.before.before.before.before.before.before.before.before.before.before.before.before.before.before.before.before.before.before.before.before ((lent c.cut_out-r1.new.text c.cut_out-r1.new.records c.cut_out-r1.new.texts c.cut_out-r1.result.line c.cut_out-r1.result.log)) c.args.w.beg2 c.requires.first_value c.cut_out-r1.ensures) c.cut_out-r1.auto.text c.cut_out-r1.auto.records c.cut_out-r1.auto.texts
-
-abbrev start3 : After-cut_out-r3 → Start
-start3 c = (c)
+remaining2 : (c : After-put_in-r2) →
+    let a = c.args in
+    let l = lent a.text.now a.records.now a.texts.now a.line a.log in
+    let k = c.cut_out-r1 in
+    Underway a.f l (plan l a.w) (put1 l a.w ∷ cut2 a.w ∷ put2 l a.w ∷ [])
+    (lent k.new.text k.new.records k.new.texts k.result.line k.result.log) →
+    Underway a.f l (plan l a.w) (cut2 a.w ∷ put2 l a.w ∷ []) (lent2 c)
+remaining2 c before =
+    let a = c.args in
+    let l = lent a.text.now a.records.now a.texts.now a.line a.log in
+    let k = c.cut_out-r1 in
+    let l1 = lent k.new.text k.new.records k.new.texts k.result.line k.result.log in
+    let m = c.put_in-r2 in
+    goes-on a.f l (plan l a.w) _ _ l1 before m.result _ _ _ (as_read a.f l1 a.w.beg2 a.w.beg2 c.requires.first_value m.ensures)
+    m.auto.text m.auto.records m.auto.texts
 
 abbrev lent3 : After-cut_out-r3 → Lent
-lent3 c = lent c.cut_out-r3.new.text c.cut_out-r3.new.records c.cut_out-r3.new.texts c.cut_out-r3.result.line c.cut_out-r3.result.log
+lent3 c = let k = c.cut_out-r3 in lent k.new.text k.new.records k.new.texts k.result.line k.result.log
 
-remaining3 : (c : After-cut_out-r3) → Remaining (((c))) (put2 (((c))) ∷ []) ((lent c.cut_out-r3.new.text c.cut_out-r3.new.records c.cut_out-r3.new.texts c.cut_out-r3.result.line c.cut_out-r3.result.log))
-remaining3 c = let s = (c) in
-    goes-on s.args.f ((let a = s.args in lent a.text.now a.records.now a.texts.now a.line a.log)) ((words_plan (text_of ((let a = s.args in lent a.text.now a.records.now a.texts.now a.line a.log))) s.args.w)) _ _ ((lent c.put_in-r2.new.text c.put_in-r2.new.records c.put_in-r2.new.texts c.put_in-r2.result.line c.put_in-r2.result.log)) ((goes-on c.args.f ((let a = c.args in lent a.text.now a.records.now a.texts.now a.line a.log)) ((words_plan (text_of ((let a = c.args in lent a.text.now a.records.now a.texts.now a.line a.log))) c.args.w)) _ _ ((lent c.cut_out-r1.new.text c.cut_out-r1.new.records c.cut_out-r1.new.texts c.cut_out-r1.result.line c.cut_out-r1.result.log)) ((goes-on c.args.f ((let a = c.args in lent a.text.now a.records.now a.texts.now a.line a.log)) ((words_plan (text_of ((let a = c.args in lent a.text.now a.records.now a.texts.now a.line a.log))) c.args.w)) _ _ ((let a = c.args in lent a.text.now a.records.now a.texts.now a.line a.log)) ((begins c.args.f ((let a = c.args in lent a.text.now a.records.now a.texts.now a.line a.log)) ((words_plan (text_of ((let a = c.args in lent a.text.now a.records.now a.texts.now a.line a.log))) c.args.w)) c.requires.ready (words_suit catalogue (text_of ((let a = c.args in lent a.text.now a.records.now a.texts.now a.line a.log))) c.requires.ready.text c.args.w c.requires.apart) c.requires.text_value c.requires.log_value)) c.cut_out-r1.result _ _ _ c.cut_out-r1.ensures c.cut_out-r1.auto.text c.cut_out-r1.auto.records c.cut_out-r1.auto.texts)) c.cut_out-r1.result _ _ _ (as_read c.before.before.before.before.before.before.before.before.before.before.before.before.before.before.before.before.before.before.before.before.before.before.before.before.before.before.before.before.before.before.before.before.before.before.before.before ((lent c.cut_out-r1.new.text c.cut_out-r1.new.records c.cut_out-r1.new.texts c.cut_out-r1.result.line c.cut_out-r1.result.log)) c.args.w.beg2 c.requires.first_value c.cut_out-r1.ensures) c.cut_out-r1.auto.text c.cut_out-r1.auto.records c.cut_out-r1.auto.texts)) c.cut_out-r1.result _ _ _ c.cut_out-r1.ensures c.cut_out-r1.auto.text c.cut_out-r1.auto.records c.cut_out-r1.auto.texts
+remaining3 : (c : After-cut_out-r3) →
+    let a = c.args in
+    let l = lent a.text.now a.records.now a.texts.now a.line a.log in
+    let k = c.put_in-r2 in
+    Underway a.f l (plan l a.w) (cut2 a.w ∷ put2 l a.w ∷ []) (lent k.new.text k.new.records k.new.texts k.result.line k.result.log) →
+    Underway a.f l (plan l a.w) (put2 l a.w ∷ []) (lent3 c)
+remaining3 c before =
+    let a = c.args in
+    let l = lent a.text.now a.records.now a.texts.now a.line a.log in
+    let k = c.put_in-r2 in
+    let m = c.cut_out-r3 in
+    goes-on a.f l (plan l a.w) _ _ (lent k.new.text k.new.records k.new.texts k.result.line k.result.log) before m.result _ _ _ m.ensures
+    m.auto.text m.auto.records m.auto.texts
 
 -- ---- the answers
 pub cut_out-r1-requires : goal.cut_out-r1-requires
@@ -85,68 +105,79 @@ cut_out-r1-requires c = record {
 
 pub put_in-r2-requires : goal.put_in-r2-requires
 put_in-r2-requires c =
-    let q = next_suits c.args.f (lending (goal.at.put_in-r2-requires c).Start) (plan (goal.at.put_in-r2-requires c).Start) (put1 (goal.at.put_in-r2-requires c).Start) _ (lent1 (goal.at.put_in-r2-requires c).After-cut_out-r1) (remaining1 (goal.at.put_in-r2-requires c).After-cut_out-r1) in
+    let k = goal.at.put_in-r2-requires c in
+    let r = remaining1 k.After-cut_out-r1 in
+    let q = next_suits c.args.f (lending k.Start) (plan (lending k.Start) c.args.w) (put1 (lending k.Start) c.args.w) _
+    (lent1 k.After-cut_out-r1) r in
     record {
       fit = c.requires.ready.log.fit;
-      ready = (remaining1 (goal.at.put_in-r2-requires c).After-cut_out-r1).ready;
+      ready = r.ready;
       fact = q.0;
       value = ap (is_text catalogue) c.requires.first_value ∙ q.1;
     }
 
 pub slice_bounds-last_start-end : goal.slice_bounds-last_start-end
 slice_bounds-last_start-end c =
-    omega (arith, (remaining2 (goal.at.slice_bounds-last_start-end c).After-put_in-r2).ready.log.hold.room)
+    let k = goal.at.slice_bounds-last_start-end c in
+    omega (arith, (remaining2 k.After-put_in-r2 (remaining1 k.After-cut_out-r1)).ready.log.hold.room)
 
 pub slice_bounds-last_start-end-2 : goal.slice_bounds-last_start-end-2
 slice_bounds-last_start-end-2 c =
-    sym (length-take-le _ _ (omega (arith, (remaining2 (goal.at.slice_bounds-last_start-end-2 c).After-put_in-r2).ready.log.hold.room)))
+    let k = goal.at.slice_bounds-last_start-end-2 c in
+    sym (length-take-le _ _ (omega (arith, (remaining2 k.After-put_in-r2 (remaining1 k.After-cut_out-r1)).ready.log.hold.room)))
 
 pub last_start-last2-requires : goal.last_start-last2-requires
 last_start-last2-requires c =
-    let s = start2 (goal.at.last_start-last2-requires c).After-put_in-r2 in
-    record {
-      fit = s.pre.0.log.fit;
-      listed = listed s.args.f (log.lent _ _ _) (remaining2 (goal.at.last_start-last2-requires c).After-put_in-r2).ready.log;
-    }
+    let k = goal.at.last_start-last2-requires c in
+    record { fit = c.requires.ready.log.fit; listed = listed c.args.f (log.lent _ _ _) (remaining2 k.After-put_in-r2 (remaining1 k.After-cut_out-r1)).ready.log }
 
 pub cut_out-r3-requires : goal.cut_out-r3-requires
 cut_out-r3-requires c =
-    let s = start2 (goal.at.cut_out-r3-requires c).After-put_in-r2 in
-    let q = next_suits s.args.f (lending s) (plan s) (cut2 s) _ (lent2 (goal.at.cut_out-r3-requires c).After-put_in-r2) (remaining2 (goal.at.cut_out-r3-requires c).After-put_in-r2) in
+    let k = goal.at.cut_out-r3-requires c in
+    let r = remaining2 k.After-put_in-r2 (remaining1 k.After-cut_out-r1) in
     record {
-      fit = s.pre.0.log.fit;
-      ready = (remaining2 (goal.at.cut_out-r3-requires c).After-put_in-r2).ready;
-      fact = q;
-      last_at = (λ e. c.last_start-last2.ensures);
+      fit = c.requires.ready.log.fit;
+      ready = r.ready;
+      fact = next_suits c.args.f (lending k.Start) (plan (lending k.Start) c.args.w) (cut2 c.args.w) _ (lent2 k.After-put_in-r2) r;
+      last_at = λ e. c.last_start-last2.ensures;
     }
 
 pub put_in-r4-requires : goal.put_in-r4-requires
 put_in-r4-requires c =
-    let s = start3 (goal.at.put_in-r4-requires c).After-cut_out-r3 in
-    let q = next_suits s.args.f (lending s) (plan s) (put2 s) _ (lent3 (goal.at.put_in-r4-requires c).After-cut_out-r3) (remaining3 (goal.at.put_in-r4-requires c).After-cut_out-r3) in
+    let k = goal.at.put_in-r4-requires c in
+    let r = remaining3 k.After-cut_out-r3 (remaining2 k.After-put_in-r2 (remaining1 k.After-cut_out-r1)) in
+    let q = next_suits c.args.f (lending k.Start) (plan (lending k.Start) c.args.w) (put2 (lending k.Start) c.args.w) _
+    (lent3 k.After-cut_out-r3) r in
     record {
-      fit = s.pre.0.log.fit;
-      ready = (remaining3 (goal.at.put_in-r4-requires c).After-cut_out-r3).ready;
+      fit = c.requires.ready.log.fit;
+      ready = r.ready;
       fact = q.0;
-      value = ap (is_text catalogue) s.pre.1.1.1.1.0 ∙ q.1;
+      value = ap (is_text catalogue) c.requires.second_value ∙ q.1;
     }
 
 -- each change keeps the buffers' lengths
 pub shape_of-text : goal.shape_of-text
-shape_of-text c = c.put_in-r4.auto.text ∙ c.cut_out-r3.auto.text ∙ (remaining2 (goal.at.shape_of-text c).After-put_in-r2).text
+shape_of-text c =
+    let k = goal.at.shape_of-text c in
+    c.put_in-r4.auto.text ∙ c.cut_out-r3.auto.text ∙ (remaining2 k.After-put_in-r2 (remaining1 k.After-cut_out-r1)).text
 
 pub shape_of-records : goal.shape_of-records
 shape_of-records c =
-    c.put_in-r4.auto.records ∙ c.cut_out-r3.auto.records ∙ (remaining2 (goal.at.shape_of-records c).After-put_in-r2).records
+    let k = goal.at.shape_of-records c in
+    c.put_in-r4.auto.records ∙ c.cut_out-r3.auto.records ∙ (remaining2 k.After-put_in-r2 (remaining1 k.After-cut_out-r1)).records
 
 pub shape_of-texts : goal.shape_of-texts
 shape_of-texts c =
-    c.put_in-r4.auto.texts ∙ c.cut_out-r3.auto.texts ∙ (remaining2 (goal.at.shape_of-texts c).After-put_in-r2).texts
+    let k = goal.at.shape_of-texts c in
+    c.put_in-r4.auto.texts ∙ c.cut_out-r3.auto.texts ∙ (remaining2 k.After-put_in-r2 (remaining1 k.After-cut_out-r1)).texts
 
 pub returns : goal.returns
 returns c =
-    let s = start3 (goal.at.returns c).After-cut_out-r3 in
-    edited_as s.args.f (lending s) _ _ _ _ _ _ c.says.ensures
-    (ends s.args.f (lending s) (plan s) (lent c.put_in-r4.new.text c.put_in-r4.new.records c.put_in-r4.new.texts c.put_in-r4.result.line c.put_in-r4.result.log)
-    (goes-on s.args.f (lending s) (plan s) _ _ (lent3 (goal.at.returns c).After-cut_out-r3) (remaining3 (goal.at.returns c).After-cut_out-r3) c.put_in-r4.result _ _ _
-    (as_read s (lent3 (goal.at.returns c).After-cut_out-r3) s.args.w.beg1 s.pre.1.1.1.1.0 c.put_in-r4.ensures) c.put_in-r4.auto.text c.put_in-r4.auto.records c.put_in-r4.auto.texts))
+    let k = goal.at.returns c in
+    let a = c.args in
+    let l = lending k.Start in
+    let m = c.put_in-r4 in
+    edited_as a.f l _ _ _ _ _ _ c.says.ensures
+    (ends a.f l (plan l a.w) (lent m.new.text m.new.records m.new.texts m.result.line m.result.log)
+    (goes-on a.f l (plan l a.w) _ _ (lent3 k.After-cut_out-r3) (remaining3 k.After-cut_out-r3 (remaining2 k.After-put_in-r2 (remaining1 k.After-cut_out-r1))) m.result _ _ _
+    (as_read a.f (lent3 k.After-cut_out-r3) a.w.beg1 a.w.beg1 c.requires.second_value m.ensures) m.auto.text m.auto.records m.auto.texts))

@@ -1,3 +1,4 @@
+use native.Mathlib.Omega.{arith}
 use borrow.Author.Tests.{ne_eqb}
 use Rattle.key_press.specs.Keys.{control}
 use Rattle.key_press.proofs.control.Goals as goal
@@ -62,20 +63,19 @@ pub returns-in_default : goal.returns-in_default
 unfolding control
 returns-in_default c =
     let b = c.args.b in
-    let r = c.in-1.rest in
     rw (
-      ne_eqb b 0x01 r.0.0.0.0.0.0.0.0.0.0.0.0.0.1,
-      ne_eqb b 0x02 r.0.0.0.0.0.0.0.0.0.0.0.0.1,
-      ne_eqb b 0x04 r.0.0.0.0.0.0.0.0.0.0.0.1,
-      ne_eqb b 0x05 r.0.0.0.0.0.0.0.0.0.0.1,
-      ne_eqb b 0x06 r.0.0.0.0.0.0.0.0.0.1,
-      ne_eqb b 0x09 r.0.0.0.0.0.0.0.0.1,
-      ne_eqb b 0x0A r.0.0.0.0.0.0.0.1,
-      ne_eqb b 0x0B r.0.0.0.0.0.0.1,
-      ne_eqb b 0x0D r.0.0.0.0.0.1,
-      ne_eqb b 0x14 r.0.0.0.0.1,
-      ne_eqb b 0x15 r.0.0.0.1,
-      ne_eqb b 0x17 r.0.0.1,
-      ne_eqb b 0x19 r.0.1,
-      ne_eqb b 0x1F r.1,
+      ne_eqb b 0x01 (omega arith),
+      ne_eqb b 0x02 (omega arith),
+      ne_eqb b 0x04 (omega arith),
+      ne_eqb b 0x05 (omega arith),
+      ne_eqb b 0x06 (omega arith),
+      ne_eqb b 0x09 (omega arith),
+      ne_eqb b 0x0A (omega arith),
+      ne_eqb b 0x0B (omega arith),
+      ne_eqb b 0x0D (omega arith),
+      ne_eqb b 0x14 (omega arith),
+      ne_eqb b 0x15 (omega arith),
+      ne_eqb b 0x17 (omega arith),
+      ne_eqb b 0x19 (omega arith),
+      ne_eqb b 0x1F (omega arith),
     )

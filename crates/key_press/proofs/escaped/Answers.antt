@@ -1,3 +1,4 @@
+use native.Mathlib.Omega.{arith}
 use borrow.Author.Tests.{ne_eqb}
 use Rattle.key_press.specs.Keys.{escaped}
 use Rattle.key_press.proofs.escaped.Goals as goal
@@ -38,14 +39,13 @@ pub returns-in_default : goal.returns-in_default
 unfolding escaped
 returns-in_default c =
     let b = c.args.b in
-    let r = c.in-98.rest in
     rw (
-      ne_eqb b 0x62 r.0.0.0.0.0.0.0.1,
-      ne_eqb b 0x63 r.0.0.0.0.0.0.1,
-      ne_eqb b 0x64 r.0.0.0.0.0.1,
-      ne_eqb b 0x66 r.0.0.0.0.1,
-      ne_eqb b 0x6C r.0.0.0.1,
-      ne_eqb b 0x74 r.0.0.1,
-      ne_eqb b 0x75 r.0.1,
-      ne_eqb b 0x79 r.1,
+      ne_eqb b 0x62 (omega arith),
+      ne_eqb b 0x63 (omega arith),
+      ne_eqb b 0x64 (omega arith),
+      ne_eqb b 0x66 (omega arith),
+      ne_eqb b 0x6C (omega arith),
+      ne_eqb b 0x74 (omega arith),
+      ne_eqb b 0x75 (omega arith),
+      ne_eqb b 0x79 (omega arith),
     )

@@ -1,23 +1,27 @@
 use native.Mathlib.Omega.{arith}
 use mathlib.Core.Path.{sym, subst}
 use mathlib.Core.Bool.{Bool}
-use mathlib.Core.Logic.{⊎_elim}
 use lib.ListN.{length}
 use Rattle.undo_step.proofs.TakesAndPuts.{TakesAndPuts, Within, within, unmoved, stops_at, out_within, left-within, moves}
 use Rattle.undo_step.proofs.undo_or_redo.Goals as goal
-use Rattle.undo_step.proofs.undo_or_redo.Goals.{Joined-back}
+use Rattle.undo_step.proofs.undo_or_redo.Goals.{Joined-back, then-back, else-back}
 
 -- what the record, undone or redone, takes out and puts in
 takes-and-puts : (c : Joined-back) → TakesAndPuts c.args.back
     c.args.r c.args.t c.if-back.out c.if-back.from c.if-back.to
-takes-and-puts c = let a = c.args in
-    ⊎_elim (λ w. subst (λ (b : Bool). TakesAndPuts b a.r a.t c.if-back.out c.if-back.from c.if-back.to) (sym w.0.taken) (w.1, w.2, w.3))
-    (λ w. subst (λ (b : Bool). TakesAndPuts b a.r a.t c.if-back.out c.if-back.from c.if-back.to) (sym w.0.left) (w.1, w.2, w.3)) c.if-back.branch
+takes-and-puts c =
+    let a = c.args in
+    elim c.if-back.branch [
+      | then-back w ↦ subst (λ (b : Bool). TakesAndPuts b a.r a.t c.if-back.out c.if-back.from c.if-back.to) (sym w.if-back.true)
+          (w.out-is, w.from-is, w.to-is)
+      | else-back w ↦ subst (λ (b : Bool). TakesAndPuts b a.r a.t c.if-back.out c.if-back.from c.if-back.to) (sym w.if-back.false)
+          (w.out-is, w.from-is, w.to-is)
+    ]
 
 -- it lies in the texts
 inside : (c : Joined-back) → Within c.if-back.out c.if-back.from c.if-back.to (length c.args.texts.now)
 inside c = let a = c.args in
-    within a.back a.r a.t c.if-back.out c.if-back.from c.if-back.to (length a.texts.now) ((let a = c.args in ⊎_elim (λ w. subst (λ (b : Bool). TakesAndPuts b a.r a.t c.if-back.out c.if-back.from c.if-back.to) (sym w.0.taken) (w.1, w.2, w.3)) (λ w. subst (λ (b : Bool). TakesAndPuts b a.r a.t c.if-back.out c.if-back.from c.if-back.to) (sym w.0.left) (w.1, w.2, w.3)) c.if-back.branch)) c.requires.number_value.3
+    within a.back a.r a.t c.if-back.out c.if-back.from c.if-back.to (length a.texts.now) (takes-and-puts c) c.requires.number_value.3
 
 pub returns-then-r-le2 : goal.returns-then-r-le2
 returns-then-r-le2 c =
