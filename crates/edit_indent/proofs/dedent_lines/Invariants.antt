@@ -1,0 +1,20 @@
+use native.Mathlib.Omega.{arith}
+use Prim.Native.Nat.{◌+◌, ◌-◌, ◌≤◌}
+use mathlib.Core.Bool.{true}
+use mathlib.Core.Path.{sym, ◌∙◌}
+use lib.Seq.{length-take-le}
+use Rattle.lists.proofs.Bools.{never}
+use Rattle.formats.specs.Formats.{text_max}
+use Rattle.edit.specs.Calls.{lent}
+use Rattle.edit_indent_plans.proofs.Lines.{way, lines_plan, Lines, lines_begin, end_in, line_in, lines_end}
+use Rattle.edit_indent.proofs.Cuts.{cut_in, cut_suits, cut_apart, last_cut, next-cut}
+-- the turn's cut, from where its cursor has moved
+use Rattle.edit_indent.proofs.dedent_lines.Given as goal
+
+abbrev pub invariant-loop-end : goal.invariant-loop-end
+invariant-loop-end l = Lines l.f (lent l.initial.text l.initial.records l.initial.texts l.initial.line_now l.initial.log_now)
+    (lines_plan (lent l.initial.text l.initial.records l.initial.texts l.initial.line_now l.initial.log_now) l.m true l.from l.to)
+    (way l.m true l.at) (lent l.text l.records l.texts l.line_now l.log_now) l.cursor l.at l.end
+
+abbrev pub decreases-loop-end : goal.decreases-loop-end
+decreases-loop-end l = l.end - l.at

@@ -1,0 +1,53 @@
+use mathlib.Core.Path.{sym, ◌∙◌}
+use lib.Seq.{length-take-le}
+use borrow.Author.Tests.{not-true, not-false}
+use Rattle.edit_indent.proofs.Calls.{text-used, text-fit, lines-in, lines_end, raw_valid, tested, untried}
+use Rattle.edit_indent.proofs.is_split.Goals as goal
+
+pub returns-then-not-dedent : goal.returns-then-not-dedent
+returns-then-not-dedent c =
+    let a = c.args in
+    λ z. untried a.f a.text.now a.line a.m a.amount a.dedent (not-true a.dedent c.if-not-dedent.true)
+
+pub returns-then-refusal_in-ne0 : goal.returns-then-refusal_in-ne0
+returns-then-refusal_in-ne0 c = λ z. absurd (c.if-refusal_in-ne0.true (c.refusal_in.ensures ∙ z))
+
+pub slice_bounds-touched-end : goal.slice_bounds-touched-end
+slice_bounds-touched-end c =
+    let a = c.args in
+    sym (length-take-le _ _ (text-used a.f a.text.now a.line a.m a.amount c.refusal_in.ensures c.if-refusal_in-ne0.false))
+
+pub touched-r-requires : goal.touched-r-requires
+touched-r-requires c =
+    let a = c.args in
+    text-fit a.f a.text.now a.line a.m a.amount c.refusal_in.ensures c.if-refusal_in-ne0.false
+
+pub slice_bounds-splits-count : goal.slice_bounds-splits-count
+slice_bounds-splits-count c =
+    let a = c.args in
+    (lines-in a.f a.text.now a.line a.m a.amount c.refusal_in.ensures c.if-refusal_in-ne0.false c.touched-r.result
+    c.touched-r.ensures).0
+
+pub slice_bounds-splits-start : goal.slice_bounds-splits-start
+slice_bounds-splits-start c =
+    let a = c.args in
+    (lines-in a.f a.text.now a.line a.m a.amount c.refusal_in.ensures c.if-refusal_in-ne0.false c.touched-r.result
+    c.touched-r.ensures).0
+
+pub slice_bounds-splits-end : goal.slice_bounds-splits-end
+slice_bounds-splits-end c =
+    let a = c.args in
+    lines_end a.f a.text.now a.line a.m a.amount c.refusal_in.ensures c.if-refusal_in-ne0.false c.touched-r.result
+    c.touched-r.ensures
+
+pub splits-requires : goal.splits-requires
+splits-requires c =
+    let a = c.args in
+    raw_valid a.f a.text.now a.line a.m a.amount c.refusal_in.ensures c.if-refusal_in-ne0.false c.touched-r.result
+    c.touched-r.ensures
+
+pub returns : goal.returns
+returns c =
+    let a = c.args in
+    λ z. tested a.f a.text.now a.line a.m a.amount c.refusal_in.ensures c.if-refusal_in-ne0.false c.touched-r.result
+    c.touched-r.ensures c.splits.result a.dedent (not-false a.dedent c.if-not-dedent.false) c.splits.ensures
