@@ -29,4 +29,12 @@ returns-then-not-has_room c =
     full _ (tested (goal.at.returns-then-not-has_room c).After-has_room) (c.if-not-has_room.true) c.says.ensures
 
 pub dedent_lines-requires : goal.dedent_lines-requires
-dedent_lines-requires c = begin _ (tested (goal.at.dedent_lines-requires c).After-has_room) (c.if-not-has_room.false)
+dedent_lines-requires c =
+    let q = begin _ (tested (goal.at.dedent_lines-requires c).After-has_room) (c.if-not-has_room.false) in
+    record {
+      ready = q.0;
+      from_le_to = q.1.0;
+      all_suit = q.1.1.0;
+      text_value = q.1.1.1.0;
+      log_value = q.1.1.1.1;
+    }

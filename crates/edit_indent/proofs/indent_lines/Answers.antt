@@ -22,7 +22,7 @@ indented-cursor-requires c =
 pub loop-left-init : goal.loop-left-init
 loop-left-init c = opens
     (lines_begin (lent c.args.text.now c.args.records.now c.args.texts.now c.args.line c.args.log) c.args.m false c.args.from
-    c.args.to c.requires) (omega arith) c.indented-cursor.ensures
+    c.args.to (c.requires.ready, (c.requires.from_le_to, (c.requires.all_suit, (c.requires.text_value, c.requires.log_value))))) (omega arith) c.indented-cursor.ensures
 
 pub slice_bounds-end_of_line-end : goal.slice_bounds-end_of_line-end
 slice_bounds-end_of_line-end c = (end_in c.loop-left.invariant.lines).0
@@ -79,7 +79,13 @@ slice_bounds-put_in-end c = sym (length-take-le _ _ (sizes (goal.at.slice_bounds
 pub put_in-a-requires : goal.put_in-a-requires
 put_in-a-requires c =
     let k = c.loop-left.invariant in
-    (k.lines.left.ready.log.fit, (k.lines.left.ready, put_suits k c.if-left-eq0.false c.piece-n.ensures))
+    let q = put_suits k c.if-left-eq0.false c.piece-n.ensures in
+    record {
+      fit = k.lines.left.ready.log.fit;
+      ready = k.lines.left.ready;
+      fact = q.0;
+      value = q.1;
+    }
 
 pub overflow_add-end : goal.overflow_add-end
 overflow_add-end c = omega (arith, sizes (goal.at.overflow_add-end c).After-piece-n)

@@ -44,4 +44,12 @@ returns-then-not-has_room c =
 
 pub indent_lines-requires : goal.indent_lines-requires
 indent_lines-requires c =
-    (c.requires.m_bound, begin _ (tested (goal.at.indent_lines-requires c).After-has_room) (c.if-not-has_room.false))
+    let q = begin _ (tested (goal.at.indent_lines-requires c).After-has_room) (c.if-not-has_room.false) in
+    record {
+      m_bound = c.requires.m_bound;
+      ready = q.0;
+      from_le_to = q.1.0;
+      all_suit = q.1.1.0;
+      text_value = q.1.1.1.0;
+      log_value = q.1.1.1.1;
+    }

@@ -7,7 +7,7 @@ use Rattle.edit_indent.proofs.is_split.Goals as goal
 pub returns-then-not-dedent : goal.returns-then-not-dedent
 returns-then-not-dedent c =
     let a = c.args in
-    λ z. untried a.f a.text.now a.line a.m a.amount a.dedent (not-true a.dedent c.if-not-dedent.true)
+    λ z. untried a.f a.text.now a.line a.m a.amount a.dedent c.if-not-dedent.true
 
 pub returns-then-refusal_in-ne0 : goal.returns-then-refusal_in-ne0
 returns-then-refusal_in-ne0 c = λ z. absurd (c.if-refusal_in-ne0.true (c.refusal_in.ensures ∙ z))
@@ -50,4 +50,4 @@ pub returns : goal.returns
 returns c =
     let a = c.args in
     λ z. tested a.f a.text.now a.line a.m a.amount c.refusal_in.ensures c.if-refusal_in-ne0.false c.touched-r.result
-    c.touched-r.ensures c.splits.result a.dedent (not-false a.dedent c.if-not-dedent.false) c.splits.ensures
+    c.touched-r.ensures c.splits.result a.dedent c.if-not-dedent.false c.splits.ensures
