@@ -19,7 +19,7 @@ use Rattle.kill_ring.specs.Calls as rings
 use Rattle.key_press.specs.declared.Press.{Press}
 use Rattle.key_press.specs.declared.Press.TheVariants as p
 use Rattle.key_press.proofs.Table.{is_unbound}
-use Rattle.key_press.specs.Keys.{is_digit, value, behind, is_counted, count_of, key_in, control, press_of}
+use Rattle.key_press.specs.Keys.{with_digit, is_digit, value, behind, is_counted, count_of, key_in, control, press_of}
 use Rattle.key_model.specs.Stands.{stands_for}
 use Rattle.key_model.specs.Keyed.{together, lowest, ring_now, reset_after, done, key_call, line_of}
 use Rattle.key_model.proofs.Refusals.{bound_key}
@@ -33,7 +33,7 @@ AllDigits (d ∷ ds) = (is_digit d ≡ true) × AllDigits ds
 value-is : (n : ℕ) (ds : List ℕ) → AllDigits ds → value n (ds ++ 0x1F ∷ []) ≡ value n ds
 unfolding value within
 value-is n [] h = refl
-value-is n (d ∷ ds) h = rw h.0 (value-is _ ds h.1)
+value-is n (d ∷ ds) h = rw h.0 (value-is (with_digit n d) ds h.1)
 
 behind-is : (ds : List ℕ) → AllDigits ds → behind (ds ++ 0x1F ∷ []) ≡ 0x1F ∷ []
 unfolding behind within
