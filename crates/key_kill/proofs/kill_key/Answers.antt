@@ -1,0 +1,61 @@
+use mathlib.Core.Path.{◌≡◌, sym, ap, ◌∙◌}
+use mathlib.Core.Bool.{true}
+use lib.Seq.{length-take-le}
+use Rattle.utf8.specs.Chars.{In, valid}
+use Rattle.repertoire.specs.Repertoire.{catalogue}
+use Rattle.repertoire.proofs.Text.{text-valid}
+use Rattle.edit.specs.Calls.{Lent, lent, text_of}
+use Rattle.edit.proofs.Answers.{cursor_in}
+use Rattle.edit_kill.specs.Kills.{kill_range}
+use Rattle.edit_kill.proofs.Ranges.{kill_in}
+use Rattle.kill_ring.specs.Calls as rings
+use Rattle.key_model.specs.Stands.{movement_for}
+use Rattle.key_kill.proofs.Kills.{kill_does, nothing_does}
+-- ---- the range
+use Rattle.key_kill.proofs.kill_key.Goals as goal
+use Rattle.key_kill.proofs.kill_key.Goals.{After-kill_range-r, Start}
+
+-- ---- at the start: what is lent
+abbrev lending : Start → Lent
+lending s = let a = s.args in lent a.text.now a.records.now a.texts.now a.line a.log
+
+abbrev given : Start → rings.Lent
+given s = let a = s.args in rings.lent a.slots.now a.lens.now a.ring
+
+inside : (s : Start) → let l = lending s in In (text_of l) l.line.cursor l.line.cursor
+inside s = cursor_in s.args.f (lending s) s.requires.ready
+
+is-valid : (s : Start) → valid (text_of (lending s)) ≡ true
+is-valid s = text-valid catalogue (text_of (lending s)) s.requires.ready.text
+
+ranged : (c : After-kill_range-r) → let l = (let a = c.args in lent a.text.now a.records.now a.texts.now a.line a.log) in
+    kill_range catalogue (text_of l) l.line.cursor (movement_for c.args.k) ≡ c.kill_range-r.result
+ranged c = let l = (let a = c.args in lent a.text.now a.records.now a.texts.now a.line a.log) in
+    ap (kill_range catalogue (text_of l) l.line.cursor) (sym c.movement_for.ensures) ∙ sym c.kill_range-r.ensures
+
+pub slice_bounds-kill_range-end-2 : goal.slice_bounds-kill_range-end-2
+slice_bounds-kill_range-end-2 c = sym (length-take-le _ _ c.requires.ready.used)
+
+pub kill_range-r-requires : goal.kill_range-r-requires
+kill_range-r-requires c =
+    (is-valid (goal.at.kill_range-r-requires c).Start, (inside (goal.at.kill_range-r-requires c).Start).2, (inside (goal.at.kill_range-r-requires c).Start).1)
+
+pub cut_to_ring-requires : goal.cut_to_ring-requires
+cut_to_ring-requires c = record {
+  ready = c.requires.ready;
+  last_at = c.requires.newest;
+  false_value = c.requires.ring;
+  fact = kill_in catalogue (text_of (lending (goal.at.cut_to_ring-requires c).Start)) (is-valid (goal.at.cut_to_ring-requires c).Start) c.in-Places.a c.in-Places.b
+      c.args.line.cursor (inside (goal.at.cut_to_ring-requires c).Start).2 (inside (goal.at.cut_to_ring-requires c).Start).1 (movement_for c.args.k)
+      (ranged (goal.at.cut_to_ring-requires c).After-kill_range-r ∙ c.in-Places.is);
+}
+
+pub returns-in-Places : goal.returns-in-Places
+returns-in-Places c =
+    kill_does c.args.f (lending (goal.at.returns-in-Places c).Start) (given (goal.at.returns-in-Places c).Start) c.args.k c.args.last c.requires c.in-Places.a c.in-Places.b
+    (ranged (goal.at.returns-in-Places c).After-kill_range-r ∙ c.in-Places.is) _ c.mode_for.ensures c.cut_to_ring.ensures
+
+pub returns-in-Nowhere : goal.returns-in-Nowhere
+returns-in-Nowhere c =
+    nothing_does c.args.f (lending (goal.at.returns-in-Nowhere c).Start) (given (goal.at.returns-in-Nowhere c).Start) c.args.k c.args.last c.requires
+    (ranged (goal.at.returns-in-Nowhere c).After-kill_range-r ∙ c.in-Nowhere.is) c.says.ensures
