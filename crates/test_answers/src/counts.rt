@@ -2,26 +2,16 @@
 ghost use Rattle.std.specs.Prelude.{◌+◌, ◌<◌, ◌≤◌, length};
 
 use check::same;
-use libc::STDOUT_FILENO;
+use std::io::{self, Write};
 use test_fields::{one_if, place_of};
 
-fn print(s: &[u8]) {
-    io::write_all(STDOUT_FILENO, s);
-}
-
-fn print_number(n: usize) {
-    io::print_decimal(STDOUT_FILENO, n as u64);
-}
-
 // Prints how many lines of a call agree; nothing where there is no call.
-pub fn print_count(name: &[u8], agreed: usize) {
+pub fn print_count(rt: &impl Print, name: &[u8], agreed: usize) -> io::Result<()> {
     if name.len() == 0 {
-        return;
+        return Ok(());
     }
-    print(name);
-    print(b": ");
-    print_number(agreed);
-    print(b" agree\n");
+    io::writer(rt).write_all(name)?;
+    println!(rt; ": {agreed} agree")
 }
 
 // What is found of a line.
@@ -32,12 +22,11 @@ pub const AGREES: u8 = 1;
 pub const DIFFERS: u8 = 2;
 
 // Names a line that differs.
-pub fn report(number: usize, found: u8) {
+pub fn report(rt: &impl Print, number: usize, found: u8) -> io::Result<()> {
     if found == DIFFERS {
-        print(b"line ");
-        print_number(number);
-        print(b" differs\n");
+        println!(rt; "line {number} differs")?;
     }
+    Ok(())
 }
 
 // The name of the call whose lines are counted, between two places, and how many of them agree.
@@ -48,7 +37,7 @@ pub struct Count {
     pub agreed: usize,
 }
 
-// The count with a line of a call whose name stands between two places. The count of another call is printed.
+// The count with a line of a call whose name stands between two places. It begins anew, at that name, where the call is another.
 fn with_line(
     s: &[u8],
     first: usize,
@@ -69,7 +58,6 @@ fn with_line(
             agreed: agreed + one,
         };
     }
-    print_count(&s[first..last], agreed);
     Count {
         first: at,
         last: end,

@@ -5,26 +5,26 @@
 mod counts;
 mod replay;
 
-use libc::STDOUT_FILENO;
+use std::io;
+use std::rt::Files;
 
-fn replay_file(path: &[u8]) {
-    io::write_all(STDOUT_FILENO, path);
-    io::write_all(STDOUT_FILENO, b"\n");
-    replay::run(os::open_read(path));
+fn replay_file(rt: &(impl Files + Alloc + Print), path: &str) -> io::Result<()> {
+    println!(rt; "{path}")?;
+    replay::run(rt, path)
 }
 
-fn main() {
-    replay_file(b"line.txt");
-    replay_file(b"edit.txt");
-    replay_file(b"kill.txt");
-    replay_file(b"log.txt");
-    replay_file(b"undo.txt");
-    replay_file(b"ring.txt");
-    replay_file(b"key.txt");
-    replay_file(b"slip.txt");
-    replay_file(b"movement_cases.txt");
-    replay_file(b"edit_cases.txt");
-    replay_file(b"key_cases.txt");
-    replay_file(b"slip_cases.txt");
-    counts::print_count(b"longest slips", test_slip_line::longest::agreed());
+fn main(rt: HostRuntime) -> io::Result<()> {
+    replay_file(&rt, "line.txt")?;
+    replay_file(&rt, "edit.txt")?;
+    replay_file(&rt, "kill.txt")?;
+    replay_file(&rt, "log.txt")?;
+    replay_file(&rt, "undo.txt")?;
+    replay_file(&rt, "ring.txt")?;
+    replay_file(&rt, "key.txt")?;
+    replay_file(&rt, "slip.txt")?;
+    replay_file(&rt, "movement_cases.txt")?;
+    replay_file(&rt, "edit_cases.txt")?;
+    replay_file(&rt, "key_cases.txt")?;
+    replay_file(&rt, "slip_cases.txt")?;
+    counts::print_count(&rt, b"longest slips", test_slip_line::longest::agreed())
 }

@@ -5,6 +5,9 @@ ghost use Rattle.std.specs.Prelude.{◌<◌, length};
 
 use super::counts::{AGREES, COMMENT, DIFFERS, counted, print_count, report};
 use check::same;
+use std::fs::File;
+use std::io::{self, Read};
+use std::rt::Files;
 use test_fields::{is_at, is_of, past, place_of};
 
 // Does a line agree? Its name ends at one place, and '>' stands at another.
@@ -50,8 +53,8 @@ fn judged(s: &[u8]) -> u8 {
     DIFFERS
 }
 
-// Replays all lines.
-fn replay(s: &[u8]) {
+// Replays all lines. The count of a call is printed where that of another begins, and at the end.
+fn replay(rt: &impl Print, s: &[u8]) -> io::Result<()> {
     let mut first: usize = 0;
     let mut last: usize = 0;
     let mut agreed: usize = 0;
@@ -61,19 +64,25 @@ fn replay(s: &[u8]) {
         let stop = place_of(s, at, b'\n');
         number += 1;
         let found = judged(&s[at..stop]);
-        report(number, found);
+        report(rt, number, found)?;
         let c = counted(s, first, last, agreed, at, stop, found);
+        if c.first != first {
+            print_count(rt, &s[first..last], agreed)?;
+        }
         first = c.first;
         last = c.last;
         agreed = c.agreed;
         at = past(stop, s.len());
     }
-    print_count(&s[first..last], agreed);
+    print_count(rt, &s[first..last], agreed)
 }
 
-// Replays the file of a descriptor, as far as 262,144 bytes.
-pub fn run(fd: i32) {
-    let mut input = [0u8; 262144];
-    let n = io::read_full(fd, &mut input);
-    replay(&input[..n]);
+// The bytes of a file that are read.
+const LARGEST: u64 = 262144;
+
+// Replays a file.
+pub fn run(rt: &(impl Files + Alloc + Print), path: &str) -> io::Result<()> {
+    let mut input = Vec::new(rt.alloc());
+    File::open(rt, path)?.take(LARGEST).read_to_end(&mut input)?;
+    replay(rt, &input)
 }

@@ -11,10 +11,13 @@
 ghost use Rattle.std.specs.Prelude.{◌<◌, ◌≤◌, length};
 
 use cluster::{next_cluster, prev_cluster};
-use libc::STDOUT_FILENO;
-use test_fields::{is_at, one_if, past, place_of};
 use repertoire::check_text;
+use std::io::{self, Read};
+use test_fields::{is_at, one_if, past, place_of};
 use utf8::encode_at;
+
+// The bytes of standard input that are read.
+const LARGEST: u64 = 65536;
 
 // The mark of what is no sign.
 const NO_SIGN: u8 = 2;
@@ -257,14 +260,12 @@ fn total(s: &[u8]) -> Tally {
     }
 }
 
-fn main() {
-    let mut input = io::large_buffer();
-    let n = io::read_full(0, &mut input);
-    let t = total(&input[..n]);
-    io::print_decimal(STDOUT_FILENO, t.lines as u64);
-    io::write_all(STDOUT_FILENO, b" lines: ");
-    io::print_decimal(STDOUT_FILENO, t.forward as u64);
-    io::write_all(STDOUT_FILENO, b" agree forward, ");
-    io::print_decimal(STDOUT_FILENO, t.backward as u64);
-    io::write_all(STDOUT_FILENO, b" agree backward\n");
+fn main(rt: HostRuntime) -> io::Result<()> {
+    let mut input = Vec::new(rt.alloc());
+    rt.reader().take(LARGEST).read_to_end(&mut input)?;
+    let t = total(&input);
+    println!(rt;
+        "{} lines: {} agree forward, {} agree backward",
+        t.lines, t.forward, t.backward
+    )
 }
