@@ -1,12 +1,11 @@
 -- An edit on lent bytes: its checks in number order, its plan on the values that the bytes hold, and the bytes that hold what it leaves.
-use Rattle.std.specs.Prelude.{ℕ, ◌≤◌, ◌≡◌, true, false, List, length, take}
+use Rattle.std.specs.Prelude.{ℕ, ◌≤◌, ◌≡◌, true, List, length, take}
 use Rattle.repertoire.specs.Repertoire.{Repertoire, catalogue}
 use Rattle.repertoire.specs.Text.{is_text}
 use Rattle.utf8.specs.Chars.{boundary}
 use Rattle.checks.specs.Checks.{Tests, no_tests, with_sizes, with_code, with_foreign, with_place, with_split, both, refusal, line_tests}
 use Rattle.checks.specs.declared.Line.{Line}
 use Rattle.checks.specs.Outcome.{Outcome, refused, answered, called}
-use Rattle.log_model.specs.Change.{place}
 use Rattle.formats.specs.declared.Format.{Format}
 use Rattle.formats.specs.Formats.{format_for}
 use Rattle.log_model.specs.UndoBytes.{Sizes}

@@ -19,7 +19,7 @@ use Rattle.repertoire.specs.declared.Case.TheVariants.{Upper, Lower}
 use Rattle.repertoire.proofs.Cased.{cased-text}
 use Rattle.repertoire.proofs.Catalogue.{cased-le}
 use Rattle.repertoire.proofs.Text.{text-append, text-cut, text-valid}
-use Rattle.cluster.specs.Clusters.{clusters, bytes, first_size}
+use Rattle.cluster.specs.Clusters.{clusters, first_size}
 use Rattle.cluster.proofs.Parts.{first-cut}
 use Rattle.edit_case.specs.declared.WordAction.{WordAction}
 use Rattle.edit_case.specs.declared.WordAction.TheVariants.{Capitalize, Lowercase, Uppercase}

@@ -1,5 +1,5 @@
 -- The calls of LineBuffer with a range of places of their own: line_buffer.rs, delete_range and replace. The places are tried by 5 and 6.
-use Rattle.std.specs.Prelude.{ℕ, ◌+◌, false, not, ◌||◌, List, ltb, length}
+use Rattle.std.specs.Prelude.{ℕ, ◌+◌, not, ◌||◌, List, ltb, length}
 use Rattle.utf8.specs.Chars.{boundary}
 use Rattle.repertoire.specs.Repertoire.{Repertoire}
 use Rattle.repertoire.specs.Text.{is_text}

@@ -28,7 +28,7 @@ use Rattle.kill_ring.proofs.Kills.{ready-slots}
 use Rattle.kill_ring.proofs.Value.{ring_back}
 use Rattle.key_press.specs.declared.KillKey.{KillKey}
 use Rattle.key_press.specs.declared.KillKey.TheVariants as kk
-use Rattle.calls.specs.Calls.{edit_outcome, undo}
+use Rattle.calls.specs.Calls.{edit_outcome}
 use Rattle.key_model.specs.declared.KeyAnswer.{KeyAnswer}
 use Rattle.key_model.specs.Stands.{KeyCalls, unbound, line, kill, yank, yank_pop, kill_for, movement_for, mode_for, kill_by}
 use Rattle.key_model.specs.Keyed.{KeyState, together, killed_to, done}

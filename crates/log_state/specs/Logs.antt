@@ -1,5 +1,5 @@
 -- Checks 2 and 8 of a lent log: document 01, "What a call says" and "Log and ring".
-use Rattle.std.specs.Prelude.{ℕ, ◌+◌, Bool, false, ◌||◌, not, List, ltb, length, take, drop}
+use Rattle.std.specs.Prelude.{ℕ, ◌+◌, Bool, ◌||◌, not, List, ltb, length, take, drop}
 use Rattle.repertoire.specs.Repertoire.{Repertoire}
 use Rattle.formats.specs.declared.Format.{Format}
 use Rattle.log_model.specs.Layout as layout

@@ -1,5 +1,5 @@
 -- What stands on the page in front of a word, at a \n and at the text's end: spaces, and a \n where a line ends there.
-use Rattle.std.specs.Prelude.{ℕ, ◌+◌, ◌-◌, Bool, true, false, cond, List, [], ◌∷◌, ◌++◌, leb}
+use Rattle.std.specs.Prelude.{ℕ, ◌-◌, Bool, true, false, cond, List, [], ◌∷◌, ◌++◌, leb}
 use Rattle.slip_model.specs.declared.Filled.{Filled}
 use Rattle.slip_model.specs.declared.Filled.TheVariants.{Fresh, Blank, UpTo}
 use Rattle.slip_model.specs.Slip.{with, spaced, spaces}

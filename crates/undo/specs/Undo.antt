@@ -1,8 +1,8 @@
 -- Undo on values: undo.rs, undo of Changeset, and document 01 for the stops 12 and 9.
-use Rattle.std.specs.Prelude.{ℕ, zero, suc, ◌-◌, Bool, true, false, cond, ◌&&◌, List, [], ◌∷◌, eqb, length}
+use Rattle.std.specs.Prelude.{ℕ, zero, suc, ◌-◌, Bool, true, false, List, [], ◌∷◌, length}
 use Rattle.repertoire.specs.Repertoire.{Repertoire}
 use Rattle.checks.specs.Checks.{own_tests}
-use Rattle.checks.specs.Outcome.{Outcome, refused, answered, called}
+use Rattle.checks.specs.Outcome.{Outcome, answered, called}
 use Rattle.log_model.specs.Change.{Change, begin, end, edit, turn}
 use Rattle.formats.specs.declared.Format.{Format}
 use Rattle.edit.specs.Plan.{State}

@@ -52,8 +52,8 @@ pub fn undo_or_redo(text: &mut [u8], texts: &[u8], s: Step, r: Record, t: usize,
     requires number_value { (s.number ≡ 0) × (s.len ≤ length text.old) × (r.place < 4294967296) × (t + (r.old + r.new) ≤ length texts.now) × (length texts.now < 4294967296) }
     requires text_value { is_text catalogue (take s.len text.old) ≡ true }
     ensures { (F : Format) (c : Change) → Carries F c r texts.now t → UndoneOrRedone
-        (undoing (length text.entry.now) (to_undo back c) (record
-        { text = take s.len text.entry.now; cursor = s.cursor; undone = s.undone })) s result text.entry.now text.exit.now }
+        (undoing (length text.old) (to_undo back c) (record
+        { text = take s.len text.old; cursor = s.cursor; undone = s.undone })) s result text.old text.new }
 {
     if r.kind <= 2 {
         return s;

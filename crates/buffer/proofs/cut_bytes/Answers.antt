@@ -2,9 +2,9 @@ use borrow.Author.Rules.{rules}
 -- `cut_bytes` meets its contract. The invariant: `j` bytes have been moved down. Assumes nothing.
 use mathlib.Core.Path.{◌≡◌, refl, ap, ◌∙◌}
 use mathlib.Core.List.{List}
-use Prim.Native.Nat.{ℕ, ◌+◌, ◌-◌, ◌≤◌}
+use Prim.Native.Nat.{ℕ, ◌+◌, ◌-◌}
 use native.Mathlib.Omega.{arith}
-use lib.ListN.{length, length-set, set, get_or, drop, take}
+use lib.ListN.{length-set, set, get_or, drop, take}
 use lib.Seq.{paste, paste-zero}
 use Rattle.buffer.proofs.Shifts.{cut_step, cut_law, cut_none}
 use Rattle.buffer.proofs.cut_bytes.Goals as goal

@@ -1,11 +1,8 @@
 -- `cut_bytes` meets its contract. The invariant: `j` bytes have been moved down. Assumes nothing.
-use mathlib.Core.Path.{◌≡◌, refl, ap, ◌∙◌}
-use mathlib.Core.List.{List}
-use Prim.Native.Nat.{ℕ, ◌+◌, ◌-◌, ◌≤◌}
-use native.Mathlib.Omega.{arith}
-use lib.ListN.{length, length-set, set, get_or, drop, take}
-use lib.Seq.{paste, paste-zero}
-use Rattle.buffer.proofs.Shifts.{cut_step, cut_law, cut_none}
+use mathlib.Core.Path.{◌≡◌}
+use Prim.Native.Nat.{◌-◌, ◌≤◌}
+use lib.ListN.{length, drop}
+use lib.Seq.{paste}
 use Rattle.buffer.proofs.cut_bytes.Given as goal
 
 abbrev pub invariant-loop-j : goal.invariant-loop-j

@@ -1,7 +1,7 @@
 use native.Mathlib.Omega.{arith}
 use mathlib.Core.Path.{◌≡◌, refl, ap, ◌∙◌}
-use Prim.Native.Nat.{ℕ, ◌≤◌, ◌-◌}
-use lib.ListN.{length, length-set, replicate}
+use Prim.Native.Nat.{ℕ}
+use lib.ListN.{length-set, replicate}
 use lib.Seq.{sets}
 use Rattle.buffer.proofs.Shifts.{fill_more}
 use Rattle.buffer.proofs.fill.Goals as goal

@@ -1,9 +1,7 @@
-use native.Mathlib.Omega.{arith}
-use mathlib.Core.Path.{◌≡◌, refl, ap, ◌∙◌}
-use Prim.Native.Nat.{ℕ, ◌≤◌, ◌-◌}
-use lib.ListN.{length, length-set, replicate}
+use mathlib.Core.Path.{◌≡◌}
+use Prim.Native.Nat.{◌≤◌, ◌-◌}
+use lib.ListN.{length, replicate}
 use lib.Seq.{sets}
-use Rattle.buffer.proofs.Shifts.{fill_more}
 use Rattle.buffer.proofs.fill.Given as goal
 
 abbrev pub invariant-loop-j : goal.invariant-loop-j

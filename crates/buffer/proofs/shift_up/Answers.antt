@@ -3,9 +3,9 @@ use borrow.Author.Rules.{rules}
 -- Assumes nothing.
 use mathlib.Core.Path.{◌≡◌, refl, ap, ◌∙◌}
 use mathlib.Core.List.{List}
-use Prim.Native.Nat.{ℕ, ◌+◌, ◌-◌, ◌≤◌}
+use Prim.Native.Nat.{ℕ, ◌+◌, ◌-◌}
 use native.Mathlib.Omega.{arith}
-use lib.ListN.{length, length-set, set, get_or}
+use lib.ListN.{length-set, set, get_or}
 use Rattle.buffer.specs.Edit.{shifted}
 use Rattle.buffer.proofs.Shifts.{shift_step, shift_none}
 use Rattle.buffer.proofs.shift_up.Goals as goal

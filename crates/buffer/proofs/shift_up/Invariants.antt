@@ -1,12 +1,9 @@
 -- `buffer::shift_up` meets its contract. The invariant: the bytes from `i` on have moved. The measure is `i`.
 -- Assumes nothing.
-use mathlib.Core.Path.{◌≡◌, refl, ap, ◌∙◌}
-use mathlib.Core.List.{List}
-use Prim.Native.Nat.{ℕ, ◌+◌, ◌-◌, ◌≤◌}
-use native.Mathlib.Omega.{arith}
-use lib.ListN.{length, length-set, set, get_or}
+use mathlib.Core.Path.{◌≡◌}
+use Prim.Native.Nat.{◌≤◌}
+use lib.ListN.{length}
 use Rattle.buffer.specs.Edit.{shifted}
-use Rattle.buffer.proofs.Shifts.{shift_step, shift_none}
 use Rattle.buffer.proofs.shift_up.Given as goal
 
 abbrev pub invariant-loop-i : goal.invariant-loop-i

@@ -1,7 +1,6 @@
-use Rattle.buffer.proofs.Copies.{Over, none_over, over_room, over_length, over_part, over_more, over_done}
+use Rattle.buffer.proofs.Copies.{none_over, over_room, over_length, over_part, over_more, over_done}
 use native.Mathlib.Omega.{arith}
-use mathlib.Core.Path.{◌≡◌, refl}
-use lib.ListN.{length}
+use mathlib.Core.Path.{refl}
 use Rattle.buffer.proofs.write_copies.Goals as goal
 
 pub loop-left-init : goal.loop-left-init

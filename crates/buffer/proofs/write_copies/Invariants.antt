@@ -1,6 +1,5 @@
-use Rattle.buffer.proofs.Copies.{Over, none_over, over_room, over_length, over_part, over_more, over_done}
-use native.Mathlib.Omega.{arith}
-use mathlib.Core.Path.{◌≡◌, refl}
+use Rattle.buffer.proofs.Copies.{Over}
+use mathlib.Core.Path.{◌≡◌}
 use lib.ListN.{length}
 use Rattle.buffer.proofs.write_copies.Given as goal
 

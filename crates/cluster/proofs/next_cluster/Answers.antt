@@ -1,14 +1,11 @@
-use Prim.Native.Nat.{◌≤◌, ◌-◌}
 use mathlib.Core.Path.{sym, ap, ◌∙◌}
 use native.Mathlib.Omega.{arith}
-use borrow.Author.Tests.{not-true, not-false}
-use lib.ListN.{length}
 use Rattle.utf8.specs.Answer.{as_first}
 use Rattle.utf8.proofs.Chars.{first-within}
 use Rattle.utf8.proofs.Forms.{first-end}
 use Rattle.repertoire.specs.Repertoire.{catalogue}
 use Rattle.repertoire.proofs.Text.{within-at}
-use Rattle.cluster.proofs.Forward.{Scanned, scan-start, scan_none, scan_more, scan_break, scan-end}
+use Rattle.cluster.proofs.Forward.{scan-start, scan_none, scan_more, scan_break, scan-end}
 use Rattle.cluster.proofs.next_cluster.Goals as goal
 
 pub returns-in_default : goal.returns-in_default

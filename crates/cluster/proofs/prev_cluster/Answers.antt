@@ -1,12 +1,11 @@
 use mathlib.Core.Path.{◌≡◌, sym, ap, ◌∙◌}
 use native.Mathlib.Omega.{arith}
-use borrow.Author.Tests.{not-true, not-false}
 use Rattle.utf8.specs.Answer.{as_first}
 use Rattle.utf8.specs.Chars.{EndsAt}
 use Rattle.utf8.proofs.Boundary.{boundary_end}
 use Rattle.repertoire.specs.Repertoire.{catalogue}
 use Rattle.utf8.proofs.Ends.{ends-before, ends_never, ends_char}
-use Rattle.cluster.proofs.Backward.{Backed, back_empty, back_start, back_more, back_stop, back_done}
+use Rattle.cluster.proofs.Backward.{back_empty, back_start, back_more, back_stop, back_done}
 use Rattle.cluster.proofs.prev_cluster.Goals as goal
 use Rattle.cluster.proofs.prev_cluster.Goals.{After-prev_char-i}
 

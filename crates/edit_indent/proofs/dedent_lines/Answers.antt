@@ -1,12 +1,12 @@
 use native.Mathlib.Omega.{arith}
-use Prim.Native.Nat.{◌+◌, ◌-◌, ◌≤◌}
+use Prim.Native.Nat.{◌+◌, ◌≤◌}
 use mathlib.Core.Bool.{true}
 use mathlib.Core.Path.{sym, ◌∙◌}
 use lib.Seq.{length-take-le}
 use Rattle.lists.proofs.Bools.{never}
 use Rattle.formats.specs.Formats.{text_max}
 use Rattle.edit.specs.Calls.{lent}
-use Rattle.edit_indent_plans.proofs.Lines.{way, lines_plan, Lines, lines_begin, end_in, line_in, lines_end}
+use Rattle.edit_indent_plans.proofs.Lines.{lines_begin, end_in, line_in, lines_end}
 use Rattle.edit_indent.proofs.Cuts.{cut_in, cut_suits, cut_apart, last_cut, next-cut}
 -- the turn's cut, from where its cursor has moved
 use Rattle.edit_indent.proofs.dedent_lines.Goals as goal

@@ -1,5 +1,4 @@
 use mathlib.Core.Bool.{true}
-use borrow.Author.Tests.{not-true, not-false}
 use Rattle.edit.specs.Calls.{lent}
 use Rattle.edit_indent_plans.proofs.Rooms.{Part, asks, RoomTested, log-within, to-within, cuts_few, dedent_tested, full, begin}
 use Rattle.edit_indent.proofs.dedent_range.Goals as goal

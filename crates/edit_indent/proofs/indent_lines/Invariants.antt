@@ -1,12 +1,7 @@
-use native.Mathlib.Omega.{arith}
-use Prim.Native.Nat.{◌<◌, ◌≤◌}
 use mathlib.Core.Bool.{false}
-use mathlib.Core.Path.{sym}
-use lib.Seq.{length-take-le}
-use Rattle.formats.specs.Formats.{text_max}
 use Rattle.edit.specs.Calls.{lent}
-use Rattle.edit_indent_plans.proofs.Lines.{lines_plan, lines_begin, end_in, lines_end}
-use Rattle.edit_indent.proofs.Spaces.{Indenting, opens, done_in, last_done, next-done, piece_within, put_suits, next-put, turns, turns_line, turns_put}
+use Rattle.edit_indent_plans.proofs.Lines.{lines_plan}
+use Rattle.edit_indent.proofs.Spaces.{Indenting, turns}
 -- the turn's piece, from where it is in.before.before.before.before.before.before.before.before
 use Rattle.edit_indent.proofs.indent_lines.Given as goal
 

@@ -1,6 +1,5 @@
 use native.Mathlib.Omega.{arith}
 use mathlib.Core.Bool.{false}
-use borrow.Author.Tests.{not-true, not-false}
 use Rattle.edit.specs.Calls.{lent}
 use Rattle.edit_indent_plans.proofs.Rooms.{Part, asks, RoomTested, log-within, to-within}
 use Rattle.edit_indent_plans.proofs.Rooms.{lines_few, indent_long, indent_tested, full, begin}

@@ -1,6 +1,5 @@
 use mathlib.Core.Path.{sym, ◌∙◌}
 use lib.Seq.{length-take-le}
-use borrow.Author.Tests.{not-true, not-false}
 use Rattle.edit_indent.proofs.Calls.{text-used, text-fit, lines-in, lines_end, raw_valid, tested, untried}
 use Rattle.edit_indent.proofs.is_split.Goals as goal
 

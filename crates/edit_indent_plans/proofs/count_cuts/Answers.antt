@@ -1,10 +1,5 @@
-use Prim.Native.Nat.{◌≤◌, ◌-◌, ◌+◌}
-use mathlib.Core.Path.{◌≡◌}
 use native.Mathlib.Omega.{arith}
-use lib.ListN.{length, drop}
 use Rattle.repertoire.specs.Repertoire.{catalogue}
-use Rattle.edit_indent_plans.specs.Touched.{split_lines}
-use Rattle.edit_indent_plans.specs.Counts.{cuts_in, bytes_in}
 use Rattle.edit_indent_plans.proofs.Walks.{line_in, line-width, one_some, one_none, cuts_last, cuts_more}
 use Rattle.edit_indent_plans.proofs.count_cuts.Goals as goal
 use Rattle.edit_indent_plans.proofs.count_cuts.Goals.{else-d-gt0, then-d-gt0}

@@ -1,12 +1,9 @@
 use Prim.Native.Nat.{◌≤◌, ◌-◌, ◌+◌}
 use mathlib.Core.Path.{◌≡◌}
-use mathlib.Core.Logic.{⊎_elim}
-use native.Mathlib.Omega.{arith}
 use lib.ListN.{length, drop}
 use Rattle.repertoire.specs.Repertoire.{catalogue}
 use Rattle.edit_indent_plans.specs.Touched.{split_lines}
 use Rattle.edit_indent_plans.specs.Counts.{cuts_in, bytes_in}
-use Rattle.edit_indent_plans.proofs.Walks.{line_in, line-width, one_some, one_none, cuts_last, cuts_more}
 use Rattle.edit_indent_plans.proofs.count_cuts.Given as goal
 
 abbrev pub invariant-loop-records : goal.invariant-loop-records

@@ -1,9 +1,6 @@
-use Prim.Native.Nat.{◌≤◌, ◌-◌, ◌+◌}
-use mathlib.Core.Path.{◌≡◌, refl, ◌∙◌}
+use mathlib.Core.Path.{refl, ◌∙◌}
 use native.Mathlib.Omega.{arith}
-use lib.ListN.{length, drop}
 use Rattle.lists.proofs.Parts.{get_d_any}
-use Rattle.edit_indent_plans.specs.Touched.{split_lines}
 use Rattle.edit_indent_plans.proofs.Newlines.{count-newline, count_other, count-end}
 use Rattle.edit_indent_plans.proofs.count_lines.Goals as goal
 use Rattle.edit_indent_plans.proofs.count_lines.Goals.{else-p-i-eq10, then-p-i-eq10}

@@ -1,11 +1,7 @@
 use Prim.Native.Nat.{◌≤◌, ◌-◌, ◌+◌}
-use mathlib.Core.Path.{◌≡◌, refl, ◌∙◌}
-use mathlib.Core.Logic.{⊎_elim}
-use native.Mathlib.Omega.{arith}
+use mathlib.Core.Path.{◌≡◌}
 use lib.ListN.{length, drop}
-use Rattle.lists.proofs.Parts.{get_d_any}
 use Rattle.edit_indent_plans.specs.Touched.{split_lines}
-use Rattle.edit_indent_plans.proofs.Newlines.{count-newline, count_other, count-end}
 use Rattle.edit_indent_plans.proofs.count_lines.Given as goal
 
 abbrev pub invariant-loop-i : goal.invariant-loop-i

@@ -1,13 +1,9 @@
 use Prim.Native.Nat.{◌≤◌, ◌-◌, ◌+◌}
-use mathlib.Core.Path.{◌≡◌, sym, ap, ◌∙◌}
-use native.Mathlib.Omega.{arith}
+use mathlib.Core.Path.{◌≡◌}
 use lib.ListN.{length, drop}
-use borrow.Author.Tests.{not-true, not-false}
 use Rattle.utf8.specs.Chars.{chars}
-use Rattle.utf8.specs.Answer.{as_first}
 use Rattle.repertoire.specs.Repertoire.{catalogue}
 use Rattle.edit_indent_plans.specs.Touched.{leading}
-use Rattle.edit_indent_plans.proofs.White.{white_on, stops_other, stops-bad, stops_enough}
 use Rattle.edit_indent_plans.proofs.deleting.Given as goal
 
 abbrev pub invariant-loop-i : goal.invariant-loop-i

@@ -1,10 +1,9 @@
-use Prim.Native.Nat.{◌≤◌, ◌<◌, ◌-◌}
-use mathlib.Core.Path.{◌≡◌, sym, ◌∙◌}
+use Prim.Native.Nat.{◌<◌}
+use mathlib.Core.Path.{sym, ◌∙◌}
 use native.Mathlib.Omega.{arith}
 use lib.ListN.{length}
 use Rattle.lists.proofs.Parts.{get_d_any}
-use Rattle.edit_indent_plans.specs.Touched.{last_newline}
-use Rattle.edit_indent_plans.proofs.Newlines.{last_from, last_all, last_here, last_on, last_end}
+use Rattle.edit_indent_plans.proofs.Newlines.{last_all, last_here, last_on, last_end}
 use Rattle.edit_indent_plans.proofs.last_newline.Goals as goal
 use Rattle.edit_indent_plans.proofs.last_newline.Goals.{else-s-i-eq10, then-s-i-eq10}
 

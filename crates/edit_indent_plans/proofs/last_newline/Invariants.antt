@@ -1,11 +1,8 @@
-use Prim.Native.Nat.{◌≤◌, ◌<◌, ◌-◌}
-use mathlib.Core.Path.{◌≡◌, sym, ◌∙◌}
-use mathlib.Core.Logic.{⊎_elim}
-use native.Mathlib.Omega.{arith}
+use Prim.Native.Nat.{◌≤◌, ◌-◌}
+use mathlib.Core.Path.{◌≡◌}
 use lib.ListN.{length}
-use Rattle.lists.proofs.Parts.{get_d_any}
 use Rattle.edit_indent_plans.specs.Touched.{last_newline}
-use Rattle.edit_indent_plans.proofs.Newlines.{last_from, last_all, last_here, last_on, last_end}
+use Rattle.edit_indent_plans.proofs.Newlines.{last_from}
 use Rattle.edit_indent_plans.proofs.last_newline.Given as goal
 
 abbrev pub invariant-loop-i : goal.invariant-loop-i

@@ -1,13 +1,10 @@
 use Prim.Native.Nat.{◌≤◌, ◌-◌, ◌+◌}
-use mathlib.Core.Path.{◌≡◌, refl, sym, ◌∙◌}
+use mathlib.Core.Path.{◌≡◌}
 use mathlib.Core.Bool.{true}
-use native.Mathlib.Omega.{arith}
 use lib.ListN.{length, drop}
-use borrow.Author.Tests.{not-true, not-false}
 use Rattle.utf8.specs.Chars.{valid}
 use Rattle.repertoire.specs.Repertoire.{catalogue}
 use Rattle.edit_indent_plans.specs.Touched.{split_lines, splits}
-use Rattle.edit_indent_plans.proofs.Walks.{line_in, line-valid, rest-valid, splits_here, splits_last, splits_more}
 use Rattle.edit_indent_plans.proofs.splits.Given as goal
 
 abbrev pub invariant-loop-m : goal.invariant-loop-m

@@ -3,7 +3,6 @@ use mathlib.Core.Path.{sym, ap, ◌∙◌}
 use Prim.Native.Nat.{◌≤◌}
 use lib.ListN.{length, take}
 use lib.Seq.{length-take-le}
-use borrow.Author.Tests.{not-true, not-false}
 use Rattle.repertoire.specs.Repertoire.{catalogue}
 use Rattle.buffer.proofs.Inserted.{copied}
 use Rattle.edit.specs.Calls.{lent}

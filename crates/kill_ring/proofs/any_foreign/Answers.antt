@@ -1,7 +1,6 @@
-use Prim.Native.Nat.{ℕ, ◌-◌, ◌≤◌}
+use Prim.Native.Nat.{ℕ, ◌≤◌}
 use native.Mathlib.Omega.{arith}
 use mathlib.Core.Path.{◌≡◌, sym, ap, ◌∙◌}
-use borrow.Author.Tests.{not-true, not-false}
 use Rattle.repertoire.specs.Repertoire.{catalogue}
 use Rattle.repertoire.specs.Text.{is_text}
 use Rattle.kill_ring.specs.Calls.{slot_bytes, any_foreign, slots_from}

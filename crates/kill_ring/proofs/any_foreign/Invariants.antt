@@ -1,11 +1,7 @@
-use Prim.Native.Nat.{ℕ, ◌-◌, ◌≤◌}
-use native.Mathlib.Omega.{arith}
-use mathlib.Core.Path.{◌≡◌, sym, ap, ◌∙◌}
-use borrow.Author.Tests.{not-true, not-false}
+use Prim.Native.Nat.{◌-◌, ◌≤◌}
+use mathlib.Core.Path.{◌≡◌}
 use Rattle.repertoire.specs.Repertoire.{catalogue}
-use Rattle.repertoire.specs.Text.{is_text}
-use Rattle.kill_ring.specs.Calls.{slot_bytes, any_foreign, slots_from}
-use Rattle.kill_ring.proofs.Slots.{from-none, short_at, slot_part, foreign_here, foreign_on, foreign-end}
+use Rattle.kill_ring.specs.Calls.{any_foreign, slots_from}
 use Rattle.kill_ring.proofs.any_foreign.Given as goal
 
 abbrev pub invariant-loop-i : goal.invariant-loop-i

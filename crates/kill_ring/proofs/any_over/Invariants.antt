@@ -1,8 +1,6 @@
-use native.Mathlib.Omega.{arith}
 use Prim.Native.Nat.{◌-◌, ◌≤◌}
-use mathlib.Core.Path.{◌≡◌, sym, ◌∙◌}
+use mathlib.Core.Path.{◌≡◌}
 use Rattle.kill_ring.specs.Calls.{any_over}
-use Rattle.kill_ring.proofs.Slots.{from-none, over_here, over_on, over_end}
 use Rattle.kill_ring.proofs.any_over.Given as goal
 
 abbrev pub invariant-loop-i : goal.invariant-loop-i

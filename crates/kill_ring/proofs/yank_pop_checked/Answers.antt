@@ -1,13 +1,10 @@
 use Prim.Native.Nat.{◌<◌}
 use native.Mathlib.Omega.{arith}
-use mathlib.Core.Path.{◌≡◌, sym, ap, ◌∙◌}
+use mathlib.Core.Path.{◌≡◌, sym, ◌∙◌}
 use mathlib.Core.Bool.{false}
-use mathlib.Core.Logic.{⊎_elim}
-use denote.Enum.Declared.{tag_of}
 use Rattle.repertoire.specs.Repertoire.{catalogue}
 use Rattle.kill_ring.specs.declared.Action.TheVariants.{Yank}
 use Rattle.kill_ring.specs.Calls.{Lent, lent, action_of}
-use Rattle.kill_ring.specs.contracts.Action.{the_type}
 use Rattle.kill_ring.proofs.Passed.{Ready, passed}
 use Rattle.kill_ring.proofs.Value.{some_of}
 use Rattle.kill_ring.proofs.Answers.{previous_in, pop_none, pop_some, pop_other}

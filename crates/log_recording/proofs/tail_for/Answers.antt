@@ -1,5 +1,4 @@
 use mathlib.Core.Path.{◌∙◌}
-use borrow.Author.Tests.{not-true, not-false}
 use Rattle.repertoire.specs.Repertoire.{catalogue}
 use Rattle.log_recording.proofs.Joins.{joined_for}
 use Rattle.log_recording.proofs.Newest.{tail_apart}

@@ -1,6 +1,5 @@
 use native.Mathlib.Omega.{arith}
 use mathlib.Core.Path.{sym, ◌∙◌}
-use borrow.Author.Tests.{not-true, not-false}
 use Rattle.repertoire.specs.Repertoire.{catalogue}
 use Rattle.log_records.proofs.Check.{no_room-at, bad-end, one_at, middle_says}
 use Rattle.log_records.proofs.are_texts_at.Goals as goal

@@ -1,9 +1,8 @@
-use native.Mathlib.Omega.{arith}
-use Prim.Native.Nat.{◌+◌, ◌-◌, ◌≤◌, ◌<◌}
+use Prim.Native.Nat.{◌-◌}
 use lib.ListN.{length}
 use Rattle.repertoire.specs.Repertoire.{catalogue}
-use Rattle.log_model.proofs.Walk.{Come, come_end, come_whole}
-use Rattle.log_records.proofs.Walks.{LastOf, last_none, passes, last_on}
+use Rattle.log_model.proofs.Walk.{Come}
+use Rattle.log_records.proofs.Walks.{LastOf}
 use Rattle.log_records.proofs.last_start.Given as goal
 
 abbrev pub invariant-loop-at : goal.invariant-loop-at

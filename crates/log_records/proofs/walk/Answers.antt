@@ -1,9 +1,9 @@
 use native.Mathlib.Omega.{arith}
-use Prim.Native.Nat.{◌+◌, ◌-◌, ◌*◌, ◌≤◌, ◌<◌}
+use Prim.Native.Nat.{◌+◌, ◌≤◌, ◌<◌}
 use lib.ListN.{length}
 use Rattle.repertoire.specs.Repertoire.{catalogue}
-use Rattle.log_model.proofs.Walk.{Come, come_whole}
-use Rattle.log_records.proofs.Walks.{CountOf, counts_none, passes, counts_on, stops, ends}
+use Rattle.log_model.proofs.Walk.{come_whole}
+use Rattle.log_records.proofs.Walks.{counts_none, passes, counts_on, stops, ends}
 use Rattle.log_records.proofs.walk.Goals as goal
 use Rattle.log_records.proofs.walk.Goals.{After-read_record-r}
 

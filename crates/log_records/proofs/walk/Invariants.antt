@@ -1,9 +1,8 @@
-use native.Mathlib.Omega.{arith}
-use Prim.Native.Nat.{◌+◌, ◌-◌, ◌*◌, ◌≤◌, ◌<◌}
+use Prim.Native.Nat.{◌-◌, ◌*◌, ◌≤◌}
 use lib.ListN.{length}
 use Rattle.repertoire.specs.Repertoire.{catalogue}
-use Rattle.log_model.proofs.Walk.{Come, come_whole}
-use Rattle.log_records.proofs.Walks.{CountOf, counts_none, passes, counts_on, stops, ends}
+use Rattle.log_model.proofs.Walk.{Come}
+use Rattle.log_records.proofs.Walks.{CountOf}
 use Rattle.log_records.proofs.walk.Given as goal
 
 abbrev pub invariant-loop-at : goal.invariant-loop-at

@@ -1,11 +1,11 @@
 use native.Mathlib.Omega.{arith}
-use Prim.Native.Nat.{◌+◌, ◌-◌, ◌≤◌, ◌<◌}
+use Prim.Native.Nat.{◌+◌, ◌≤◌, ◌<◌}
 use mathlib.Core.Path.{◌≡◌, refl, ap, ◌∙◌}
 use lib.ListN.{length, get_or, length-set}
 use Rattle.repertoire.specs.Repertoire.{catalogue}
 use Rattle.log_model.specs.Layout.{size_of}
-use Rattle.log_model.proofs.Walk.{Come, come_end, come_whole}
-use Rattle.log_records.proofs.Sizes.{WrittenOf, written_none, written_on}
+use Rattle.log_model.proofs.Walk.{come_end, come_whole}
+use Rattle.log_records.proofs.Sizes.{written_none, written_on}
 use Rattle.log_records.proofs.write_sizes.Goals as goal
 use Rattle.log_records.proofs.write_sizes.Goals.{After-record_size-size}
 

@@ -1,13 +1,9 @@
-use Prim.Native.Nat.{◌≤◌}
-use mathlib.Core.Path.{◌≡◌, refl, sym, ap, ◌∙◌}
-use mathlib.Core.Bool.{true}
+use mathlib.Core.Path.{refl, sym, ap, ◌∙◌}
 use native.Mathlib.Omega.{arith}
-use lib.ListN.{length, take}
 use Rattle.utf8.specs.Answer.{as_first}
-use Rattle.utf8.specs.Chars.{boundary, EndsAt}
+use Rattle.utf8.specs.Chars.{EndsAt}
 use Rattle.utf8.proofs.Ends.{ends-before, ends_never}
-use Rattle.motion.specs.Search.{last_found, nth_match, match_backward}
-use Rattle.motion.specs.declared.Found.TheVariants.{Nothing}
+use Rattle.motion.specs.Search.{nth_match, match_backward}
 use Rattle.motion.proofs.Search.{behind, behind_in, behind-out, behind-end, found_zero}
 use Rattle.motion.proofs.match_backward.Goals as goal
 use Rattle.motion.proofs.match_backward.Goals.{After-prev_char-at}

@@ -1,14 +1,11 @@
 use Rattle.motion.proofs.Search.{ahead, ahead_in, ahead_out, ahead_end, found_zero, found_same}
 use borrow.Author.Rules.{rules}
-use Prim.Native.Nat.{◌≤◌, ◌-◌, ◌+◌}
-use mathlib.Core.Path.{◌≡◌, refl, sym, ap, ◌∙◌}
-use mathlib.Core.Logic.{⊎_elim}
+use Prim.Native.Nat.{◌+◌}
+use mathlib.Core.Path.{refl, sym, ap, ◌∙◌}
 use native.Mathlib.Omega.{arith}
-use lib.ListN.{length, take}
 use Rattle.utf8.specs.Answer.{as_first}
 use Rattle.repertoire.proofs.Text.{within-at}
-use Rattle.motion.specs.Search.{last_found, nth_match}
-use Rattle.motion.specs.declared.Found.TheVariants.{Nothing}
+use Rattle.motion.specs.Search.{nth_match}
 use Rattle.motion.proofs.match_from.Goals as goal
 use Rattle.motion.proofs.match_from.Goals.{then-cp-c, else-cp-c}
 

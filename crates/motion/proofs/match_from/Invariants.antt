@@ -1,12 +1,8 @@
-use Rattle.motion.proofs.Search.{ahead, ahead_in, ahead_out, ahead_end, found_zero, found_same}
-use Prim.Native.Nat.{◌≤◌, ◌-◌, ◌+◌}
-use mathlib.Core.Path.{◌≡◌, refl, sym, ap, ◌∙◌}
-use mathlib.Core.Logic.{⊎_elim}
-use native.Mathlib.Omega.{arith}
+use Rattle.motion.proofs.Search.{ahead}
+use Prim.Native.Nat.{◌≤◌, ◌-◌}
+use mathlib.Core.Path.{◌≡◌}
 use lib.ListN.{length, take}
-use Rattle.utf8.specs.Answer.{as_first}
-use Rattle.repertoire.proofs.Text.{within-at}
-use Rattle.motion.specs.Search.{last_found, nth_match}
+use Rattle.motion.specs.Search.{last_found}
 use Rattle.motion.specs.declared.Found.TheVariants.{Nothing}
 use Rattle.motion.proofs.match_from.Given as goal
 

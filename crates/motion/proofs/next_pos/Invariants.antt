@@ -1,13 +1,9 @@
 use Prim.Native.Nat.{◌≤◌, ◌+◌}
-use mathlib.Core.Path.{◌≡◌, refl, sym, ap, ◌∙◌}
-use native.Mathlib.Omega.{arith}
+use mathlib.Core.Path.{◌≡◌}
 use lib.ListN.{length, take, drop}
 use Rattle.lists.specs.Lists.{sum}
 use Rattle.repertoire.specs.Repertoire.{catalogue}
-use Rattle.cluster.specs.declared.Cluster.{Cluster}
-use Rattle.cluster.proofs.Steps.{next_told}
 use Rattle.motion.specs.Steps.{sizes}
-use Rattle.motion.proofs.Steps.{forward_more, forward-end, next_found, next-end, next-zero}
 use Rattle.motion.proofs.next_pos.Given as goal
 
 abbrev pub invariant-loop-left : goal.invariant-loop-left

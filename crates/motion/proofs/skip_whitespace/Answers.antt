@@ -1,12 +1,10 @@
 use borrow.Author.Rules.{rules}
-use Prim.Native.Nat.{◌≤◌, ◌-◌}
-use mathlib.Core.Path.{◌≡◌, refl, sym, ◌∙◌}
+use mathlib.Core.Path.{refl, sym, ◌∙◌}
 use native.Mathlib.Omega.{arith}
-use lib.ListN.{length}
 use Rattle.repertoire.specs.Repertoire.{catalogue}
 use Rattle.cluster.proofs.Steps.{next_told}
 use Rattle.motion.specs.Trim.{skip_whitespace}
-use Rattle.motion.proofs.Trim.{alnum_from, alnum_here, alnum-later, alnum_none, alnum-end}
+use Rattle.motion.proofs.Trim.{alnum_here, alnum-later, alnum_none, alnum-end}
 use Rattle.motion.proofs.skip_whitespace.Goals as goal
 
 pub loop-at-init : goal.loop-at-init

@@ -1,11 +1,8 @@
 use Prim.Native.Nat.{◌≤◌, ◌-◌}
-use mathlib.Core.Path.{◌≡◌, refl, sym, ◌∙◌}
-use native.Mathlib.Omega.{arith}
+use mathlib.Core.Path.{◌≡◌}
 use lib.ListN.{length}
 use Rattle.repertoire.specs.Repertoire.{catalogue}
-use Rattle.cluster.proofs.Steps.{next_told}
-use Rattle.motion.specs.Trim.{skip_whitespace}
-use Rattle.motion.proofs.Trim.{alnum_from, alnum_here, alnum-later, alnum_none, alnum-end}
+use Rattle.motion.proofs.Trim.{alnum_from}
 use Rattle.motion.proofs.skip_whitespace.Given as goal
 
 abbrev pub invariant-loop-at : goal.invariant-loop-at

@@ -1,16 +1,11 @@
 use borrow.Author.Rules.{rules}
-use Prim.Native.Nat.{◌≤◌}
 use mathlib.Core.Path.{◌≡◌, sym, ap, ◌∙◌}
-use mathlib.Core.Bool.{true}
 use native.Mathlib.Omega.{arith}
-use borrow.Author.Tests.{not-true, not-false}
-use lib.ListN.{length, take}
 use Rattle.utf8.specs.Answer.{as_first}
-use Rattle.utf8.specs.Chars.{boundary, EndsAt}
+use Rattle.utf8.specs.Chars.{EndsAt}
 use Rattle.utf8.proofs.Boundary.{boundary_end}
 use Rattle.utf8.proofs.Ends.{ends-before, ends_never}
 use Rattle.repertoire.specs.Repertoire.{catalogue}
-use Rattle.motion.specs.Trim.{trim_end}
 use Rattle.motion.proofs.Trim.{trim_more, trim_stop, trim_start, trim_whole}
 use Rattle.motion.proofs.trim_end.Goals as goal
 use Rattle.motion.proofs.trim_end.Goals.{After-prev_char-i}

@@ -1,5 +1,5 @@
 use mathlib.Core.Path.{sym}
-use mathlib.Core.Logic.{inl, inr, ⊎_elim}
+use mathlib.Core.Logic.{inl, inr}
 use lib.Seq.{length-take-le}
 use Rattle.repertoire.specs.Repertoire.{catalogue}
 use Rattle.motion_calls.proofs.CopyCalls.{lent-used, lent-fit, copy_early, copy-after, copy-split, copy-ranged}

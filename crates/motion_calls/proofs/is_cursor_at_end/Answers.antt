@@ -1,6 +1,5 @@
 use Rattle.repertoire.specs.Repertoire.{catalogue}
 use Rattle.checks.specs.Checks.{no_tests}
-use Rattle.motion_calls.specs.Moves.{tells}
 use Rattle.motion_calls.proofs.Called.{refused, accepted}
 use Rattle.motion_calls.proofs.is_cursor_at_end.Goals as goal
 

@@ -2,7 +2,6 @@ use mathlib.Core.Path.{ap, ◌∙◌}
 use Rattle.repertoire.specs.Repertoire.{catalogue}
 use Rattle.checks.specs.Checks.{no_tests}
 use Rattle.checks.specs.Answers.{line_answer, moved_to}
-use Rattle.motion_calls.specs.Moves.{elsewhere}
 use Rattle.motion_calls.proofs.Called.{refused, accepted}
 use Rattle.motion_calls.proofs.move_buffer_start.Goals as goal
 

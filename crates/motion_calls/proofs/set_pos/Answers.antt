@@ -5,7 +5,6 @@ use Rattle.repertoire.specs.Repertoire.{catalogue}
 use Rattle.checks.specs.Checks.{own_tests}
 use Rattle.checks.proofs.Fit.{fit-valid}
 use Rattle.motion_calls.proofs.Called.{refused, accepted, fit_of, place-before, place-split, place-fits}
-use borrow.Author.Tests.{not-true, not-false}
 use mathlib.Core.Bool.{false}
 use lib.Dec.{ltb}
 use Rattle.motion_calls.proofs.set_pos.Goals as goal

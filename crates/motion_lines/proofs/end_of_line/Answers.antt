@@ -1,9 +1,6 @@
-use Prim.Native.Nat.{◌≤◌, ◌-◌}
-use mathlib.Core.Path.{◌≡◌, refl, sym, ◌∙◌}
+use mathlib.Core.Path.{refl, sym, ◌∙◌}
 use native.Mathlib.Omega.{arith}
-use lib.ListN.{length}
 use Rattle.lists.proofs.Parts.{get_d_any}
-use Rattle.motion_lines.specs.Lines.{end_of_line}
 use Rattle.motion_lines.proofs.Lines.{end_last, end_here, end_on}
 use Rattle.motion_lines.proofs.end_of_line.Goals as goal
 

@@ -1,10 +1,7 @@
 use Prim.Native.Nat.{◌≤◌, ◌-◌}
-use mathlib.Core.Path.{◌≡◌, refl, sym, ◌∙◌}
-use native.Mathlib.Omega.{arith}
+use mathlib.Core.Path.{◌≡◌}
 use lib.ListN.{length}
-use Rattle.lists.proofs.Parts.{get_d_any}
 use Rattle.motion_lines.specs.Lines.{end_of_line}
-use Rattle.motion_lines.proofs.Lines.{end_last, end_here, end_on}
 use Rattle.motion_lines.proofs.end_of_line.Given as goal
 
 abbrev pub invariant-loop-i : goal.invariant-loop-i

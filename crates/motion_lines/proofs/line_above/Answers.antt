@@ -1,7 +1,5 @@
-use Prim.Native.Nat.{◌≤◌}
-use mathlib.Core.Path.{◌≡◌, refl, sym, ◌∙◌}
+use mathlib.Core.Path.{refl, sym, ◌∙◌}
 use native.Mathlib.Omega.{arith}
-use Rattle.motion_lines.specs.Columns.{line_above}
 use Rattle.motion_lines.proofs.Columns.{above_none, above-first, above_on}
 use Rattle.motion_lines.proofs.line_above.Goals as goal
 

@@ -1,8 +1,6 @@
 use Prim.Native.Nat.{◌≤◌}
-use mathlib.Core.Path.{◌≡◌, refl, sym, ◌∙◌}
-use native.Mathlib.Omega.{arith}
+use mathlib.Core.Path.{◌≡◌}
 use Rattle.motion_lines.specs.Columns.{line_above}
-use Rattle.motion_lines.proofs.Columns.{above_none, above-first, above_on}
 use Rattle.motion_lines.proofs.line_above.Given as goal
 
 abbrev pub invariant-loop-left : goal.invariant-loop-left

@@ -1,8 +1,5 @@
-use Prim.Native.Nat.{◌≤◌}
-use mathlib.Core.Path.{◌≡◌, refl, sym, ◌∙◌}
+use mathlib.Core.Path.{refl, sym, ◌∙◌}
 use native.Mathlib.Omega.{arith}
-use lib.ListN.{length}
-use Rattle.motion_lines.specs.Columns.{line_below}
 use Rattle.motion_lines.proofs.Columns.{below_none, below_last, below_on}
 use Rattle.motion_lines.proofs.line_below.Goals as goal
 

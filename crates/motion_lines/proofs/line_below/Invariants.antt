@@ -1,9 +1,7 @@
 use Prim.Native.Nat.{◌≤◌}
-use mathlib.Core.Path.{◌≡◌, refl, sym, ◌∙◌}
-use native.Mathlib.Omega.{arith}
+use mathlib.Core.Path.{◌≡◌}
 use lib.ListN.{length}
 use Rattle.motion_lines.specs.Columns.{line_below}
-use Rattle.motion_lines.proofs.Columns.{below_none, below_last, below_on}
 use Rattle.motion_lines.proofs.line_below.Given as goal
 
 abbrev pub invariant-loop-left : goal.invariant-loop-left

@@ -1,8 +1,5 @@
-use Prim.Native.Nat.{◌≤◌}
-use mathlib.Core.Path.{◌≡◌, refl, sym, ◌∙◌}
+use mathlib.Core.Path.{refl, sym, ◌∙◌}
 use native.Mathlib.Omega.{arith}
-use lib.ListN.{length}
-use Rattle.motion_lines.specs.Lines.{lines_down}
 use Rattle.motion_lines.proofs.Lines.{down_none, down_last, down_on}
 use Rattle.motion_lines.proofs.lines_down.Goals as goal
 

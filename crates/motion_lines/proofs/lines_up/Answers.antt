@@ -1,7 +1,5 @@
-use Prim.Native.Nat.{◌≤◌}
-use mathlib.Core.Path.{◌≡◌, refl, sym, ◌∙◌}
+use mathlib.Core.Path.{refl, sym, ◌∙◌}
 use native.Mathlib.Omega.{arith}
-use Rattle.motion_lines.specs.Lines.{lines_up}
 use Rattle.motion_lines.proofs.Lines.{up_none, up_first, up_on}
 use Rattle.motion_lines.proofs.lines_up.Goals as goal
 

@@ -1,8 +1,6 @@
 use Prim.Native.Nat.{◌≤◌}
-use mathlib.Core.Path.{◌≡◌, refl, sym, ◌∙◌}
-use native.Mathlib.Omega.{arith}
+use mathlib.Core.Path.{◌≡◌}
 use Rattle.motion_lines.specs.Lines.{lines_up}
-use Rattle.motion_lines.proofs.Lines.{up_none, up_first, up_on}
 use Rattle.motion_lines.proofs.lines_up.Given as goal
 
 abbrev pub invariant-loop-left : goal.invariant-loop-left

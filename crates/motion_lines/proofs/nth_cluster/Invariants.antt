@@ -1,11 +1,9 @@
 use Prim.Native.Nat.{◌≤◌, ◌-◌}
-use mathlib.Core.Path.{◌≡◌, sym, ◌∙◌}
-use native.Mathlib.Omega.{arith}
-use lib.ListN.{length-take, length-drop, length, drop}
+use mathlib.Core.Path.{◌≡◌}
+use lib.ListN.{length}
 use Rattle.repertoire.specs.Repertoire.{catalogue}
-use Rattle.lists.specs.Lists.{part}
 use Rattle.motion_lines.specs.Columns.{nth_cluster}
-use Rattle.motion_lines.proofs.Columns.{nth_from, nth_start, nth_end, nth_stuck, nth_found, nth_more}
+use Rattle.motion_lines.proofs.Columns.{nth_from}
 use Rattle.motion_lines.proofs.nth_cluster.Given as goal
 
 abbrev pub invariant-loop-at : goal.invariant-loop-at

@@ -1,8 +1,7 @@
-use Prim.Native.Nat.{◌≤◌, ◌-◌}
-use mathlib.Core.Path.{◌≡◌, refl, sym, ◌∙◌}
+use Prim.Native.Nat.{◌-◌}
+use mathlib.Core.Path.{refl, sym, ◌∙◌}
 use native.Mathlib.Omega.{arith}
 use Rattle.lists.proofs.Parts.{get_d_any}
-use Rattle.motion_lines.specs.Lines.{start_of_line}
 use Rattle.motion_lines.proofs.Lines.{start_first, start_here, start_back}
 use Rattle.motion_lines.proofs.start_of_line.Goals as goal
 

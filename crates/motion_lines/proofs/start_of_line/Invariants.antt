@@ -1,9 +1,6 @@
-use Prim.Native.Nat.{◌≤◌, ◌-◌}
-use mathlib.Core.Path.{◌≡◌, refl, sym, ◌∙◌}
-use native.Mathlib.Omega.{arith}
-use Rattle.lists.proofs.Parts.{get_d_any}
+use Prim.Native.Nat.{◌≤◌}
+use mathlib.Core.Path.{◌≡◌}
 use Rattle.motion_lines.specs.Lines.{start_of_line}
-use Rattle.motion_lines.proofs.Lines.{start_first, start_here, start_back}
 use Rattle.motion_lines.proofs.start_of_line.Given as goal
 
 abbrev pub invariant-loop-i : goal.invariant-loop-i

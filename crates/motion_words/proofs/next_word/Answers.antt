@@ -1,11 +1,9 @@
-use mathlib.Core.Path.{◌≡◌, refl, sym, ap, ◌∙◌}
+use mathlib.Core.Path.{refl, sym, ap, ◌∙◌}
 use native.Mathlib.Omega.{arith}
-use Prim.Native.Nat.{◌≤◌, ◌<◌, ◌-◌}
-use lib.ListN.{length}
+use Prim.Native.Nat.{◌<◌}
 use Rattle.repertoire.specs.Repertoire.{catalogue}
-use Rattle.motion_words.specs.Words.{next_word}
 use Rattle.motion_words.proofs.Indices.{told}
-use Rattle.motion_words.proofs.Walks.{landing, rounds, in_round, rounds_done, rounds_out, rounds_in, in_out, in_hit, in_on, first-all, first-passed}
+use Rattle.motion_words.proofs.Walks.{landing, rounds, rounds_done, rounds_out, rounds_in, in_out, in_hit, in_on, first-all, first-passed}
 use Rattle.motion_words.proofs.next_word.Goals as goal
 use Rattle.motion_words.proofs.next_word.Goals.{then-is_before_end, else-is_before_end}
 

@@ -1,12 +1,9 @@
-use mathlib.Core.Path.{◌≡◌, refl, sym, ap, ◌∙◌}
-use mathlib.Core.Logic.{⊎_elim}
-use native.Mathlib.Omega.{arith}
+use mathlib.Core.Path.{◌≡◌}
 use Prim.Native.Nat.{◌≤◌, ◌<◌, ◌-◌}
 use lib.ListN.{length}
 use Rattle.repertoire.specs.Repertoire.{catalogue}
 use Rattle.motion_words.specs.Words.{next_word}
-use Rattle.motion_words.proofs.Indices.{told}
-use Rattle.motion_words.proofs.Walks.{landing, rounds, in_round, rounds_done, rounds_out, rounds_in, in_out, in_hit, in_on, first-all, first-passed}
+use Rattle.motion_words.proofs.Walks.{rounds, in_round}
 use Rattle.motion_words.proofs.next_word.Given as goal
 
 abbrev pub invariant-inner : goal.invariant-inner

@@ -1,15 +1,11 @@
-use mathlib.Core.Path.{◌≡◌, refl, sym, ap, ◌∙◌}
+use mathlib.Core.Path.{◌≡◌}
 use mathlib.Core.Bool.{true}
-use native.Mathlib.Omega.{arith}
 use Prim.Native.Nat.{◌≤◌, ◌<◌}
 use lib.ListN.{length}
-use lib.Seq.{length-take-le}
 use Rattle.utf8.specs.Chars.{boundary}
-use Rattle.utf8.proofs.Boundary.{boundary_end}
 use Rattle.repertoire.specs.Repertoire.{catalogue}
 use Rattle.motion_words.specs.Words.{prev_word}
-use Rattle.motion_words.proofs.Indices.{back_step}
-use Rattle.motion_words.proofs.Walks.{rounds_back, in_round_back, back_first, back_done, back_out, back_in, in_back_out, in_back_hit, in_back_on}
+use Rattle.motion_words.proofs.Walks.{rounds_back, in_round_back}
 use Rattle.motion_words.proofs.prev_word.Given as goal
 
 abbrev pub invariant-inner : goal.invariant-inner

@@ -11,9 +11,9 @@ bounds-s-at-2 c = omega (arith, c.requires.width, c.requires.width_in_bounds)
 
 pub returns-then-width-eq2 : goal.returns-then-width-eq2
 returns-then-width-eq2 c = let s = c.args in (
-      num_two s.width s.at s.s.now _ _ c.wide.ensures.0 c.wide-2.ensures.0 c.if-width-eq2.true,
-      omega (arith, c.wide.ensures.1, c.wide-2.ensures.1),
-    )
+  num_two s.width s.at s.s.now _ _ c.wide.ensures.0 c.wide-2.ensures.0 c.if-width-eq2.true,
+  omega (arith, c.wide.ensures.1, c.wide-2.ensures.1),
+)
 
 pub bounds-s-at-3 : goal.bounds-s-at-3
 bounds-s-at-3 c = omega (arith, c.requires.width, c.if-width-eq2.false, c.requires.width_in_bounds)

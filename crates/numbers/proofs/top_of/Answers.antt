@@ -1,7 +1,5 @@
 use native.Mathlib.Omega.{arith}
-use mathlib.Core.Path.{◌≡◌}
-use Prim.Native.Nat.{◌-◌, ◌≤◌}
-use Rattle.numbers.specs.Numbers.{top}
+use Prim.Native.Nat.{◌-◌}
 use Rattle.numbers.proofs.Read.{top_max}
 use Rattle.numbers.proofs.Written.{top_start, top_more, top-whole}
 use Rattle.numbers.proofs.top_of.Goals as goal

@@ -1,9 +1,6 @@
-use native.Mathlib.Omega.{arith}
 use mathlib.Core.Path.{◌≡◌}
 use Prim.Native.Nat.{◌-◌, ◌≤◌}
 use Rattle.numbers.specs.Numbers.{top}
-use Rattle.numbers.proofs.Read.{top_max}
-use Rattle.numbers.proofs.Written.{top_start, top_more, top-whole}
 use Rattle.numbers.proofs.top_of.Given as goal
 
 abbrev pub invariant-loop-left : goal.invariant-loop-left

@@ -1,10 +1,8 @@
-use native.Mathlib.Omega.{arith}
-use mathlib.Core.Path.{◌≡◌, refl, sym, ◌∙◌}
+use mathlib.Core.Path.{◌≡◌}
 use Prim.Native.Nat.{◌+◌, ◌-◌, ◌≤◌}
-use lib.ListN.{length, length-set}
+use lib.ListN.{length}
 use lib.Seq.{sets}
 use Rattle.numbers.specs.Numbers.{le}
-use Rattle.numbers.proofs.Written.{none_stored, byte_stored, all-stored}
 use Rattle.numbers.proofs.write_num.Given as goal
 
 abbrev pub invariant-loop-i : goal.invariant-loop-i

@@ -1,10 +1,8 @@
 use Prim.Native.Nat.{◌≤◌, ◌-◌}
-use mathlib.Core.Path.{◌≡◌, refl, ap, ◌∙◌}
+use mathlib.Core.Path.{◌≡◌}
 use lib.ListN.{length, take}
-use lib.Seq.{take_all}
 use Rattle.lists.specs.Lists.{all}
 use Rattle.repertoire.specs.Text.{plain}
-use Rattle.repertoire.proofs.Plain.{all_more}
 use Rattle.repertoire.proofs.all_plain.Given as goal
 
 abbrev pub invariant-loop-i : goal.invariant-loop-i

@@ -1,10 +1,8 @@
 use borrow.Author.Rules.{rules}
-use Prim.Native.Nat.{◌≤◌, ◌-◌}
-use mathlib.Core.Path.{◌≡◌, refl, sym, subst, ◌∙◌}
+use mathlib.Core.Path.{refl, sym, subst, ◌∙◌}
 use native.Mathlib.Omega.{arith}
-use lib.ListN.{length, drop}
 use Rattle.repertoire.specs.Repertoire.{catalogue}
-use Rattle.repertoire.specs.Text.{is_text, plain, ReadTo}
+use Rattle.repertoire.specs.Text.{plain, ReadTo}
 use Rattle.repertoire.proofs.Text.{scan-end}
 use Rattle.repertoire.proofs.Plain.{block, plain-one}
 use Rattle.repertoire.proofs.check_text.Goals as goal

@@ -1,11 +1,8 @@
 use Prim.Native.Nat.{◌≤◌, ◌-◌}
-use mathlib.Core.Path.{◌≡◌, refl, sym, subst, ◌∙◌}
-use native.Mathlib.Omega.{arith}
+use mathlib.Core.Path.{◌≡◌}
 use lib.ListN.{length, drop}
 use Rattle.repertoire.specs.Repertoire.{catalogue}
-use Rattle.repertoire.specs.Text.{is_text, plain, ReadTo}
-use Rattle.repertoire.proofs.Text.{scan-end}
-use Rattle.repertoire.proofs.Plain.{block, plain-one}
+use Rattle.repertoire.specs.Text.{is_text}
 use Rattle.repertoire.proofs.check_text.Given as goal
 
 abbrev pub invariant-loop-i : goal.invariant-loop-i

@@ -1,10 +1,7 @@
 use borrow.Author.Rules.{rules}
-use Prim.Native.Nat.{◌≤◌, ◌-◌}
-use mathlib.Core.Path.{◌≡◌, refl, ◌∙◌}
+use mathlib.Core.Path.{refl, ◌∙◌}
 use native.Mathlib.Omega.{arith}
-use lib.ListN.{length, drop}
 use Rattle.repertoire.specs.Repertoire.{catalogue}
-use Rattle.repertoire.specs.Text.{is_text}
 use Rattle.repertoire.proofs.Text.{scan_on, scan_stuck}
 use Rattle.repertoire.proofs.read_chars.Goals as goal
 

@@ -1,10 +1,8 @@
 use Prim.Native.Nat.{◌≤◌, ◌-◌}
-use mathlib.Core.Path.{◌≡◌, refl, ◌∙◌}
-use native.Mathlib.Omega.{arith}
+use mathlib.Core.Path.{◌≡◌}
 use lib.ListN.{length, drop}
 use Rattle.repertoire.specs.Repertoire.{catalogue}
 use Rattle.repertoire.specs.Text.{is_text}
-use Rattle.repertoire.proofs.Text.{scan_on, scan_stuck}
 use Rattle.repertoire.proofs.read_chars.Given as goal
 
 abbrev pub invariant-loop-at : goal.invariant-loop-at

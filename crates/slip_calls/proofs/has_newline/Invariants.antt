@@ -1,10 +1,8 @@
 use Prim.Native.Nat.{◌≤◌, ◌-◌}
-use mathlib.Core.Path.{◌≡◌, refl, sym, ◌∙◌}
-use native.Mathlib.Omega.{arith}
+use mathlib.Core.Path.{◌≡◌}
 use lib.Dec.{eqb}
 use lib.ListN.{length, drop}
 use Rattle.lists.specs.Lists.{any}
-use Rattle.slip_calls.proofs.Newlines.{newline_here, newline_on, newline_none}
 use Rattle.slip_calls.proofs.has_newline.Given as goal
 
 abbrev pub invariant-loop-i : goal.invariant-loop-i

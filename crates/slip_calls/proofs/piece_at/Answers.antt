@@ -1,11 +1,11 @@
 use Prim.Native.Nat.{ℕ, ◌+◌, ◌-◌}
 use mathlib.Core.List.{List}
 use native.Mathlib.Omega.{arith}
-use lib.ListN.{length, drop, length-take, length-drop}
+use lib.ListN.{drop, length-take, length-drop}
 use Rattle.repertoire.specs.Repertoire.{catalogue}
 use Rattle.cluster.specs.Clusters.{first_cluster}
 use Rattle.slip_calls.proofs.Clusters.{ClusterAt, cluster_told}
-use Rattle.slip_calls.proofs.Pieces.{Scanned, scan-start, scan-stops, scan_more, stops_there, white_there, full_there}
+use Rattle.slip_calls.proofs.Pieces.{scan-start, scan-stops, scan_more, stops_there, white_there, full_there}
 use Rattle.slip_calls.proofs.piece_at.Goals as goal
 use Rattle.slip_calls.proofs.piece_at.Goals.{After-next_cluster-k, At-loop-end}
 

@@ -1,13 +1,6 @@
-use Prim.Native.Nat.{ℕ, ◌+◌, ◌-◌}
-use mathlib.Core.Path.{◌≡◌, ap, ◌∙◌}
-use native.Mathlib.Omega.{arith}
+use Prim.Native.Nat.{◌-◌}
 use lib.ListN.{length}
-use Rattle.repertoire.specs.Repertoire.{catalogue}
-use Rattle.slip_model.specs.Slip.{slip}
-use Rattle.slip_calls.specs.declared.Place.{Place}
-use Rattle.slip_calls.specs.Places.{placed}
-use Rattle.slip_calls.proofs.Steps.{closing-few}
-use Rattle.slip_calls.proofs.Passes.{Counted, slip-most, count-start, count_more, count-end}
+use Rattle.slip_calls.proofs.Passes.{Counted}
 use Rattle.slip_calls.proofs.slip_len.Given as goal
 
 abbrev pub invariant-loop-at : goal.invariant-loop-at

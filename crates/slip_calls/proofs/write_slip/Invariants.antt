@@ -1,13 +1,6 @@
-use Prim.Native.Nat.{◌+◌, ◌-◌, ◌≤◌}
-use mathlib.Core.Path.{◌≡◌, ap, ◌∙◌}
-use native.Mathlib.Omega.{arith}
+use Prim.Native.Nat.{◌-◌}
 use lib.ListN.{length}
-use lib.Seq.{sets}
-use Rattle.lists.specs.Lists.{part}
-use Rattle.slip_calls.specs.declared.Place.{Place}
-use Rattle.slip_calls.specs.Places.{placed}
-use Rattle.slip_calls.proofs.Passes as Passes
-use Rattle.slip_calls.proofs.Passes.{Written, out-most, write_start, write_fits, write_more, end_fits, write_end}
+use Rattle.slip_calls.proofs.Passes.{Written}
 use Rattle.slip_calls.proofs.write_slip.Given as goal
 
 abbrev pub invariant-loop-at : goal.invariant-loop-at

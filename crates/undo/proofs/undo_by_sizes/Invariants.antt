@@ -1,17 +1,12 @@
-use native.Mathlib.Omega.{arith}
-use Prim.Native.Nat.{◌+◌, ◌-◌}
-use mathlib.Core.Path.{◌∙◌}
+use Prim.Native.Nat.{◌-◌}
 use mathlib.Core.Bool.{true}
 use lib.ListN.{length}
 use Rattle.repertoire.specs.Repertoire.{catalogue}
 use Rattle.edit.specs.Calls.{state_of}
 use Rattle.log_records.specs.Walks.{SizesOf}
-use Rattle.undo.specs.Undo.{undo_walk, undo_out}
+use Rattle.undo.specs.Undo.{undo_walk}
 use Rattle.undo.specs.Steps.{lent_by}
-use Rattle.undo.proofs.Seams.{some_newest, none_newest}
-use Rattle.undo.proofs.Counts.{one_of, counts_back}
-use Rattle.undo.proofs.Walks.{edited, still, falls, sizes-next}
-use Rattle.undo.proofs.Units.{Walking, walking_first, walked_all, walked_stop, walking_on, walking_next, walked_last}
+use Rattle.undo.proofs.Units.{Walking}
 use Rattle.undo.proofs.undo_by_sizes.Given as goal
 
 abbrev pub invariant-loop-f : goal.invariant-loop-f

@@ -1,13 +1,8 @@
-use native.Mathlib.Omega.{arith}
-use mathlib.Core.Path.{ap, ◌∙◌}
 use Rattle.repertoire.specs.Repertoire.{catalogue}
-use Rattle.edit.specs.Calls.{says, state_of}
+use Rattle.edit.specs.Calls.{state_of}
 use Rattle.log_records.specs.Walks.{SizesOf}
-use Rattle.undo.specs.Steps.{line_of, lent_by}
-use Rattle.undo.proofs.Seams.{newest_some}
-use Rattle.undo.proofs.Walks.{sizes-next}
-use Rattle.undo_cancel.proofs.Cancels.{Cancelling, mark-within, cancelling_first, cancel_more}
-use Rattle.undo_cancel.proofs.Cancels.{cancel_stop, cancelling_next, cancel-ended}
+use Rattle.undo.specs.Steps.{lent_by}
+use Rattle.undo_cancel.proofs.Cancels.{Cancelling}
 use Rattle.undo_cancel.proofs.cancel_by_sizes.Given as goal
 
 abbrev pub invariant-loop-left : goal.invariant-loop-left

@@ -1,8 +1,7 @@
 use native.Mathlib.Omega.{arith}
-use Prim.Native.Nat.{◌+◌, ◌-◌, ◌≤◌}
+use Prim.Native.Nat.{◌-◌}
 use Rattle.repertoire.specs.Repertoire.{catalogue}
-use Rattle.formats.specs.Formats.{records_max}
-use Rattle.undo_cancel.proofs.Opens.{Downs, down_first, down_ended, last, down_end, down_found, down_on}
+use Rattle.undo_cancel.proofs.Opens.{down_first, down_ended, last, down_end, down_found, down_on}
 use Rattle.undo_cancel.proofs.open_begins.Goals as goal
 
 pub loop-at-init : goal.loop-at-init

@@ -2,15 +2,10 @@ use native.Mathlib.Omega.{arith}
 use Prim.Native.Nat.{◌+◌}
 use mathlib.Core.Path.{refl, ◌∙◌}
 use mathlib.Core.Bool.{false}
-use lib.ListN.{length}
-use Rattle.repertoire.specs.Repertoire.{catalogue}
-use Rattle.edit.specs.Calls.{state_of}
-use Rattle.undo_redo.specs.Redo.{redo_walk}
-use Rattle.undo.specs.Steps.{lent_by}
 use Rattle.undo.proofs.Seams.{some_next, none_next}
 use Rattle.undo.proofs.Counts.{one_of, counts_on}
 use Rattle.undo.proofs.Walks.{falls}
-use Rattle.undo.proofs.Units.{Walking, walking_first, walked_all, walked_stop, walking_on, walked_last}
+use Rattle.undo.proofs.Units.{walking_first, walked_all, walked_stop, walking_on, walked_last}
 use Rattle.undo_redo.proofs.Redos.{redone}
 use Rattle.undo_redo.proofs.redo_unit.Goals as goal
 

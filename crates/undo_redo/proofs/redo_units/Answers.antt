@@ -1,7 +1,6 @@
 use native.Mathlib.Omega.{arith}
 use mathlib.Core.Path.{◌∙◌}
-use Rattle.edit.specs.Calls.{lent}
-use Rattle.undo_redo.proofs.Redos.{Redoing, redoing_first, redo-ended, more_left, redoing_next}
+use Rattle.undo_redo.proofs.Redos.{redoing_first, redo-ended, more_left, redoing_next}
 use Rattle.undo_redo.proofs.Redos.{redo-stopped, ended-still, stopped-still}
 use Rattle.undo_redo.proofs.redo_units.Goals as goal
 

@@ -1,6 +1,5 @@
 use mathlib.Core.Path.{sym, ◌∙◌}
 use native.Mathlib.Omega.{arith}
-use borrow.Author.Tests.{not-true, not-false}
 use lib.ListN.{length-set}
 use Rattle.utf8.proofs.Encode.{size_1, size_2, size_3, size_4, scalar_true, refused, no_room, wrote_one, wrote_two, wrote_three, wrote_four}
 use Rattle.utf8.proofs.encode_at.Goals as goal

@@ -1,8 +1,6 @@
-use mathlib.Core.Path.{◌≡◌, refl, sym, ap, ◌∙◌}
+use mathlib.Core.Path.{refl, sym, ap, ◌∙◌}
 use native.Mathlib.Omega.{arith}
-use borrow.Author.Tests.{not-true, not-false}
 use Rattle.utf8.specs.Utf8.{tail}
-use Rattle.utf8.specs.Chars.{start_before}
 use Rattle.utf8.proofs.Boundary.{start_here, start_back, start_none}
 use Rattle.utf8.proofs.prev_char.Goals as goal
 

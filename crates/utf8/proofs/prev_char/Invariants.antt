@@ -1,9 +1,5 @@
-use mathlib.Core.Path.{◌≡◌, refl, sym, ap, ◌∙◌}
-use native.Mathlib.Omega.{arith}
-use borrow.Author.Tests.{not-true, not-false}
-use Rattle.utf8.specs.Utf8.{tail}
+use mathlib.Core.Path.{◌≡◌}
 use Rattle.utf8.specs.Chars.{start_before}
-use Rattle.utf8.proofs.Boundary.{start_here, start_back, start_none}
 use Rattle.utf8.proofs.prev_char.Given as goal
 
 abbrev pub invariant-loop-j : goal.invariant-loop-j

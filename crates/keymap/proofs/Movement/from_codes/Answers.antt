@@ -1,5 +1,5 @@
 use mathlib.Core.Path.{◌≡◌, sym, ◌∙◌}
-use Prim.Native.Nat.{ℕ, ◌≤◌, ◌+◌, zero-le}
+use Prim.Native.Nat.{ℕ, ◌≤◌, ◌+◌}
 use Rattle.keymap.specs.Codes.{movements}
 use native.Mathlib.Omega.{arith}
 use lib.ListN.{get_or-eq_default}

@@ -1,5 +1,4 @@
 use mathlib.Core.Path.{sym, ◌∙◌}
-use borrow.Author.Tests.{not-true, not-false}
 use Rattle.log_recording.proofs.Joins.{may_not, other_kind, follows, no_cut, away, before}
 use Rattle.log_recording.proofs.Tail.note.Goals as goal
 
