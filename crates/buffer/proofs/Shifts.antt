@@ -7,7 +7,8 @@ use native.Mathlib.Omega.{arith}
 use native.Mathlib.Numerals.{add-one}
 use lib.ListN.{length, get_or, set, take, drop, length-take, length-drop}
 use lib.ListN.{length-append, take-append-drop, replicate, length-replicate, replicate-append-replicate, drop_of_length-le, get_or-append}
-use lib.Seq.{slice, slice-cons, slice_empty, take-suc, append_snoc, set_at, get_or-take, get_or-drop, length-take-le, take_all, paste, paste-suc}
+use lib.Seq.{slice, slice-cons, slice_empty, take-suc, append_snoc, set_at, get_or-take, get_or-drop, length-take-le, take_all, paste}
+use lib.Seq.{paste-suc}
 use lib.Seq.{take_at, drop_at, take-take, drop-drop, take-paste, length_paste_head, get_or-append-add, sets, sets-eq}
 use Rattle.lists.proofs.Parts.{drop-take}
 use Rattle.lists.proofs.Stores.{sets-append}

@@ -5,7 +5,8 @@ ghost use Rattle.std.specs.Prelude.{not, eqb};
 ghost use Rattle.repertoire.specs.Repertoire.{catalogue};
 ghost use Rattle.edit.specs.Calls.{lent};
 ghost use Rattle.calls.specs.CallContracts.{Meets, buffers};
-ghost use Rattle.calls.specs.Calls.{codes, delete_range, replace, update, insert, yank, yank_pop, transpose_chars, edit_word, transpose_words, indent, edit};
+ghost use Rattle.calls.specs.Calls.{codes, delete_range, replace, update, insert, yank, yank_pop, transpose_chars, edit_word};
+ghost use Rattle.calls.specs.Calls.{transpose_words, indent, edit};
 
 use checks::Line;
 use edit::EditAnswer;

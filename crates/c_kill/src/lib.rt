@@ -5,7 +5,8 @@
 ghost use Rattle.repertoire.specs.Repertoire.{catalogue};
 ghost use Rattle.edit.specs.Calls.{lent};
 ghost use Rattle.calls.specs.CallContracts.{Meets, buffers};
-ghost use Rattle.calls.specs.Calls.{codes, kill, kill_line, kill_buffer, discard_line, discard_buffer, backspace, delete_prev_word, delete_word, delete_to, delete, edit};
+ghost use Rattle.calls.specs.Calls.{codes, kill, kill_line, kill_buffer, discard_line, discard_buffer, backspace, delete_prev_word};
+ghost use Rattle.calls.specs.Calls.{delete_word, delete_to, delete, edit};
 
 use checks::Line;
 use edit::EditAnswer;

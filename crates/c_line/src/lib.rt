@@ -6,8 +6,10 @@ ghost use Rattle.repertoire.specs.Repertoire.{catalogue};
 ghost use Rattle.log_state.specs.declared.Log.{Log};
 ghost use Rattle.edit.specs.Calls.{lent};
 ghost use Rattle.calls.specs.CallContracts.{Meets, buffers};
-ghost use Rattle.calls.specs.Calls.{codes, next_pos, copy, is_cursor_at_end, is_end_of_input, set_pos, move_forward, move_backward, move_buffer_start};
-ghost use Rattle.calls.specs.Calls.{move_buffer_end, move_home, move_end, move_to_prev_word, move_to_next_word, move_to_line_up, move_to_line_down, move_to};
+ghost use Rattle.calls.specs.Calls.{codes, next_pos, copy, is_cursor_at_end, is_end_of_input, set_pos, move_forward, move_backward};
+ghost use Rattle.calls.specs.Calls.{move_buffer_start};
+ghost use Rattle.calls.specs.Calls.{move_buffer_end, move_home, move_end, move_to_prev_word, move_to_next_word, move_to_line_up};
+ghost use Rattle.calls.specs.Calls.{move_to_line_down, move_to};
 ghost use Rattle.calls.specs.Calls.{move};
 
 use checks::{Line, LineAnswer};

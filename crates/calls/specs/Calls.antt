@@ -12,7 +12,8 @@ use Rattle.log_model.specs.Groups.{Log}
 use Rattle.log_state.specs.Calls as logs
 use Rattle.edit.specs.Plan.{State}
 use Rattle.edit.specs.Calls.{Lent, log_lent, state_of}
-use Rattle.edit_kill.specs.Kills.{kill_call, kill_line_call, kill_buffer_call, discard_line_call, discard_buffer_call, delete_call, backspace_call}
+use Rattle.edit_kill.specs.Kills.{kill_call, kill_line_call, kill_buffer_call, discard_line_call, discard_buffer_call, delete_call}
+use Rattle.edit_kill.specs.Kills.{backspace_call}
 use Rattle.edit_kill.specs.Kills.{delete_prev_word_call, delete_word_call, delete_to_call}
 use Rattle.edit_range.specs.Ranges.{replace_call, delete_range_call}
 use Rattle.edit_insert.specs.Inserts.{update_call, insert_call, yank_call, yank_pop_call}

@@ -17,7 +17,8 @@ use Rattle.log_model.specs.Layout.{AllGood}
 use Rattle.log_model.specs.UndoBytes.{undo_records, undo_texts, all_numbers_fit, Sizes, fits}
 use Rattle.log_model.proofs.UndoBytes.{fits_yes, full_records, full_texts}
 use Rattle.edit.specs.Plan.{PlannedChange, Suits, AllSuit, made, recorded, text_after, list_after, too_long}
-use Rattle.edit.proofs.PlannedChanges.{edit_at, joins_at, place_at, recorded_as, ok_at, suits_in, made-text, more_records, more_texts, more_good}
+use Rattle.edit.proofs.PlannedChanges.{edit_at, joins_at, place_at, recorded_as, ok_at, suits_in, made-text, more_records, more_texts}
+use Rattle.edit.proofs.PlannedChanges.{more_good}
 
 -- check 10 by the two lengths, of a list whose numbers fit their bytes where its texts are not too long
 pub fits-lengths : (R : Repertoire) (F : Format) (z : Sizes) → z.texts < top F.width → (y : List Change) → (length (undo_texts y) < top F.width → AllGood R F.width y)

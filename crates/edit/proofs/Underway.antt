@@ -19,7 +19,8 @@ use Rattle.log_model.specs.UndoBytes.{undo_records, undo_texts, all_numbers_fit,
 use Rattle.log_state.specs.declared.Log.{Log}
 use Rattle.log_state.proofs.Recorded.{good}
 use Rattle.edit.specs.declared.EditAnswer.{EditAnswer}
-use Rattle.edit.specs.Plan.{PlannedChange, made, recorded, Plan, once, text_after, list_after, redo_after, AllSuit, Suits, too_long, State, edited}
+use Rattle.edit.specs.Plan.{PlannedChange, made, recorded, Plan, once, text_after, list_after, redo_after, AllSuit, Suits, too_long, State}
+use Rattle.edit.specs.Plan.{edited}
 use Rattle.edit.specs.Calls.{Lent, lent, log_lent, text_of, sizes_of, state_of, Edited, Ready}
 use Rattle.edit.proofs.Answers.{log-kept, length-kept, state-kept}
 use Rattle.edit.proofs.PlannedChanges.{start_of, made-text, start_in}

@@ -11,7 +11,8 @@ ghost use Rattle.log_records.specs.Walks.{LastAt};
 ghost use Rattle.edit.specs.Calls.{lent, Ready, Answers, Makes};
 ghost use Rattle.motion_words.specs.Places.{words_on};
 ghost use Rattle.edit_case.specs.declared.WordAction.TheVariants.{Capitalize};
-ghost use Rattle.edit_case.specs.EditWord.{in_case, Written, WrittenAt, case_plan, action_of, action_is, edit_word_plan, edit_word_by, edit_word_call};
+ghost use Rattle.edit_case.specs.EditWord.{in_case, Written, WrittenAt, case_plan, action_of, action_is, edit_word_plan, edit_word_by};
+ghost use Rattle.edit_case.specs.EditWord.{edit_word_call};
 
 use checks::Line;
 use cluster::next_cluster;

@@ -27,7 +27,8 @@ use Rattle.edit_indent_plans.specs.Touched.{split_lines, deleting}
 use Rattle.edit_indent_plans.proofs.White.{deleting_in, deleting-white}
 use Rattle.edit_indent_plans.specs.IndentPlans.{dedent_lines, dedented, dedent_cursor}
 use Rattle.edit_indent_plans.proofs.Counted.{white-apart}
-use Rattle.edit_indent_plans.proofs.Lines.{way, none, ahead, Lines, end_in, line_in, last_line, more_lines, first-line, line-width, suits, turn}
+use Rattle.edit_indent_plans.proofs.Lines.{way, none, ahead, Lines, end_in, line_in, last_line, more_lines, first-line, line-width, suits}
+use Rattle.edit_indent_plans.proofs.Lines.{turn}
 
 -- the first of the lines from at up to end ends at e; d bytes are cut from it, and the cursor goes to c
 module _ {F : Format} (m : ℕ) {l₀ l : Lent} {p : Plan} {cursor at end : ℕ} (k : Lines F l₀ p (way m true at) l cursor at end) {e : ℕ} (q : e ≡ end_of_line (take end l.text) at)

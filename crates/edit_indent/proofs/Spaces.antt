@@ -24,7 +24,8 @@ use Rattle.edit_indent_plans.specs.Touched.{split_lines}
 use Rattle.edit_indent_plans.proofs.Newlines.{lines_some}
 use Rattle.edit_indent_plans.specs.IndentPlans.{spaces, indent_pieces, indent_lines, indent_cursor, piece_of, indented}
 use Rattle.edit_indent_plans.proofs.Suits.{piece_in}
-use Rattle.edit_indent_plans.proofs.Lines.{Way, way, none, ahead, Lines, end_in, seen, line_in, last_line, more_lines, line-width, suits, turn}
+use Rattle.edit_indent_plans.proofs.Lines.{Way, way, none, ahead, Lines, end_in, seen, line_in, last_line, more_lines, line-width, suits}
+use Rattle.edit_indent_plans.proofs.Lines.{turn}
 
 -- ---- spaces
 pub take-spaces : (n k : ℕ) → n ≤ k → take n (spaces k) ≡ spaces n

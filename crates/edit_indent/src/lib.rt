@@ -9,7 +9,8 @@ ghost use Rattle.checks.specs.Checks.{refusal as Checks·refusal, both, line_tes
 ghost use Rattle.formats.specs.Formats.{Fit, text_max};
 ghost use Rattle.edit.specs.Calls.{lent, Edited, sizes_of, state_of, Ready, Answers, Makes};
 ghost use Rattle.edit_indent_plans.specs.Touched.{touched as Touched·touched, splits as Touched·splits, split_lines};
-ghost use Rattle.edit_indent_plans.specs.IndentPlans.{lines_in, piece_of, indent_lines, indented as Plans·indented, indent_plan, dedented as Plans·dedented, dedent_lines};
+ghost use Rattle.edit_indent_plans.specs.IndentPlans.{lines_in, piece_of, indent_lines, indented as Plans·indented, indent_plan};
+ghost use Rattle.edit_indent_plans.specs.IndentPlans.{dedented as Plans·dedented, dedent_lines};
 ghost use Rattle.edit_indent.specs.Indents.{indent_of, indent_call};
 ghost use Rattle.lists.specs.Lists.{part};
 ghost use Rattle.utf8.specs.Chars.{In};

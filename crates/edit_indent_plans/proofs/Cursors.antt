@@ -15,7 +15,8 @@ use Rattle.keymap.specs.declared.Movement.{Movement}
 use Rattle.edit.specs.Plan.{PlannedChange, splice, AllSuit, text_after}
 use Rattle.edit.proofs.Splice.{splice_stays, splice_moves, splice-start}
 use Rattle.edit_indent_plans.specs.Touched.{deleting, splits, touched}
-use Rattle.edit_indent_plans.specs.IndentPlans.{spaces, indent_line, indent_lines, indent_cursor, dedent_lines, dedented, dedent_cursor, lines_in, indent_plan, piece_of, indented}
+use Rattle.edit_indent_plans.specs.IndentPlans.{spaces, indent_line, indent_lines, indent_cursor, dedent_lines, dedented, dedent_cursor}
+use Rattle.edit_indent_plans.specs.IndentPlans.{lines_in, indent_plan, piece_of, indented}
 use Rattle.edit_indent_plans.proofs.Suits.{spaces-valid, piece_in, by_pieces, indent_suits}
 
 -- a place of a text

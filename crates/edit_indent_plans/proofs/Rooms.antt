@@ -30,7 +30,8 @@ use Rattle.edit_indent_plans.specs.Counts.{cuts_in, bytes_in}
 use Rattle.edit_indent_plans.specs.IndentPlans.{dedent_lines, change_size, changes_max}
 use Rattle.edit_indent_plans.proofs.Joined.{few_lines}
 use Rattle.edit_indent_plans.proofs.Suits.{front_length, by_lines, dedent_all, indent-all}
-use Rattle.edit_indent_plans.proofs.Counted.{total, long_is, puts_records, lines_pasting, lines_total, lines_count, dedent_short, dedent_records}
+use Rattle.edit_indent_plans.proofs.Counted.{total, long_is, puts_records, lines_pasting, lines_total, lines_count, dedent_short}
+use Rattle.edit_indent_plans.proofs.Counted.{dedent_records}
 use Rattle.edit_indent_plans.proofs.Lines.{lines_plan, Begins}
 
 -- ---- room behind a bytes

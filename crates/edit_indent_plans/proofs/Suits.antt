@@ -22,12 +22,14 @@ use Rattle.keymap.specs.declared.Movement.{Movement}
 use Rattle.edit.specs.Plan.{PlannedChange, pasted, cutting, made, splice, AllSuit}
 use Rattle.edit.proofs.Parts.{part-between}
 use Rattle.edit_indent_plans.specs.Touched.{split_lines, deleting, splits, touched}
-use Rattle.edit_indent_plans.specs.IndentPlans.{spaces, indent_pieces, indent_line, indent_lines, dedent_lines, lines_in, indent_plan, piece_of}
+use Rattle.edit_indent_plans.specs.IndentPlans.{spaces, indent_pieces, indent_line, indent_lines, dedent_lines, lines_in, indent_plan}
+use Rattle.edit_indent_plans.specs.IndentPlans.{piece_of}
 use Rattle.edit_indent_plans.proofs.Newlines.{lines_some}
 use Rattle.edit_indent_plans.proofs.Spans.{touched_in}
 use Rattle.edit_indent_plans.proofs.White.{deleting_in}
 use Rattle.edit_indent_plans.proofs.Walks.{newline-valid}
-use Rattle.edit_indent_plans.proofs.Joined.{behind, joined, split-joined, Valid, split-valid, at-boundary, within, end-boundary, cut-is, put_is, next-line}
+use Rattle.edit_indent_plans.proofs.Joined.{behind, joined, split-joined, Valid, split-valid, at-boundary, within, end-boundary, cut-is}
+use Rattle.edit_indent_plans.proofs.Joined.{put_is, next-line}
 
 -- ---- what is before the next line is characters
 module _ (a x : List ℕ) (v : valid a ≡ true) (w : valid x ≡ true) where

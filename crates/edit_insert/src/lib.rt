@@ -5,7 +5,8 @@
 ghost use Rattle.std.specs.Prelude.{◌≡◌, ◌+◌, ◌-◌, ◌*◌, ◌≤◌, true, length, take};
 ghost use Rattle.repertoire.specs.Repertoire.{catalogue};
 ghost use Rattle.edit.specs.Calls.{lent, Ready, Answers, Makes};
-ghost use Rattle.edit_insert.specs.Inserts.{empty_is, insert_plan, insert_call, yank_plan, yank_call, yank_pop_plan, yank_pop_call, update_call};
+ghost use Rattle.edit_insert.specs.Inserts.{empty_is, insert_plan, insert_call, yank_plan, yank_call, yank_pop_plan, yank_pop_call};
+ghost use Rattle.edit_insert.specs.Inserts.{update_call};
 ghost use Rattle.utf8.specs.Chars.{boundary};
 ghost use Rattle.utf8.specs.Encode.{encode};
 ghost use Rattle.repertoire.specs.Text.{is_text, is_char};

@@ -9,7 +9,8 @@ ghost use Rattle.repertoire.specs.Repertoire.{catalogue};
 ghost use Rattle.keymap.specs.declared.Movement.TheVariants.{ForwardChar};
 ghost use Rattle.log_records.specs.Walks.{LastAt};
 ghost use Rattle.edit.specs.Calls.{lent, Ready, Answers, Makes};
-ghost use Rattle.edit_kill.specs.Kills.{kill_line, discard_line, kill_range, kill_of, kill_call, delete_call, kill_line_call, kill_buffer_call};
+ghost use Rattle.edit_kill.specs.Kills.{kill_line, discard_line, kill_range, kill_of, kill_call, delete_call, kill_line_call};
+ghost use Rattle.edit_kill.specs.Kills.{kill_buffer_call};
 ghost use Rattle.edit_kill.specs.Kills.{discard_line_call, discard_buffer_call, backspace_call, delete_prev_word_call, delete_word_call};
 ghost use Rattle.edit_kill.specs.Kills.{delete_to_call, cut_plan, places_plan};
 

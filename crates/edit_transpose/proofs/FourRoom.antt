@@ -25,7 +25,8 @@ use Rattle.edit.proofs.Answers.{length-kept}
 use Rattle.edit.proofs.Rooms.{Roomy, dry_now, dry_in_range, dry_cut, dry_put}
 use Rattle.edit_transpose.specs.declared.Words.{Words}
 use Rattle.edit_transpose.specs.WordPairs.{words_plan, Apart}
-use Rattle.edit_transpose.proofs.Four.{m1, m2, m3, text1, text2, size1, size2, long1, long2, long3, in1, in2, in3, is1, is2, is3, part2, words_long}
+use Rattle.edit_transpose.proofs.Four.{m1, m2, m3, text1, text2, size1, size2, long1, long2, long3, in1, in2, in3, is1, is2, is3, part2}
+use Rattle.edit_transpose.proofs.Four.{words_long}
 
 module _ (F : Format) (l : Lent) (h : Ready F l) (w : Words) (p : Apart (text_of l) w) where
   abbrev t : List ℕ

@@ -39,7 +39,8 @@ use Rattle.undo.specs.Undo.{undo_out}
 use Rattle.kill_ring.specs.declared.Mode.{Mode}
 use Rattle.kill_ring.specs.declared.Action.{Action}
 use Rattle.kill_ring.specs.declared.Action.TheVariants as action
-use Rattle.kill_ring.specs.Ring.{KillRing, is_empty, with_action, reset_out, kill_index, kill_text, stored, kill_out, yank_out, previous_index, yanked, pop_out, yank_pop_out}
+use Rattle.kill_ring.specs.Ring.{KillRing, is_empty, with_action, reset_out, kill_index, kill_text, stored, kill_out, yank_out}
+use Rattle.kill_ring.specs.Ring.{previous_index, yanked, pop_out, yank_pop_out}
 use Rattle.kill_ring.specs.Calls as rings
 use Rattle.key_press.specs.declared.Press.{Press}
 use Rattle.key_press.specs.declared.Press.TheVariants as p

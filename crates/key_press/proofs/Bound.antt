@@ -17,7 +17,8 @@ use Rattle.repertoire.specs.Text.{is_text, is_char}
 use Rattle.repertoire.proofs.Text.{text_nil, member_in, scan_on, scan-end}
 use Rattle.repertoire.proofs.Plain.{OneByte, one_at}
 use Rattle.key_press.specs.declared.Press.TheVariants as p
-use Rattle.key_press.specs.Keys.{is_digit, behind, is_counted, count_of, key_in, escaped, character, press_by, press_of, is_untried, untried, foreign_key}
+use Rattle.key_press.specs.Keys.{is_digit, behind, is_counted, count_of, key_in, escaped, character, press_by, press_of, is_untried}
+use Rattle.key_press.specs.Keys.{untried, foreign_key}
 
 module _ (R : Repertoire) (ascii : (c : ℕ) → within 0x20 0x7E c ≡ true → R.member c ≡ true) where
   -- a byte of ASCII that check 4 lets pass

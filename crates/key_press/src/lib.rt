@@ -5,7 +5,8 @@ ghost use Rattle.std.specs.Prelude.{◌≡◌, true, length, drop};
 ghost use Rattle.utf8.specs.Utf8.{first};
 ghost use Rattle.repertoire.specs.Repertoire.{catalogue};
 ghost use Rattle.repertoire.specs.Text.{member_len};
-ghost use Rattle.key_press.specs.Keys.{is_digit, with_digit, CountedAs, control as Keys·control, escaped as Keys·escaped, character as Keys·character};
+ghost use Rattle.key_press.specs.Keys.{is_digit, with_digit, CountedAs, control as Keys·control, escaped as Keys·escaped};
+ghost use Rattle.key_press.specs.Keys.{character as Keys·character};
 ghost use Rattle.key_press.specs.Keys.{press_by, press_of, is_untried, untried, foreign_key};
 
 use keymap::RepeatCount;

@@ -28,7 +28,8 @@ use Rattle.kill_ring.specs.Calls.{Lent, len_at, slot_bytes, slots_from, value_of
 use Rattle.kill_ring.specs.Killed.{place_of, slot_of, used_of, killed_into, Put}
 use Rattle.kill_ring.proofs.Slots.{slots_length}
 use Rattle.kill_ring.proofs.Passed.{Ready, code-refused}
-use Rattle.kill_ring.proofs.Value.{some_of, cond_ind, action_cases, acted, slots-empty, index_in, index_none, slot_is, slot_length, slot_short, bytes-length}
+use Rattle.kill_ring.proofs.Value.{some_of, cond_ind, action_cases, acted, slots-empty, index_in, index_none, slot_is, slot_length}
+use Rattle.kill_ring.proofs.Value.{slot_short, bytes-length}
 use Rattle.kill_ring.proofs.Answers.{alone, numbers, kill-left}
 use Rattle.kill_ring.proofs.Puts.{Short, others, put-at, slots-put}
 use Rattle.kill_ring.proofs.Rings.{put-length}

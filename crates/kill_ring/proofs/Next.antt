@@ -16,7 +16,8 @@ use Rattle.kill_ring.specs.declared.Action.TheVariants.{Kill, Yank, Other}
 use Rattle.kill_ring.specs.declared.Mode.{Mode}
 use Rattle.kill_ring.specs.declared.ModeCode.TheVariants as code
 use Rattle.kill_ring.specs.Ring.{KillRing, is_empty, empty, reset_out, yank_out, yanked, previous_index, pop_out, yank_pop_out}
-use Rattle.kill_ring.specs.Calls.{Lent, lent, value_of, checked, new_call, reset_call, kill_by, yank_call, yank_pop_call, ring_of, answer_and_ring, SlotsIn, Ringed}
+use Rattle.kill_ring.specs.Calls.{Lent, lent, value_of, checked, new_call, reset_call, kill_by, yank_call, yank_pop_call, ring_of}
+use Rattle.kill_ring.specs.Calls.{answer_and_ring, SlotsIn, Ringed}
 use Rattle.kill_ring.specs.Sound.{Sound}
 use Rattle.kill_ring.proofs.Passed.{Ready, passed}
 use Rattle.kill_ring.proofs.Value.{cond_ind}

@@ -11,7 +11,8 @@ use Rattle.repertoire.specs.Repertoire.{Repertoire}
 use Rattle.checks.specs.Checks.{both, refusal, own_tests}
 use Rattle.checks.proofs.Fit.{refusal-passed}
 use Rattle.kill_ring.specs.declared.Ring.{Ring}
-use Rattle.kill_ring.specs.Calls.{Lent, slots_from, any_over, in_use, over_sizes, action_breaks, index_breaks, any_foreign, damaged, ring_tests, checked}
+use Rattle.kill_ring.specs.Calls.{Lent, slots_from, any_over, in_use, over_sizes, action_breaks, index_breaks, any_foreign, damaged}
+use Rattle.kill_ring.specs.Calls.{ring_tests, checked}
 
 -- ---- the slots in use
 pub in_use_all : (r : Ring) → r.count ≤ r.size → in_use r ≡ r.count

@@ -12,7 +12,8 @@ use Rattle.kill_ring.specs.declared.Action.{Action}
 use Rattle.kill_ring.specs.declared.Action.TheVariants.{Kill, Yank, Other}
 use Rattle.kill_ring.specs.declared.Mode.{Mode}
 use Rattle.kill_ring.specs.declared.Mode.TheVariants.{Append, Prepend}
-use Rattle.kill_ring.specs.Ring.{KillRing, is_empty, slot_at, with_action, joined, kill_index, kill_text, stored, kill_out, yank_out, previous_index, yanked, pop_out, yank_pop_out}
+use Rattle.kill_ring.specs.Ring.{KillRing, is_empty, slot_at, with_action, joined, kill_index, kill_text, stored, kill_out, yank_out}
+use Rattle.kill_ring.specs.Ring.{previous_index, yanked, pop_out, yank_pop_out}
 use Rattle.kill_ring.specs.Sound.{Sound}
 use Rattle.kill_ring.proofs.Rings.{put_there, put_in, put_twice}
 use Rattle.kill_ring.proofs.Kills.{joins, kill_joins}

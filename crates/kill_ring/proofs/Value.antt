@@ -14,7 +14,8 @@ use Rattle.kill_ring.specs.declared.Ring.{Ring}
 use Rattle.kill_ring.specs.declared.Action.{Action}
 use Rattle.kill_ring.specs.declared.Action.TheVariants.{Kill, Yank, Other}
 use Rattle.kill_ring.specs.Ring.{is_empty, slot_at}
-use Rattle.kill_ring.specs.Calls.{Lent, len_at, slot_bytes, slots_from, action_of, value_of, action_breaks, action_number, yank_size, ring_of}
+use Rattle.kill_ring.specs.Calls.{Lent, len_at, slot_bytes, slots_from, action_of, value_of, action_breaks, action_number, yank_size}
+use Rattle.kill_ring.specs.Calls.{ring_of}
 use Rattle.kill_ring.proofs.Slots.{short_at, slots_length, slots_at}
 use Rattle.kill_ring.proofs.Passed.{Ready}
 

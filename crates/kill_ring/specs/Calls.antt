@@ -1,6 +1,7 @@
 -- The ring on lent bytes: document 01, "Log and ring", and its checks 2, 3, 4 and 8. A slot has 4,096 bytes in `slots` and its used length in 2 bytes of
 -- `lens`, little-endian. What stands from the count on, and past a slot's used length, is not looked at.
-use Rattle.std.specs.Prelude.{ℕ, zero, suc, ◌*◌, ◌≡◌, Bool, true, false, cond, not, ◌||◌, ◌&&◌, List, [], ◌∷◌, eqb, leb, ltb, length, get_or, take, drop}
+use Rattle.std.specs.Prelude.{ℕ, zero, suc, ◌*◌, ◌≡◌, Bool, true, false, cond, not, ◌||◌, ◌&&◌, List, [], ◌∷◌, eqb, leb, ltb, length}
+use Rattle.std.specs.Prelude.{get_or, take, drop}
 use Rattle.repertoire.specs.Repertoire.{Repertoire}
 use Rattle.repertoire.specs.Text.{is_text}
 use Rattle.checks.specs.Checks.{Tests, no_tests, with_sizes, with_damaged, both, refusal, own_tests}

@@ -5,7 +5,8 @@ ghost use Rattle.std.specs.Prelude.{◌≡◌, false, cond, ◌+◌, ◌-◌, �
 ghost use Rattle.repertoire.specs.Repertoire.{catalogue};
 ghost use Rattle.buffer.specs.Edit.{inserted};
 ghost use Rattle.kill_ring.specs.Ring.{reset_out, kill_out, yank_out, yank_pop_out};
-ghost use Rattle.kill_ring.specs.Calls.{lent, len_at, slots_from, action_of, value_of, any_over, in_use, over_sizes, index_breaks, action_breaks};
+ghost use Rattle.kill_ring.specs.Calls.{lent, len_at, slots_from, action_of, value_of, any_over, in_use, over_sizes, index_breaks};
+ghost use Rattle.kill_ring.specs.Calls.{action_breaks};
 ghost use Rattle.kill_ring.specs.Calls.{any_foreign, damaged, checked, mode_of, says as Calls·says, answer_and_ring, new_call, reset_call};
 ghost use Rattle.kill_ring.specs.Calls.{yank_call, yank_pop_call, kill_by, kill_call, Ringed};
 ghost use Rattle.kill_ring.specs.Killed.{place_of, slot_of, used_of, killed_into, Put};

@@ -5,7 +5,8 @@
 ghost use Rattle.std.specs.Prelude.{◌≡◌};
 ghost use Rattle.repertoire.specs.Repertoire.{catalogue};
 ghost use Rattle.formats.specs.Formats.{log_format};
-ghost use Rattle.log_state.specs.Calls.{lent, Logged, answer_of, begin_call, end_call, insert_call, insert_str_call, delete_call, replace_call, truncate_call, last_insert_call};
+ghost use Rattle.log_state.specs.Calls.{lent, Logged, answer_of, begin_call, end_call, insert_call, insert_str_call, delete_call};
+ghost use Rattle.log_state.specs.Calls.{replace_call, truncate_call, last_insert_call};
 
 use formats::format_for;
 use log_state::{Log, LogAnswer, check, is_single, says};

@@ -15,7 +15,8 @@ use Rattle.repertoire.specs.Text.{is_text}
 use Rattle.log_model.specs.Change.{Edit, Change, begin, end, edit, insert, delete, replace}
 use Rattle.numbers.specs.Numbers.{top, le, num_at}
 use Rattle.formats.specs.declared.Format.{Format}
-use Rattle.log_model.specs.Layout.{kind_of, record_of, texts_of, encode_records, encode_texts, Representable, AllGood, ok_change, size_of, first_len}
+use Rattle.log_model.specs.Layout.{kind_of, record_of, texts_of, encode_records, encode_texts, Representable, AllGood, ok_change, size_of}
+use Rattle.log_model.specs.Layout.{first_len}
 use Rattle.log_model.specs.Layout.{second_len, texts_at, change_at, whole_at, push, is_some, decode_from, decode_at, decode}
 use Rattle.numbers.proofs.Numbers.{length-le, num_le}
 

@@ -12,7 +12,8 @@ use borrow.Author.Tests.{eqb-true, eqb-false}
 use Rattle.repertoire.specs.Repertoire.{Repertoire}
 use Rattle.log_model.specs.Change.{Change}
 use Rattle.formats.specs.declared.Format.{Format}
-use Rattle.log_model.specs.Layout.{record_of, texts_of, Representable, ok_change, Layout, size_of, first_len, second_len, texts_at, change_at, whole_at, push, decode_at, decode}
+use Rattle.log_model.specs.Layout.{record_of, texts_of, Representable, ok_change, Layout, size_of, first_len, second_len, texts_at}
+use Rattle.log_model.specs.Layout.{change_at, whole_at, push, decode_at, decode}
 use Rattle.numbers.proofs.Numbers.{Bytes, num_small, le_num}
 use Rattle.log_model.proofs.Decode.{size-begin, size-end, size-insert, size-delete, size-replace, texts-begin, texts-end}
 use Rattle.log_model.proofs.Decode.{texts-insert, texts-delete, texts-replace, change_begin, change_end, change_insert}

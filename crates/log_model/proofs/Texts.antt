@@ -15,7 +15,8 @@ use Rattle.repertoire.specs.Text.{is_text}
 use Rattle.repertoire.proofs.Text.{text_nil, text-append, scan-end}
 use Rattle.log_model.specs.Change.{Change, begin, end, edit, insert, delete, replace}
 use Rattle.formats.specs.declared.Format.{Format}
-use Rattle.log_model.specs.Layout.{texts_of, ok_change, size_of, texts_at, change_at, whole_at, push, is_some, decode_from, decode_at, decode}
+use Rattle.log_model.specs.Layout.{texts_of, ok_change, size_of, texts_at, change_at, whole_at, push, is_some, decode_from, decode_at}
+use Rattle.log_model.specs.Layout.{decode}
 use Rattle.log_model.proofs.Decode.{kind-is, Whole, whole, is_some-push}
 use Rattle.log_model.proofs.Sound.{written-texts}
 

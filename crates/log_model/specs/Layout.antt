@@ -1,6 +1,7 @@
 -- Document 01, "Log and ring": the layout of a list of changes in bytes. A record is one byte of kind, then a body whose length the kind fixes;
 -- numbers are little-endian; texts follow record order, old before new. The width of a number and the offset of the kinds of edits are those of a format.
-use Rattle.std.specs.Prelude.{ℕ, zero, suc, ◌+◌, ◌-◌, ◌<◌, ◌≡◌, List, [], ◌∷◌, ◌++◌, Bool, true, false, ◌&&◌, cond, length, get_or, take, drop, leb, ltb, eqb}
+use Rattle.std.specs.Prelude.{ℕ, zero, suc, ◌+◌, ◌-◌, ◌<◌, ◌≡◌, List, [], ◌∷◌, ◌++◌, Bool, true, false, ◌&&◌, cond, length, get_or, take}
+use Rattle.std.specs.Prelude.{drop, leb, ltb, eqb}
 use Rattle.std.proofs.Math.Option.{Option, some, none}
 use Rattle.numbers.specs.Numbers.{top, le, num_at}
 use Rattle.formats.specs.declared.Format.{Format}

@@ -21,14 +21,16 @@ use Rattle.log_model.specs.Recording.{apart, join_if, on_joined, note}
 use Rattle.log_model.specs.Holds.{Holds}
 use Rattle.log_model.specs.UndoBytes.{undo_records, undo_texts, Sizes, fits}
 use Rattle.log_model.proofs.Holds.{front, holds_alone}
-use Rattle.log_model.proofs.UndoBytes.{records_cons, texts_cons, records-size, texts-size, good-newest, good_oldest, fits_yes, full_records, full_texts, full_place}
+use Rattle.log_model.proofs.UndoBytes.{records_cons, texts_cons, records-size, texts-size, good-newest, good_oldest, fits_yes, full_records}
+use Rattle.log_model.proofs.UndoBytes.{full_texts, full_place}
 use Rattle.log_records.specs.Written.{record_bytes, edit_size}
 use Rattle.log_recording.specs.Tails as tails
 use Rattle.log_records.specs.Records.{kind_number}
 use Rattle.log_recording.specs.Tails.{tail_of, noted, Wrote}
 use Rattle.log_recording.specs.declared.Tail.{Tail}
 use Rattle.log_recording.specs.declared.Noted.{Noted}
-use Rattle.log_recording.proofs.Numbers.{record-bytes, record-size, texts_are, ok_texts, texts_ok, representable_edit, tail-edit, tail-records, tail-texts}
+use Rattle.log_recording.proofs.Numbers.{record-bytes, record-size, texts_are, ok_texts, texts_ok, representable_edit, tail-edit}
+use Rattle.log_recording.proofs.Numbers.{tail-records, tail-texts}
 
 -- the change x makes u' of u, and n are the numbers of it
 pub record Put (F : Format) (x : Edit) (u u' : List Change) (n : Noted) : Type 0 where

@@ -25,7 +25,8 @@ use Rattle.log_records.specs.declared.Newest.{Newest}
 use Rattle.log_records.specs.Records.{record_by, IsWhole, record_at}
 use Rattle.log_records.specs.Check.{is_text_at, are_texts_at}
 use Rattle.log_records.specs.Walks.{passing, NewestAt}
-use Rattle.log_records.proofs.Records.{by_begin, by_end, by_insert, by_delete, by_replace, is_whole, some_kind, size_is, texts-size-is, no_texts_of, whole_by}
+use Rattle.log_records.proofs.Records.{by_begin, by_end, by_insert, by_delete, by_replace, is_whole, some_kind, size_is, texts-size-is}
+use Rattle.log_records.proofs.Records.{no_texts_of, whole_by}
 use Rattle.log_records.proofs.Walks.{NewestOf, newest, newest_none, pass_count, newest_on}
 
 -- ---- n bytes at t

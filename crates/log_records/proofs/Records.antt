@@ -12,7 +12,8 @@ use Rattle.repertoire.specs.Repertoire.{Repertoire}
 use Rattle.numbers.specs.Numbers.{num_at}
 use Rattle.formats.specs.declared.Format.{Format}
 use Rattle.log_model.specs.Change.{Change, begin, end, edit, insert, delete, replace}
-use Rattle.log_model.specs.Layout.{kind_of, first_len, second_len, record_of, texts_of, encode_records, encode_texts, size_of, texts_at, Layout}
+use Rattle.log_model.specs.Layout.{kind_of, first_len, second_len, record_of, texts_of, encode_records, encode_texts, size_of, texts_at}
+use Rattle.log_model.specs.Layout.{Layout}
 use Rattle.log_model.specs.UndoBytes.{undo_records}
 use Rattle.log_model.proofs.Decode.{KindIs, is-begin, is-end, is-insert, is-delete, is-replace, kind-is, is_replacement, size-begin}
 use Rattle.log_model.proofs.Decode.{size-end, size-replace, size_mid, size_high, texts-begin, texts-end, texts-insert, texts-delete}

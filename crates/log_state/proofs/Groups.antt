@@ -21,7 +21,8 @@ use Rattle.log_model.specs.Groups.{is_begin, is_end, passed}
 use Rattle.log_model.specs.UndoBytes.{undo_records, undo_texts, fits, Places, last_insert_at}
 use Rattle.log_model.proofs.Holds.{records-append, texts-append, holds_alone, pushed, closed}
 use Rattle.log_model.proofs.UndoBytes.{records-size, texts-size, good_oldest, fits_yes, full_records}
-use Rattle.log_model.proofs.Groups.{run, passed_short, passed_twice, begins_texts, ends-records, ends-texts, good-ends, good-drop, Ended, ended-least, truncated-is, ends-passed}
+use Rattle.log_model.proofs.Groups.{run, passed_short, passed_twice, begins_texts, ends-records, ends-texts, good-ends, good-drop, Ended}
+use Rattle.log_model.proofs.Groups.{ended-least, truncated-is, ends-passed}
 use Rattle.log_model.proofs.Newest.{turned_back}
 use Rattle.log_records.specs.Walks.{first_of, Walks, NewestAt}
 use Rattle.log_records.specs.declared.Newest.{Newest}

@@ -5,10 +5,12 @@
 ghost use Rattle.std.specs.Prelude.{◌≡◌};
 ghost use Rattle.repertoire.specs.Repertoire.{catalogue};
 ghost use Rattle.checks.specs.Answers.{line_answer};
-ghost use Rattle.motion_calls.specs.Moves.{next_pos_call, move_forward, move_backward, move_buffer_start, move_buffer_end, move_home, move_end, is_cursor_at_end, is_end_of_input, set_pos};
+ghost use Rattle.motion_calls.specs.Moves.{next_pos_call, move_forward, move_backward, move_buffer_start, move_buffer_end, move_home};
+ghost use Rattle.motion_calls.specs.Moves.{move_end, is_cursor_at_end, is_end_of_input, set_pos};
 ghost use Rattle.motion_calls.specs.Moves.{move_to_line_up, move_to_line_down, move_to_prev_word, move_to_next_word, move_to};
 ghost use Rattle.motion_calls.specs.Copy.{ranged as Copy·ranged, copy_by, copy_call, movement_is};
-ghost use Rattle.motion_calls.specs.Moves.{prev_word_by, next_word_by, search_by, word_is, stop_is, search_is, elsewhere as Moves·elsewhere, tells as Moves·tells};
+ghost use Rattle.motion_calls.specs.Moves.{prev_word_by, next_word_by, search_by, word_is, stop_is, search_is};
+ghost use Rattle.motion_calls.specs.Moves.{elsewhere as Moves·elsewhere, tells as Moves·tells};
 
 use checks::{Line, LineAnswer, moved_to, place_of, refusal, says};
 use keymap::{

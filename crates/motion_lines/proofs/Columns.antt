@@ -22,7 +22,8 @@ use Rattle.layout.specs.Width.{width}
 use Rattle.motion.specs.Steps.{sizes}
 use Rattle.motion.specs.declared.Found.TheVariants.{At, Nothing}
 use Rattle.motion_lines.specs.Lines.{start_of_line, end_of_line}
-use Rattle.motion_lines.specs.Columns.{nth_cluster, offset, line_above, line_below, width_before, land_up, line_up, land_down, column_of, line_down}
+use Rattle.motion_lines.specs.Columns.{nth_cluster, offset, line_above, line_below, width_before, land_up, line_up, land_down, column_of}
+use Rattle.motion_lines.specs.Columns.{line_down}
 use Rattle.motion_lines.specs.declared.Span.{Span}
 
 -- ---- part number n of parts of these sizes that stand from a on, other where there are no more than n

@@ -10,7 +10,8 @@ use lib.ListN.{length, get_or, drop, length-drop, drop_of_length-le}
 use lib.Seq.{drop-cons, get_or-drop}
 use borrow.Author.Tests.{eq-eqb, ne_eqb, lt-ltb, le-ltb, eqb-true}
 use Rattle.lists.proofs.Bools.{by_test}
-use Rattle.motion_lines.specs.Lines.{newline, start_of_line, before_newline, end_of_line, behind_line, lines_up, lines_down, n_lines_up, n_lines_down}
+use Rattle.motion_lines.specs.Lines.{newline, start_of_line, before_newline, end_of_line, behind_line, lines_up, lines_down, n_lines_up}
+use Rattle.motion_lines.specs.Lines.{n_lines_down}
 use Rattle.motion_lines.specs.declared.Range.TheVariants.{Places, Nowhere}
 
 module _ (s : List ℕ) where

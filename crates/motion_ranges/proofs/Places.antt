@@ -30,7 +30,8 @@ use Rattle.motion_lines.specs.Lines.{start_of_line, end_of_line}
 use Rattle.motion_lines.specs.declared.Range.{Range}
 use Rattle.motion_lines.specs.declared.Range.TheVariants.{Places, Nowhere}
 use Rattle.motion_lines.proofs.Places.{start_of_line-place, end_of_line-place, lines_up_place, lines_down_place}
-use Rattle.motion_ranges.specs.Ranges.{up_to, back_to, between, search_range, first_print, range_of, copied, is_after, is_first_print, starts_after}
+use Rattle.motion_ranges.specs.Ranges.{up_to, back_to, between, search_range, first_print, range_of, copied, is_after, is_first_print}
+use Rattle.motion_ranges.specs.Ranges.{starts_after}
 
 -- ---- what holds of the places that an answer is made of holds of its two places
 module _ (P : ℕ → ℕ → Type 0) (a b : ℕ) where

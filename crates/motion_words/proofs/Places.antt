@@ -29,7 +29,8 @@ use Rattle.motion.specs.declared.Found.TheVariants as found
 use Rattle.motion_words.specs.declared.Landing.{Landing}
 use Rattle.motion_words.specs.Rules.{lands_behind}
 use Rattle.motion_words.specs.Walk.{GraphemeIndex, indices_from, grapheme_indices, Scan, hit, out, scan, onward, walk}
-use Rattle.motion_words.specs.Words.{stops, is_start, lands_on, lands, passed, next_word, no_word, landed, next_word_pos, starts_back, lands_back, prev_word, prev_word_pos}
+use Rattle.motion_words.specs.Words.{stops, is_start, lands_on, lands, passed, next_word, no_word, landed, next_word_pos, starts_back}
+use Rattle.motion_words.specs.Words.{lands_back, prev_word, prev_word_pos}
 
 -- ---- what holds at the start of each grapheme index holds of a landing
 module _ (P : ℕ → Type 0) where

@@ -16,7 +16,8 @@ use Rattle.motion_words.specs.declared.Landing.{Landing}
 use Rattle.motion_words.specs.Rules.{stops_at, is_start_of_word}
 use Rattle.motion_words.specs.Walk.{GraphemeIndex, grapheme_indices, scan, onward, walk}
 use Rattle.motion_words.specs.Words.{stops, lands, lands_on, is_before_end, next_word, starts_back, lands_back, prev_word}
-use Rattle.motion_words.proofs.Indices.{index, indices_at, first_of, indices_all, indices_passed, indices_step, indices_none, indices_back, last_of, back_step, back_none}
+use Rattle.motion_words.proofs.Indices.{index, indices_at, first_of, indices_all, indices_passed, indices_step, indices_none, indices_back}
+use Rattle.motion_words.proofs.Indices.{last_of, back_step, back_none}
 
 -- the place found, 0 where the text ran out, and the start of the last cluster read there
 abbrev pub landing : ℕ → ℕ → Landing

@@ -14,7 +14,8 @@ use Rattle.utf8.specs.Utf8.{within}
 use Rattle.utf8.specs.Encode.{scalar, size, encode, encode_all}
 use Rattle.utf8.proofs.Forms.{within-below, within-above}
 use Rattle.utf8.proofs.Encode.{scalar_low, size-encode, encode-single}
-use Rattle.repertoire.specs.Repertoire.{Lawful, catalogue, is_member, is_control, is_mark, is_alnum, is_white, is_lowercase, is_uppercase, upper_of, lower_of, width_of}
+use Rattle.repertoire.specs.Repertoire.{Lawful, catalogue, is_member, is_control, is_mark, is_alnum, is_white, is_lowercase, is_uppercase}
+use Rattle.repertoire.specs.Repertoire.{upper_of, lower_of, width_of}
 use Rattle.repertoire.specs.declared.Case.{Case}
 use Rattle.repertoire.specs.declared.Case.TheVariants.{Upper, Lower}
 use Rattle.repertoire.specs.Case.{case_of, cased}

@@ -5,7 +5,8 @@ use Prim.Native.Nat.{ℕ}
 use Rattle.utf8.specs.Utf8.{within, one, two, lead3, three, lead4, four, first_of, first}
 use Rattle.utf8.specs.Chars.{chars_from, valid_from, start_before}
 use Rattle.utf8.specs.Encode.{scalar, size, encode, encode_all}
-use Rattle.repertoire.specs.Repertoire.{catalogue, is_member, is_control, is_mark, is_alnum, is_white, is_lowercase, is_uppercase, upper_of, lower_of, width_of}
+use Rattle.repertoire.specs.Repertoire.{catalogue, is_member, is_control, is_mark, is_alnum, is_white, is_lowercase, is_uppercase, upper_of}
+use Rattle.repertoire.specs.Repertoire.{lower_of, width_of}
 use Rattle.repertoire.specs.Text.{is_text, is_char}
 use Rattle.repertoire.specs.Case.{case_all, cased}
 use Rattle.cluster.specs.Clusters.{joined, clusters}

@@ -24,14 +24,16 @@ use Rattle.undo.specs.Undo.{undo_call, undo_out}
 use Rattle.undo_redo.specs.Redo.{redo_call, redo_out}
 use Rattle.calls.specs.CallContracts.{Buffers}
 use Rattle.session.specs.Calls.{Call, undo, redo}
-use Rattle.session.specs.Runs.{Sized, buffers_of, Step, AnyStep, left, SameText, SameLog, HandedOn, Run, left_by, open_after, Allowed, Closed}
+use Rattle.session.specs.Runs.{Sized, buffers_of, Step, AnyStep, left, SameText, SameLog, HandedOn, Run, left_by, open_after, Allowed}
+use Rattle.session.specs.Runs.{Closed}
 use Rattle.session.specs.Demand3.{Starts, undos, ones, AllAnswered, Emptied, Demand3}
 use Rattle.session.proofs.Formats.{one_format, passes_in, MeetsIn, RunIn, run_in}
 use Rattle.session.proofs.Values as values
 use Rattle.session.proofs.Values.{Handed, lent_for, outcome_of, Units}
 use Rattle.session.proofs.Invariant.{Bound, Inv}
 use Rattle.session.proofs.Handed.{read-back, passes, few}
-use Rattle.session.proofs.Units.{no_marks, undo_keeps, redo_keeps, undo_cap, redo_cap, units_are, in-one, nothing_left, undo-sum, undo-redo, first-text}
+use Rattle.session.proofs.Units.{no_marks, undo_keeps, redo_keeps, undo_cap, redo_cap, units_are, in-one, nothing_left, undo-sum, undo-redo}
+use Rattle.session.proofs.Units.{first-text}
 use Rattle.session.proofs.Moves.{move_keeps}
 use Rattle.session.proofs.Steps.{Short, inv_more, short_keeps}
 use Rattle.session.proofs.Starts.{start_keeps, start-sized, start-stands}

@@ -29,7 +29,8 @@ use Rattle.edit_kill.proofs.Suits.{kill_suits, kill-cursor, delete_suits, delete
 use Rattle.edit_range.specs.Ranges.{range_tests, replace_tests}
 use Rattle.edit_range.proofs.Tests.{range_in}
 use Rattle.edit_insert.specs.Inserts.{text_tests, insert_plan, yank_plan, yank_pop_plan, update_plan}
-use Rattle.edit_insert.proofs.Suits.{insert_suits, insert-cursor, yank_suits, yank-cursor, yank_pop_suits, yank_pop_cursor, update_suits, update-cursor}
+use Rattle.edit_insert.proofs.Suits.{insert_suits, insert-cursor, yank_suits, yank-cursor, yank_pop_suits, yank_pop_cursor, update_suits}
+use Rattle.edit_insert.proofs.Suits.{update-cursor}
 use Rattle.edit_transpose.specs.TransposeChars.{transpose_chars_plan}
 use Rattle.edit_case.specs.EditWord.{edit_word_plan, action_of, edit_word_by}
 use Rattle.edit_case.specs.declared.ActionCode.{ActionCode}

@@ -20,7 +20,8 @@ use Rattle.log_model.specs.Change.{Edit, insert, delete, replace, Change, begin,
 use Rattle.formats.specs.declared.Format.{Format}
 use Rattle.log_model.specs.Recording.{Joined, apart, joined, join_if, join, on_joined, note}
 use Rattle.log_model.specs.UndoBytes.{Sizes, all_numbers_fit, fits}
-use Rattle.edit.specs.Plan.{PlannedChange, typed, pasted, cutting, swapping, Plan, State, Suits, AllSuit, splice, made, recorded, blank, noted_or}
+use Rattle.edit.specs.Plan.{PlannedChange, typed, pasted, cutting, swapping, Plan, State, Suits, AllSuit, splice, made, recorded, blank}
+use Rattle.edit.specs.Plan.{noted_or}
 use Rattle.edit.specs.Plan.{text_after, list_after, redo_after, too_long, planned, edited}
 use Rattle.edit.proofs.Parts.{part_none, part-between, part-text}
 use Rattle.edit.proofs.PlannedChanges.{edit_at, joins_at, recorded_as, suits_text, made-text, blank-texts}

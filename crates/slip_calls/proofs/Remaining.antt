@@ -16,7 +16,8 @@ use Rattle.repertoire.specs.Repertoire.{Repertoire, Lawful}
 use Rattle.cluster.specs.Clusters.{clusters, clusters_of}
 use Rattle.slip_model.specs.declared.Filled.{Filled}
 use Rattle.slip_model.specs.declared.Filled.TheVariants.{Fresh, Blank, UpTo}
-use Rattle.slip_model.specs.Slip.{Word, Row, Item, word, gap, newline, grown, items_of, columns, onto, pieces, Ends, at_newline, before, Line, empty_line, put}
+use Rattle.slip_model.specs.Slip.{Word, Row, Item, word, gap, newline, grown, items_of, columns, onto, pieces, Ends, at_newline, before}
+use Rattle.slip_model.specs.Slip.{Line, empty_line, put}
 use Rattle.slip_model.specs.Slip.{with, spaced, laid, lines_from, lines_of, spaces, spelled, row_columns, padded, printed, slip}
 use Rattle.slip_model.proofs.Columns.{row_one}
 use Rattle.slip_model.proofs.Words.{Clear, no-white}

@@ -10,7 +10,8 @@ use Rattle.lists.proofs.Concat.{concat-append}
 use Rattle.lists.proofs.Every.{Every, every_weaken}
 use Rattle.repertoire.specs.Repertoire.{Repertoire, Lawful}
 use Rattle.layout.specs.Width.{column_after}
-use Rattle.slip_model.specs.Slip.{Word, Row, Item, word, gap, newline, columns, pieces, Ends, at_newline, at_text_end, before, Line, empty_line, put}
+use Rattle.slip_model.specs.Slip.{Word, Row, Item, word, gap, newline, columns, pieces, Ends, at_newline, at_text_end, before, Line}
+use Rattle.slip_model.specs.Slip.{empty_line, put}
 use Rattle.slip_model.specs.Slip.{Filled, Fresh, Blank, UpTo, with, spaced, closing, laid, lines_from, row_columns}
 use Rattle.slip_model.specs.Promised.{Rightly, EndsLast, CutAt60, words_in}
 use Rattle.slip_model.proofs.Columns.{columns-append, word-columns, row_one}

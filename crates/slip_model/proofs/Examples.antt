@@ -8,7 +8,8 @@ use Rattle.utf8.specs.Encode.{size, encode, encode_all}
 use Rattle.repertoire.specs.Repertoire.{catalogue, is_control, is_mark, is_white, width_of}
 use Rattle.cluster.specs.Clusters.{joined, clusters}
 use Rattle.layout.specs.Width.{advance, column_after, columns_after}
-use Rattle.slip_model.specs.Slip.{Word, Row, items_of, pieces, Ends, at_newline, at_text_end, Line, laid, lines_from, lines_of, spaces, padded, slip}
+use Rattle.slip_model.specs.Slip.{Word, Row, items_of, pieces, Ends, at_newline, at_text_end, Line, laid, lines_from, lines_of, spaces}
+use Rattle.slip_model.specs.Slip.{padded, slip}
 
 abbrev pub lines : List ℕ → List Line
 lines s = lines_of catalogue s

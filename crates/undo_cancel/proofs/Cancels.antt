@@ -26,7 +26,8 @@ use Rattle.undo.specs.declared.Taken.{Taken}
 use Rattle.undo.specs.Undo.{Walked, number_of, step_state_of}
 use Rattle.undo.specs.Steps.{step_state_by, line_of, PassesOne}
 use Rattle.undo.proofs.Seams.{holds}
-use Rattle.undo.proofs.Walks.{walked, Come, come_first, out_of, edited, still, ended, stopped_there, stop_ended, goes, come_next, from_there, to_there, reached_there, tried_there}
+use Rattle.undo.proofs.Walks.{walked, Come, come_first, out_of, edited, still, ended, stopped_there, stop_ended, goes, come_next}
+use Rattle.undo.proofs.Walks.{from_there, to_there, reached_there, tried_there}
 use Rattle.undo_cancel.specs.Cancel.{opens, walk_to, begins_down, cancel_out}
 use Rattle.undo_cancel.specs.Open.{open_begins}
 

@@ -15,7 +15,8 @@ use Rattle.utf8.specs.Utf8.{char, bad, within, tail, one, two, lead3, three, lea
 use Rattle.utf8.specs.Chars.{chars, valid, chars_from, valid_from}
 use Rattle.utf8.specs.Encode.{scalar, size, one_byte, two_bytes, three_bytes, four_bytes, encode, encode_all, fitting, EncodedAt}
 use Rattle.utf8.proofs.Forms.{within_in, within-below, within-above, first_one, first_two, first_three, first-four}
-use Rattle.utf8.proofs.Chars.{or_split, first-within, lead3_in, lead4_in, within_true, cond-char, chars_step, valid_step, valid-bad, chars-bad}
+use Rattle.utf8.proofs.Chars.{or_split, first-within, lead3_in, lead4_in, within_true, cond-char, chars_step, valid_step, valid-bad}
+use Rattle.utf8.proofs.Chars.{chars-bad}
 use Rattle.utf8.proofs.Append.{by_chars}
 
 -- ---- a code point by its size

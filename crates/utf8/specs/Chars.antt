@@ -1,6 +1,7 @@
 -- RFC 3629, section 4: UTF8-octets = *( UTF8-char ). The characters of a list of bytes, and whether all of it is characters.
 -- Both go through the list with the count of bytes that still belong to the character before: `f zero s` begins a character.
-use Rattle.std.specs.Prelude.{ℕ, zero, suc, pred, ◌-◌, ◌<◌, ◌≤◌, ◌≡◌, Bool, true, false, cond, ◌&&◌, not, List, [], ◌∷◌, length, take, drop, get_or}
+use Rattle.std.specs.Prelude.{ℕ, zero, suc, pred, ◌-◌, ◌<◌, ◌≤◌, ◌≡◌, Bool, true, false, cond, ◌&&◌, not, List, [], ◌∷◌, length, take, drop}
+use Rattle.std.specs.Prelude.{get_or}
 use Rattle.utf8.specs.Utf8.{First, char, bad, tail, first}
 
 abbrev pub push : First → List ℕ → List ℕ

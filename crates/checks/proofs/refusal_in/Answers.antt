@@ -24,7 +24,13 @@ slice_bounds-lent-end c = sym (length-take-le _ _ c.if-text-len.false)
 pub returns-then-not-check_text : goal.returns-then-not-check_text
 unfolding refusal
 returns-then-not-check_text c =
-    simp (le-ltb _ _ c.if-f-text.false, le-ltb _ _ c.if-text-len.false, c.if-code.false, sym c.check_text.ensures ∙ c.if-not-check_text.true)
+    simp (
+      le-ltb _ _ c.if-f-text.false,
+      le-ltb _ _ c.if-text-len.false,
+      c.if-code.false,
+      sym c.check_text.ensures ∙
+          c.if-not-check_text.true,
+    )
 
 pub returns-then-foreign : goal.returns-then-foreign
 unfolding refusal

@@ -11,7 +11,13 @@ returns-then-is_control c = simp (c.if-p-c.false, ← c.is_control.ensures, c.if
 
 pub returns-then-is_control-2 : goal.returns-then-is_control-2
 unfolding joined
-returns-then-is_control-2 c = simp (c.if-p-c.false, ← c.is_control.ensures, c.if-is_control.false, ← c.is_control-2.ensures, c.if-is_control-2.true)
+returns-then-is_control-2 c = simp (
+  c.if-p-c.false,
+  ← c.is_control.ensures,
+  c.if-is_control.false,
+  ← c.is_control-2.ensures,
+  c.if-is_control-2.true,
+)
 
 pub returns : goal.returns
 unfolding joined

@@ -20,7 +20,11 @@ loop-i-init c = let e = sym c.decode_at-d.ensures ∙ ap as_first c.in-Char.is i
     ((first-within _ _ _ e).fits, scan-start catalogue c.args.s.now _ _ _ e c.of-k.ensures)
 
 pub returns-in_default-e : goal.returns-in_default-e
-returns-in_default-e c = let z = c.loop-i.invariant.1 in record { known = scan-end catalogue c.args.s.now _ _ _ z (sym c.decode_at-e.ensures ∙ ap as_first c.in_default-e.is); within = omega (arith, z.sized, c.loop-i.invariant.0) }
+returns-in_default-e c = let z = c.loop-i.invariant.1 in record {
+  known = scan-end catalogue c.args.s.now _ _ _ z (sym c.decode_at-e.ensures ∙ ap as_first c.in_default-e.is);
+  within = omega
+      (arith, z.sized, c.loop-i.invariant.0);
+}
 
 pub returns-then-not-joins : goal.returns-then-not-joins
 returns-then-not-joins c = let z = c.loop-i.invariant.1 in record {
@@ -59,4 +63,8 @@ loop-i-preserved c = let e = sym c.decode_at-e.ensures ∙ ap as_first c.in-Char
 )
 
 pub returns : goal.returns
-returns c = let z = c.loop-i.invariant.1 in record { known = scan-end catalogue c.args.s.now _ _ _ z (first-end c.args.s.now c.loop-i.i c.loop-i-test.false); within = omega (arith, z.sized, c.loop-i.invariant.0) }
+returns c = let z = c.loop-i.invariant.1 in record {
+  known = scan-end catalogue c.args.s.now _ _ _ z
+      (first-end c.args.s.now c.loop-i.i c.loop-i-test.false);
+  within = omega (arith, z.sized, c.loop-i.invariant.0);
+}

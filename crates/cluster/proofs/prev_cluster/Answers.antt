@@ -16,7 +16,11 @@ ended c = ends-before _ _ _ c.requires c.loop-j.invariant.start c.loop-j-test.tr
     c.prev_char-i.ensures
 
 pub returns-then-n-eq0 : goal.returns-then-n-eq0
-returns-then-n-eq0 c = record { known = back_empty catalogue c.args.s.now _ c.if-n-eq0.true c.empty.ensures; within = omega (arith, ap (λ x. x.len) c.empty.ensures) }
+returns-then-n-eq0 c = record {
+  known = back_empty catalogue c.args.s.now _ c.if-n-eq0.true c.empty.ensures;
+  within = omega
+      (arith, ap (λ x. x.len) c.empty.ensures);
+}
 
 pub returns-in_default : goal.returns-in_default
 returns-in_default c = ends_never _ _ _ _
@@ -29,7 +33,8 @@ loop-j-init c = back_start catalogue c.args.s.now _ _ _ _
     c.prev_char-j.ensures) (sym c.decode_at-d.ensures ∙ ap as_first c.in-Char.is) c.of-k.ensures
 
 pub returns-in_default-e : goal.returns-in_default-e
-returns-in_default-e c = ends_never _ _ _ _ (ended (goal.at.returns-in_default-e c).After-prev_char-i) (sym c.decode_at-e.ensures ∙ ap as_first c.in_default-e.is)
+returns-in_default-e c = ends_never _ _ _ _ (ended (goal.at.returns-in_default-e c).After-prev_char-i)
+    (sym c.decode_at-e.ensures ∙ ap as_first c.in_default-e.is)
 
 pub returns-then-not-joins : goal.returns-then-not-joins
 returns-then-not-joins c = record {
@@ -54,4 +59,5 @@ loop-j-preserved c = back_more catalogue c.args.s.now _ _ _ c.loop-j.invariant _
     (sym c.joins.ensures ∙ c.if-not-joins.false) c.with-k.ensures
 
 pub returns : goal.returns
-returns c = let z : c.loop-j.j ≡ 0 = omega (arith, c.loop-j-test.false) in record { known = back_done catalogue c.args.s.now _ _ (rw z at c.loop-j.invariant); within = omega (arith, c.loop-j.invariant.sized) }
+returns c = let z : c.loop-j.j ≡ 0 = omega (arith, c.loop-j-test.false) in record
+    { known = back_done catalogue c.args.s.now _ _ (rw z at c.loop-j.invariant); within = omega (arith, c.loop-j.invariant.sized) }

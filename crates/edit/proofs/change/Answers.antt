@@ -98,7 +98,15 @@ insert_bytes-requires c = (
 
 pub overflow_add-left : goal.overflow_add-left
 overflow_add-left c =
-    omega (arith, c.if-text-left.false, c.requires.ready.limit, c.requires.ready.log.fit.text, c.requires.ready.used, c.requires.from_le_to.0, c.requires.from_le_to.1)
+    omega (
+      arith,
+      c.if-text-left.false,
+      c.requires.ready.limit,
+      c.requires.ready.log.fit.text,
+      c.requires.ready.used,
+      c.requires.from_le_to.0,
+      c.requires.from_le_to.1,
+    )
 
 pub returns : goal.returns
 returns c =

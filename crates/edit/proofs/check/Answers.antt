@@ -14,7 +14,8 @@ pub returns-then-over_sizes : goal.returns-then-over_sizes
 returns-then-over_sizes c =
     let number = c.refused.ensures in
     record {
-      number = number ∙ by_log-sizes c.args.f (lending (goal.at.returns-then-over_sizes c).Start) c.args.o (sym c.over_sizes.ensures ∙ c.if-over_sizes.true);
+      number = number ∙ by_log-sizes c.args.f (lending (goal.at.returns-then-over_sizes c).Start) c.args.o
+          (sym c.over_sizes.ensures ∙ c.if-over_sizes.true);
       ready = (λ e. absurd (omega (arith, number)));
       newest = (λ e. absurd (omega (arith, number)));
     }
@@ -33,7 +34,8 @@ returns-then-k-ne0 c =
     let number = c.refused-then-k-ne0.ensures in
     let fine = sym c.over_sizes.ensures ∙ c.if-over_sizes.false in
     record {
-      number = number ∙ by_text c.args.f (lending (goal.at.returns-then-k-ne0 c).Start) c.args.o fine c.if-o.false c.refusal_in-k.result c.refusal_in-k.ensures c.if-k-ne0.true;
+      number = number ∙ by_text c.args.f (lending (goal.at.returns-then-k-ne0 c).Start) c.args.o fine c.if-o.false c.refusal_in-k.result
+          c.refusal_in-k.ensures c.if-k-ne0.true;
       ready = (λ e. absurd (c.if-k-ne0.true (sym number ∙ e)));
       newest = (λ e. absurd (c.if-k-ne0.true (sym number ∙ e)));
     }
@@ -44,7 +46,8 @@ returns-then-o-2 c =
     let fine = sym c.over_sizes.ensures ∙ c.if-over_sizes.false in
     record {
       number = number
-          ∙ by_split c.args.f (lending (goal.at.returns-then-o-2 c).Start) c.args.o fine c.if-o.false c.refusal_in-k.result c.refusal_in-k.ensures c.if-k-ne0.false c.if-o-2.true;
+          ∙ by_split c.args.f (lending (goal.at.returns-then-o-2 c).Start) c.args.o fine c.if-o.false c.refusal_in-k.result
+          c.refusal_in-k.ensures c.if-k-ne0.false c.if-o-2.true;
       ready = (λ e. absurd (omega (arith, number)));
       newest = (λ e. absurd (omega (arith, number)));
     }
@@ -61,7 +64,8 @@ returns-then-not-seen c =
     let broken = not-false _ (sym c.look-seen.ensures.sound ∙ not-true _ c.if-not-seen.true) in
     record {
       number = number
-          ∙ by_damage c.args.f (lending (goal.at.returns-then-not-seen c).Start) c.args.o fine c.if-o.false c.refusal_in-k.result c.refusal_in-k.ensures c.if-k-ne0.false c.if-o-2.false
+          ∙ by_damage c.args.f (lending (goal.at.returns-then-not-seen c).Start) c.args.o fine c.if-o.false c.refusal_in-k.result
+          c.refusal_in-k.ensures c.if-k-ne0.false c.if-o-2.false
           broken;
       ready = (λ e. absurd (omega (arith, number)));
       newest = (λ e. absurd (omega (arith, number)));
@@ -74,8 +78,10 @@ returns c =
     let sound = not-false _ c.if-not-seen.false in
     let whole = not-true _ (sym c.look-seen.ensures.sound ∙ sound) in
     record {
-      number = by_none a.f (lending (goal.at.returns c).Start) a.o fine c.if-o.false c.refusal_in-k.result c.refusal_in-k.ensures c.if-k-ne0.false c.if-o-2.false whole;
-      ready = (λ e. ready a.f (lending (goal.at.returns c).Start) a.o fine c.if-o.false c.refusal_in-k.result c.refusal_in-k.ensures c.if-k-ne0.false
+      number = by_none a.f (lending (goal.at.returns c).Start) a.o fine c.if-o.false c.refusal_in-k.result c.refusal_in-k.ensures
+          c.if-k-ne0.false c.if-o-2.false whole;
+      ready = (λ e. ready a.f (lending (goal.at.returns c).Start) a.o fine c.if-o.false c.refusal_in-k.result c.refusal_in-k.ensures
+          c.if-k-ne0.false
           (λ i. omega (arith, c.type_inv.records i)) whole c.requires);
       newest = (λ e. c.look-seen.ensures.newest sound);
     }

@@ -35,9 +35,11 @@ cut-text s = part-text catalogue ((take s.args.line.len s.args.text.now)) s.args
 abbrev single : List ℕ → Bool
 single s = is_single catalogue (clusters_of catalogue s)
 
-joined : (c : After-is_single-joins) → c.is_single-joins.result ≡ single ((part ((take c.args.line.len c.args.text.now)) c.args.from c.args.to))
+joined : (c : After-is_single-joins) → c.is_single-joins.result ≡ single
+    ((part ((take c.args.line.len c.args.text.now)) c.args.from c.args.to))
 joined c = let a = c.args in
-    c.is_single-joins.ensures ∙ ap single (sym (raw_part a.text.now a.line.len a.from a.to ((omega (arith, c.requires.fact.1, length-take-le c.args.line.len c.args.text.now c.requires.ready.used)))))
+    c.is_single-joins.ensures ∙ ap single (sym (raw_part a.text.now a.line.len a.from a.to
+    ((omega (arith, c.requires.fact.1, length-take-le c.args.line.len c.args.text.now c.requires.ready.used)))))
 
 pub slice_bounds-is_single-count : goal.slice_bounds-is_single-count
 slice_bounds-is_single-count c = c.requires.fact.0
@@ -51,7 +53,8 @@ slice_bounds-is_single-end c = omega (arith, within (goal.at.slice_bounds-is_sin
 pub is_single-joins-requires : goal.is_single-joins-requires
 is_single-joins-requires c =
     let a = c.args in
-    ap (is_text catalogue) (sym (raw_part a.text.now a.line.len a.from a.to (within (goal.at.is_single-joins-requires c).Start))) ∙ cut-text (goal.at.is_single-joins-requires c).Start
+    ap (is_text catalogue) (sym (raw_part a.text.now a.line.len a.from a.to (within (goal.at.is_single-joins-requires c).Start))) ∙
+    cut-text (goal.at.is_single-joins-requires c).Start
 
 pub change-requires : goal.change-requires
 change-requires c = record {

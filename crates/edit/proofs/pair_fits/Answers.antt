@@ -33,7 +33,8 @@ slice_bounds-is_single-end c =
     omega (
       arith,
       (let w : a.to ≤ a.line.len = omega
-          (arith, (cut_suits a.f l c.requires.ready a.from a.to a.at a.new.now c.requires.all_suit).1, length-kept a.f l c.requires.ready) in
+          (arith, (cut_suits a.f l c.requires.ready a.from a.to a.at a.new.now c.requires.all_suit).1, length-kept a.f l c.requires.ready)
+          in
           w),
       c.requires.ready.used,
     )
@@ -56,7 +57,8 @@ room_cut-b-requires c =
     record {
       fit = c.requires.fit;
       from_le_to = (cut_suits a.f l c.requires.ready a.from a.to a.at a.new.now c.requires.all_suit).0;
-      in_range = first_in_range a.f l c.requires.ready a.from a.to a.at a.new.now c.requires.all_suit (top_max a.f.width c.requires.fit.width.most) _
+      in_range = first_in_range a.f l c.requires.ready a.from a.to a.at a.new.now c.requires.all_suit
+          (top_max a.f.width c.requires.fit.width.most) _
           c.room_now-a.ensures;
     }
 
@@ -66,14 +68,16 @@ room_put-c-requires c =
     let l = lent a.text.now a.records.now a.texts.now a.line a.log in
     record {
       fit = c.requires.fit;
-      in_range = second_in_range a.f l c.requires.ready a.from a.to a.at a.new.now c.requires.all_suit (top_max a.f.width c.requires.fit.width.most) _
+      in_range = second_in_range a.f l c.requires.ready a.from a.to a.at a.new.now c.requires.all_suit
+          (top_max a.f.width c.requires.fit.width.most) _
           c.room_now-a.ensures _
           (c.is_single-joins.ensures
           ∙ ap (λ (x : List ℕ). is_single catalogue (clusters_of catalogue x))
           (sym
           (raw_part a.text.now a.line.len a.from a.to
           (let w : a.to ≤ a.line.len = omega
-          (arith, (cut_suits a.f l c.requires.ready a.from a.to a.at a.new.now c.requires.all_suit).1, length-kept a.f l c.requires.ready) in
+          (arith, (cut_suits a.f l c.requires.ready a.from a.to a.at a.new.now c.requires.all_suit).1, length-kept a.f l c.requires.ready)
+          in
           w)))) _ c.room_cut-b.ensures c.requires.len_bound;
     }
 

@@ -21,25 +21,31 @@ abbrev lending : After-check-c → Lent
 lending c = let a = c.args in lent a.text.now a.records.now a.texts.now a.line a.log
 
 abbrev plan : After-check-c → Plan
-plan c = let a = c.args in edit_word_plan catalogue (text_of ((let a = c.args in lent a.text.now a.records.now a.texts.now a.line a.log))) a.action a.line.cursor
+plan c = let a = c.args in edit_word_plan catalogue (text_of ((let a = c.args in lent a.text.now a.records.now a.texts.now a.line a.log)))
+    a.action a.line.cursor
 
-number : (c : After-check-c) → checked catalogue ((c.format_for-f.result)) ((let a = c.args in lent a.text.now a.records.now a.texts.now a.line a.log)) (own_tests false false false) ≡ c.check-c.result.number
-number c = sym (c.check-c.ensures.number ∙ ap (λ (o : Own). checked catalogue ((c.format_for-f.result)) ((let a = c.args in lent a.text.now a.records.now a.texts.now a.line a.log)) (own o)) c.none.ensures)
+number : (c : After-check-c) → checked catalogue ((c.format_for-f.result))
+    ((let a = c.args in lent a.text.now a.records.now a.texts.now a.line a.log)) (own_tests false false false) ≡ c.check-c.result.number
+number c = sym (c.check-c.ensures.number ∙ ap (λ (o : Own). checked catalogue ((c.format_for-f.result))
+    ((let a = c.args in lent a.text.now a.records.now a.texts.now a.line a.log)) (own o)) c.none.ensures)
 
 pub check-c-requires : goal.check-c-requires
 check-c-requires c = fit_for _ c.format_for-f.ensures
 
 pub returns-then-c-ne0 : goal.returns-then-c-ne0
 returns-then-c-ne0 c =
-    call_refused (lending (goal.at.returns-then-c-ne0 c).After-check-c) _ (plan (goal.at.returns-then-c-ne0 c).After-check-c) c.format_for-f.ensures (number (goal.at.returns-then-c-ne0 c).After-check-c) c.if-c-ne0.true c.says.ensures
+    call_refused (lending (goal.at.returns-then-c-ne0 c).After-check-c) _ (plan (goal.at.returns-then-c-ne0 c).After-check-c)
+    c.format_for-f.ensures (number (goal.at.returns-then-c-ne0 c).After-check-c) c.if-c-ne0.true c.says.ensures
 
 pub edit_word_checked-requires : goal.edit_word_checked-requires
 edit_word_checked-requires c = record {
   ready = c.check-c.ensures.ready c.if-c-ne0.false;
-  last_at = newest_last catalogue (format (goal.at.edit_word_checked-requires c).After-check-c) _ _ (c.check-c.ensures.newest c.if-c-ne0.false);
+  last_at = newest_last catalogue (format (goal.at.edit_word_checked-requires c).After-check-c) _ _
+      (c.check-c.ensures.newest c.if-c-ne0.false);
 }
 
 pub returns : goal.returns
 returns c =
-    call_made (lending (goal.at.returns c).After-check-c) _ (plan (goal.at.returns c).After-check-c) c.format_for-f.ensures (number (goal.at.returns c).After-check-c) c.if-c-ne0.false refl
+    call_made (lending (goal.at.returns c).After-check-c) _ (plan (goal.at.returns c).After-check-c) c.format_for-f.ensures
+    (number (goal.at.returns c).After-check-c) c.if-c-ne0.false refl
     c.edit_word_checked.ensures

@@ -14,7 +14,8 @@ abbrev lending : Start → Lent
 lending entry = let a = entry.args in lent a.text.now a.records.now a.texts.now a.line a.log
 
 -- ---- what the check has passed
-inside : (c : Start) → let l = (let a = c.args in lent a.text.now a.records.now a.texts.now a.line a.log) in In (text_of l) l.line.cursor l.line.cursor
+inside : (c : Start) → let l = (let a = c.args in lent a.text.now a.records.now a.texts.now a.line a.log) in In (text_of l) l.line.cursor
+    l.line.cursor
 inside c = cursor_in c.args.f ((let a = c.args in lent a.text.now a.records.now a.texts.now a.line a.log)) c.requires.ready
 
 pub slice_bounds-skip_whitespace-end-2 : goal.slice_bounds-skip_whitespace-end-2
@@ -29,7 +30,8 @@ case_from-requires c =
     record {
       ready = c.requires.ready;
       last_at = c.requires.last_at;
-      fact = skip_in catalogue (text_of (lending (goal.at.case_from-requires c).Start)) a.action a.line.cursor _ c.skip_whitespace-found.ensures
+      fact = skip_in catalogue (text_of (lending (goal.at.case_from-requires c).Start)) a.action a.line.cursor _
+          c.skip_whitespace-found.ensures
           c.requires.ready.text (inside (goal.at.case_from-requires c).Start) _ c.in-At.is;
     }
 

@@ -5,12 +5,15 @@ use Rattle.edit_indent.proofs.dedent_range.Goals as goal
 use Rattle.edit_indent.proofs.dedent_range.Goals.{After-has_room, Start}
 
 abbrev asked : Start → Part
-asked s = asks (lent s.args.text.now s.args.records.now s.args.texts.now s.args.line s.args.log) s.requires.ready s.args.m s.args.from s.args.to
+asked s = asks (lent s.args.text.now s.args.records.now s.args.texts.now s.args.line s.args.log) s.requires.ready s.args.m s.args.from
+    s.args.to
     s.requires.fact
 
-tested : (c : After-has_room) → RoomTested (asks (lent c.args.text.now c.args.records.now c.args.texts.now c.args.line c.args.log) c.requires.ready c.args.m c.args.from c.args.to c.requires.fact) true
+tested : (c : After-has_room) → RoomTested (asks (lent c.args.text.now c.args.records.now c.args.texts.now c.args.line c.args.log)
+    c.requires.ready c.args.m c.args.from c.args.to c.requires.fact) true
     c.has_room.result
-tested c = dedent_tested (asks (lent c.args.text.now c.args.records.now c.args.texts.now c.args.line c.args.log) c.requires.ready c.args.m c.args.from c.args.to c.requires.fact) c.requires.to_value c.count_cuts-n.ensures.0 c.count_cuts-n.ensures.1 c.has_room.ensures
+tested c = dedent_tested (asks (lent c.args.text.now c.args.records.now c.args.texts.now c.args.line c.args.log) c.requires.ready c.args.m
+    c.args.from c.args.to c.requires.fact) c.requires.to_value c.count_cuts-n.ensures.0 c.count_cuts-n.ensures.1 c.has_room.ensures
 
 pub slice_bounds-count_cuts-end : goal.slice_bounds-count_cuts-end
 slice_bounds-count_cuts-end c = (to-within (asked (goal.at.slice_bounds-count_cuts-end c).Start)).1

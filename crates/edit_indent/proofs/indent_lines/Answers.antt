@@ -22,7 +22,8 @@ indented-cursor-requires c =
 pub loop-left-init : goal.loop-left-init
 loop-left-init c = opens
     (lines_begin (lent c.args.text.now c.args.records.now c.args.texts.now c.args.line c.args.log) c.args.m false c.args.from
-    c.args.to (c.requires.ready, (c.requires.from_le_to, (c.requires.all_suit, (c.requires.text_value, c.requires.log_value))))) (omega arith) c.indented-cursor.ensures
+    c.args.to (c.requires.ready, (c.requires.from_le_to, (c.requires.all_suit, (c.requires.text_value, c.requires.log_value)))))
+    (omega arith) c.indented-cursor.ensures
 
 pub slice_bounds-end_of_line-end : goal.slice_bounds-end_of_line-end
 slice_bounds-end_of_line-end c = (end_in c.loop-left.invariant.lines).0
@@ -37,7 +38,13 @@ overflow_add-at c =
 
 pub end_of_line-e-requires : goal.end_of_line-e-requires
 end_of_line-e-requires c =
-    omega (arith, c.loop-left.invariant.lines.order, c.if-left-eq0.true, length-take-le c.loop-left.end c.loop-left.text (end_in c.loop-left.invariant.lines).0)
+    omega (
+      arith,
+      c.loop-left.invariant.lines.order,
+      c.if-left-eq0.true,
+      length-take-le c.loop-left.end c.loop-left.text
+          (end_in c.loop-left.invariant.lines).0,
+    )
 
 pub shape_of-text-then-e-end : goal.shape_of-text-then-e-end
 shape_of-text-then-e-end c = c.loop-left.invariant.lines.left.text
@@ -59,7 +66,16 @@ pub indented-cursor-requires-then-left-eq0 : goal.indented-cursor-requires-then-
 indented-cursor-requires-then-left-eq0 c =
     let k = c.loop-left.invariant in
     let w = done_in k c.if-left-eq0.true c.end_of_line-e.ensures.0 in
-    omega (arith, w, k.low, c.requires.m_bound, c.requires.ready.within, c.requires.ready.used, c.requires.ready.limit, c.requires.ready.log.fit.text)
+    omega (
+      arith,
+      w,
+      k.low,
+      c.requires.m_bound,
+      c.requires.ready.within,
+      c.requires.ready.used,
+      c.requires.ready.limit,
+      c.requires.ready.log.fit.text,
+    )
 
 pub loop-left-smaller-then-left-eq0 : goal.loop-left-smaller-then-left-eq0
 loop-left-smaller-then-left-eq0 c =

@@ -7,12 +7,15 @@ use Rattle.edit_indent.proofs.indent_range.Goals as goal
 use Rattle.edit_indent.proofs.indent_range.Goals.{After-has_room, Start}
 
 abbrev asked : Start → Part
-asked s = asks (lent s.args.text.now s.args.records.now s.args.texts.now s.args.line s.args.log) s.requires.ready s.args.m s.args.from s.args.to
+asked s = asks (lent s.args.text.now s.args.records.now s.args.texts.now s.args.line s.args.log) s.requires.ready s.args.m s.args.from
+    s.args.to
     s.requires.fact
 
-tested : (c : After-has_room) → RoomTested (asks (lent c.args.text.now c.args.records.now c.args.texts.now c.args.line c.args.log) c.requires.ready c.args.m c.args.from c.args.to c.requires.fact)
+tested : (c : After-has_room) → RoomTested (asks (lent c.args.text.now c.args.records.now c.args.texts.now c.args.line c.args.log)
+    c.requires.ready c.args.m c.args.from c.args.to c.requires.fact)
     false c.has_room.result
-tested c = indent_tested (asks (lent c.args.text.now c.args.records.now c.args.texts.now c.args.line c.args.log) c.requires.ready c.args.m c.args.from c.args.to c.requires.fact) c.requires.m_bound c.count_lines-k.ensures c.if-text-line.false c.has_room.ensures
+tested c = indent_tested (asks (lent c.args.text.now c.args.records.now c.args.texts.now c.args.line c.args.log) c.requires.ready c.args.m
+    c.args.from c.args.to c.requires.fact) c.requires.m_bound c.count_lines-k.ensures c.if-text-line.false c.has_room.ensures
 
 pub slice_bounds-count_lines-end : goal.slice_bounds-count_lines-end
 slice_bounds-count_lines-end c = (to-within (asked (goal.at.slice_bounds-count_lines-end c).Start)).1
@@ -23,7 +26,8 @@ overflow_mul-k c =
 
 pub returns-then-text-line : goal.returns-then-text-line
 returns-then-text-line c =
-    indent_long (asked (goal.at.returns-then-text-line c).Start) c.requires.m_bound c.count_lines-k.ensures c.if-text-line.true c.says.ensures
+    indent_long (asked (goal.at.returns-then-text-line c).Start) c.requires.m_bound c.count_lines-k.ensures c.if-text-line.true
+    c.says.ensures
 
 pub overflow_mul-k-2 : goal.overflow_mul-k-2
 overflow_mul-k-2 c =

@@ -28,7 +28,8 @@ loop-i-preserved c =
         omega (arith, l),
         omega (arith, w.last-is, c.loop-i.invariant.2),
         c.loop-i.invariant.3
-            ∙ last_on a.s.now c.loop-i.i c.loop-i.last c.if-s-i-eq10.last l (λ x. w.if-s-i-eq10.false (get_d_any a.s.now c.loop-i.i 0 256 l ∙ x))
+            ∙ last_on a.s.now c.loop-i.i c.loop-i.last c.if-s-i-eq10.last l
+            (λ x. w.if-s-i-eq10.false (get_d_any a.s.now c.loop-i.i 0 256 l ∙ x))
             (omega (arith, w.last-is)),
       )
     ]

@@ -20,10 +20,12 @@ abbrev lending : Start → Lent
 lending s = let a = s.args in lent a.text.now a.records.now a.texts.now a.line a.log
 
 within : (c : After-encode_at-size) → c.encode_at-size.result ≤ length c.encode_at-size.new.out
-within c = typed-within c.args.ch c.requires.ch_value _ c.encode_at-size.new.out c.encode_at-size.result (omega arith) c.encode_at-size.ensures
+within c = typed-within c.args.ch c.requires.ch_value _ c.encode_at-size.new.out c.encode_at-size.result (omega arith)
+    c.encode_at-size.ensures
 
 bytes : (c : After-encode_at-size) → take c.encode_at-size.result c.encode_at-size.new.out ≡ encode c.args.ch
-bytes c = typed-bytes c.args.ch c.requires.ch_value _ c.encode_at-size.new.out c.encode_at-size.result (omega arith) c.encode_at-size.ensures
+bytes c = typed-bytes c.args.ch c.requires.ch_value _ c.encode_at-size.new.out c.encode_at-size.result (omega arith)
+    c.encode_at-size.ensures
 
 pub slice_bounds-buf-end : goal.slice_bounds-buf-end
 slice_bounds-buf-end c = within (goal.at.slice_bounds-buf-end c).After-encode_at-size
@@ -55,4 +57,5 @@ put_copies-requires c = record {
 pub returns : goal.returns
 returns c =
     let a = c.args in
-    plan_made a.f (lending (goal.at.returns c).Start) (plan_many a.line.cursor a.ch a.n c.if-n-eq1.false (bytes (goal.at.returns c).After-encode_at-size)) c.put_copies.ensures
+    plan_made a.f (lending (goal.at.returns c).Start) (plan_many a.line.cursor a.ch a.n c.if-n-eq1.false
+    (bytes (goal.at.returns c).After-encode_at-size)) c.put_copies.ensures

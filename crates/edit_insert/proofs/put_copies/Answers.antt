@@ -47,14 +47,16 @@ room_put-room-requires c =
     let a = c.args in
     record {
       fit = c.requires.ready.log.fit;
-      in_range = copies_in_range a.f (lent a.text.now a.records.now a.texts.now a.line a.log) c.requires.ready a.s.now c.requires.s_value a.n
+      in_range = copies_in_range a.f (lent a.text.now a.records.now a.texts.now a.line a.log) c.requires.ready a.s.now c.requires.s_value
+          a.n
           c.if-text-len.false _ c.room_now-now.ensures;
     }
 
 pub returns-then-not-room : goal.returns-then-not-room
 returns-then-not-room c =
     let a = c.args in
-    copies_full a.f (lent a.text.now a.records.now a.texts.now a.line a.log) c.requires.ready a.s.now c.requires.s_value a.n c.if-text-len.false
+    copies_full a.f (lent a.text.now a.records.now a.texts.now a.line a.log) c.requires.ready a.s.now c.requires.s_value a.n
+    c.if-text-len.false
     _ c.room_now-now.ensures _ c.room_put-room.ensures (not-true _ c.if-not-room.true) _ c.says-then-not-room.ensures
 
 pub insert_copies-requires : goal.insert_copies-requires
@@ -84,6 +86,7 @@ overflow_add-made c =
 pub returns : goal.returns
 returns c =
     let a = c.args in
-    copies-made a.f (lent a.text.now a.records.now a.texts.now a.line a.log) c.requires.ready a.s.now c.requires.s_value a.n c.if-text-len.false
+    copies-made a.f (lent a.text.now a.records.now a.texts.now a.line a.log) c.requires.ready a.s.now c.requires.s_value a.n
+    c.if-text-len.false
     _ c.room_now-now.ensures _ c.room_put-room.ensures (not-false _ c.if-not-room.false) c.if-size-eq0.false _
     c.insert_copies.ensures _ _ _ c.record-a.ensures _ c.says-2.ensures

@@ -22,7 +22,15 @@ put_copies-requires c = record {
   ready = c.requires.ready;
   last_at = c.requires.last_at;
   s_value = c.requires.buf_value;
-  s_len_bound = (omega (arith, c.requires.buf_in_bounds, text-most c.args.f (lending (goal.at.put_copies-requires c).Start) c.requires.ready), omega arith);
+  s_len_bound = (
+    omega (
+      arith,
+      c.requires.buf_in_bounds,
+      text-most c.args.f (lending (goal.at.put_copies-requires c).Start)
+          c.requires.ready,
+    ),
+    omega arith,
+  );
 }
 
 pub returns : goal.returns

@@ -10,19 +10,23 @@ lending c = let a = c.args in lent a.text.now a.records.now a.texts.now a.line a
 
 pub returns-then-a-ne0 : goal.returns-then-a-ne0
 returns-then-a-ne0 c =
-    not-cut c.args.f (lending (goal.at.returns-then-a-ne0 c).After-kill_checked-a) c.args.n c.requires.ready c.kill_checked-a.ensures c.if-a-ne0.true
+    not-cut c.args.f (lending (goal.at.returns-then-a-ne0 c).After-kill_checked-a) c.args.n c.requires.ready c.kill_checked-a.ensures
+    c.if-a-ne0.true
 
 pub overflow_sub-result : goal.overflow_sub-result
 overflow_sub-result c =
-    (was_cut c.args.f (lending (goal.at.overflow_sub-result c).After-kill_checked-a) c.args.n c.requires.ready c.kill_checked-a.ensures c.if-a-ne0.false).0
+    (was_cut c.args.f (lending (goal.at.overflow_sub-result c).After-kill_checked-a) c.args.n c.requires.ready c.kill_checked-a.ensures
+    c.if-a-ne0.false).0
 
 pub overflow_add-result : goal.overflow_add-result
 overflow_add-result c = omega (
   arith,
-  (was_cut c.args.f (lending (goal.at.overflow_add-result c).After-kill_checked-a) c.args.n c.requires.ready c.kill_checked-a.ensures c.if-a-ne0.false).1,
+  (was_cut c.args.f (lending (goal.at.overflow_add-result c).After-kill_checked-a) c.args.n c.requires.ready c.kill_checked-a.ensures
+      c.if-a-ne0.false).1,
   c.well_formed,
 )
 
 pub returns : goal.returns
 returns c =
-    (was_cut c.args.f (lending (goal.at.returns c).After-kill_checked-a) c.args.n c.requires.ready c.kill_checked-a.ensures c.if-a-ne0.false).2
+    (was_cut c.args.f (lending (goal.at.returns c).After-kill_checked-a) c.args.n c.requires.ready c.kill_checked-a.ensures
+    c.if-a-ne0.false).2

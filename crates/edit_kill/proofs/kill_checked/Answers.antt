@@ -16,18 +16,23 @@ use Rattle.edit_kill.proofs.kill_checked.Goals.{Start}
 abbrev lending : Start → Lent
 lending s = let a = s.args in lent a.text.now a.records.now a.texts.now a.line a.log
 
-inside : (s : Start) → let l = (let a = s.args in lent a.text.now a.records.now a.texts.now a.line a.log) in In (text_of l) l.line.cursor l.line.cursor
+inside : (s : Start) → let l = (let a = s.args in lent a.text.now a.records.now a.texts.now a.line a.log) in In (text_of l) l.line.cursor
+    l.line.cursor
 inside s = cursor_in s.args.f ((let a = s.args in lent a.text.now a.records.now a.texts.now a.line a.log)) s.requires.ready
 
 is-valid : (s : Start) → valid (text_of ((let a = s.args in lent a.text.now a.records.now a.texts.now a.line a.log))) ≡ true
-is-valid s = text-valid catalogue (text_of ((let a = s.args in lent a.text.now a.records.now a.texts.now a.line a.log))) s.requires.ready.text
+is-valid s = text-valid catalogue (text_of ((let a = s.args in lent a.text.now a.records.now a.texts.now a.line a.log)))
+    s.requires.ready.text
 
 pub slice_bounds-kill_range-end-2 : goal.slice_bounds-kill_range-end-2
 slice_bounds-kill_range-end-2 c = sym (length-take-le _ _ c.requires.ready.used)
 
 pub kill_range-r-requires : goal.kill_range-r-requires
-kill_range-r-requires c =
-    (is-valid (goal.at.kill_range-r-requires c).Start, (inside (goal.at.kill_range-r-requires c).Start).2, (inside (goal.at.kill_range-r-requires c).Start).1)
+kill_range-r-requires c = (
+  is-valid (goal.at.kill_range-r-requires c).Start,
+  (inside (goal.at.kill_range-r-requires c).Start).2,
+  (inside (goal.at.kill_range-r-requires c).Start).1,
+)
 
 pub cut_out-requires : goal.cut_out-requires
 cut_out-requires c =
@@ -35,8 +40,10 @@ cut_out-requires c =
     record {
       fit = c.requires.ready.log.fit;
       ready = c.requires.ready;
-      fact = kill_in catalogue (text_of (lending (goal.at.cut_out-requires c).Start)) (is-valid (goal.at.cut_out-requires c).Start) c.in-Places.a c.in-Places.b a.line.cursor
-          (inside (goal.at.cut_out-requires c).Start).2 (inside (goal.at.cut_out-requires c).Start).1 a.m (sym c.kill_range-r.ensures ∙ c.in-Places.is);
+      fact = kill_in catalogue (text_of (lending (goal.at.cut_out-requires c).Start)) (is-valid (goal.at.cut_out-requires c).Start)
+          c.in-Places.a c.in-Places.b a.line.cursor
+          (inside (goal.at.cut_out-requires c).Start).2 (inside (goal.at.cut_out-requires c).Start).1 a.m
+          (sym c.kill_range-r.ensures ∙ c.in-Places.is);
       last_at = (λ e. c.requires.last_at);
     }
 

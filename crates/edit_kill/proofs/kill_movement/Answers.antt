@@ -21,13 +21,16 @@ abbrev lending : After-check-c → Lent
 lending c = let a = c.args in lent a.text.now a.records.now a.texts.now a.line a.log
 
 abbrev plan : After-check-c → Plan
-plan c = let a = c.args in cut_plan a.line.cursor (kill_range catalogue (text_of ((let a = c.args in lent a.text.now a.records.now a.texts.now a.line a.log))) a.line.cursor a.m)
+plan c = let a = c.args in cut_plan a.line.cursor (kill_range catalogue
+    (text_of ((let a = c.args in lent a.text.now a.records.now a.texts.now a.line a.log))) a.line.cursor a.m)
 
 number : (c : After-check-c)
-    → checked catalogue ((c.format_for-f.result)) ((let a = c.args in lent a.text.now a.records.now a.texts.now a.line a.log)) (own_tests false (is_foreign catalogue c.args.m) false) ≡ c.check-c.result.number
+    → checked catalogue ((c.format_for-f.result)) ((let a = c.args in lent a.text.now a.records.now a.texts.now a.line a.log))
+    (own_tests false (is_foreign catalogue c.args.m) false) ≡ c.check-c.result.number
 number c = sym
     (c.check-c.ensures.number
-    ∙ ap (λ (b : Bool). checked catalogue ((c.format_for-f.result)) ((let a = c.args in lent a.text.now a.records.now a.texts.now a.line a.log)) (own_tests false b false))
+    ∙ ap (λ (b : Bool). checked catalogue ((c.format_for-f.result))
+    ((let a = c.args in lent a.text.now a.records.now a.texts.now a.line a.log)) (own_tests false b false))
     c.is_foreign.ensures)
 
 pub check-c-requires : goal.check-c-requires
@@ -35,7 +38,8 @@ check-c-requires c = fit_for _ c.format_for-f.ensures
 
 pub returns-then-c-ne0 : goal.returns-then-c-ne0
 returns-then-c-ne0 c =
-    call_refused (lending (goal.at.returns-then-c-ne0 c).After-check-c) _ (plan (goal.at.returns-then-c-ne0 c).After-check-c) c.format_for-f.ensures (number (goal.at.returns-then-c-ne0 c).After-check-c) c.if-c-ne0.true c.says.ensures
+    call_refused (lending (goal.at.returns-then-c-ne0 c).After-check-c) _ (plan (goal.at.returns-then-c-ne0 c).After-check-c)
+    c.format_for-f.ensures (number (goal.at.returns-then-c-ne0 c).After-check-c) c.if-c-ne0.true c.says.ensures
 
 pub kill_checked-requires : goal.kill_checked-requires
 kill_checked-requires c = record {
@@ -45,5 +49,6 @@ kill_checked-requires c = record {
 
 pub returns : goal.returns
 returns c =
-    call_made (lending (goal.at.returns c).After-check-c) _ (plan (goal.at.returns c).After-check-c) c.format_for-f.ensures (number (goal.at.returns c).After-check-c) c.if-c-ne0.false refl
+    call_made (lending (goal.at.returns c).After-check-c) _ (plan (goal.at.returns c).After-check-c) c.format_for-f.ensures
+    (number (goal.at.returns c).After-check-c) c.if-c-ne0.false refl
     c.kill_checked.ensures

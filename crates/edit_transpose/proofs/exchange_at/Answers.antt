@@ -25,11 +25,18 @@ lending entry = let a = entry.args in lent a.text.now a.records.now a.texts.now 
 abbrev taken : After-on_from-q → List ℕ
 taken c = let a = c.args in take (c.on_from-q.result - a.p) (drop a.p a.text.now)
 
-behind : (c : After-on_from-q) → In (text_of (let a = c.args in lent a.text.now a.records.now a.texts.now a.line a.log)) c.args.p c.on_from-q.result
-behind c = reaches c.args.f (let a = c.args in lent a.text.now a.records.now a.texts.now a.line a.log) c.requires.ready c.args.p c.requires.fact c.on_from-q.result c.on_from-q.ensures
+behind : (c : After-on_from-q) → In (text_of (let a = c.args in lent a.text.now a.records.now a.texts.now a.line a.log)) c.args.p
+    c.on_from-q.result
+behind c = reaches c.args.f (let a = c.args in lent a.text.now a.records.now a.texts.now a.line a.log) c.requires.ready c.args.p
+    c.requires.fact c.on_from-q.result c.on_from-q.ensures
 
 within : (c : After-on_from-q) → c.on_from-q.result ≤ c.args.line.len
-within c = omega (arith, (behind c).1, length-kept c.args.f (let a = c.args in lent a.text.now a.records.now a.texts.now a.line a.log) c.requires.ready)
+within c = omega (
+  arith,
+  (behind c).1,
+  length-kept c.args.f (let a = c.args in lent a.text.now a.records.now a.texts.now a.line a.log)
+      c.requires.ready,
+)
 
 most : (c : After-on_from-q) → c.on_from-q.result ≤ text_max
 most c = omega (arith, within c, c.requires.ready.used, text-most _ _ c.requires.ready)
@@ -37,9 +44,11 @@ most c = omega (arith, within c, c.requires.ready.used, text-most _ _ c.requires
 cut-length : (c : After-on_from-q) → length (taken c) ≡ c.on_from-q.result - c.args.p
 cut-length c = let a = c.args in
     ap length (sym (raw_part a.text.now a.line.len a.p c.on_from-q.result (within c)))
-    ∙ part_length catalogue (text_of (let a = c.args in lent a.text.now a.records.now a.texts.now a.line a.log)) a.p c.on_from-q.result (behind c)
+    ∙ part_length catalogue (text_of (let a = c.args in lent a.text.now a.records.now a.texts.now a.line a.log)) a.p c.on_from-q.result
+    (behind c)
 
-abbrev clusters : (c : After-insert_bytes) → Clusters c.args.f (let a = c.args in lent a.text.now a.records.now a.texts.now a.line a.log) c.args.p
+abbrev clusters : (c : After-insert_bytes) → Clusters c.args.f (let a = c.args in lent a.text.now a.records.now a.texts.now a.line a.log)
+    c.args.p
 clusters c = record {
   ready = c.requires.ready;
   inside = c.requires.fact;
@@ -49,8 +58,25 @@ clusters c = record {
   start_is = c.back_from-o.ensures;
   cut = _;
   cut-is =
-      copied _ _ _ (sym (let a = c.args in ap length (sym (raw_part a.text.now a.line.len a.p c.on_from-q.result (omega (arith, (reaches c.args.f (let a = c.args in lent a.text.now a.records.now a.texts.now a.line a.log) c.requires.ready c.args.p c.requires.fact c.on_from-q.result c.on_from-q.ensures).1, length-kept c.args.f (let a = c.args in lent a.text.now a.records.now a.texts.now a.line a.log) c.requires.ready)))) ∙ part_length catalogue (text_of (let a = c.args in lent a.text.now a.records.now a.texts.now a.line a.log)) a.p c.on_from-q.result (reaches c.args.f (let a = c.args in lent a.text.now a.records.now a.texts.now a.line a.log) c.requires.ready c.args.p c.requires.fact c.on_from-q.result c.on_from-q.ensures))) c.insert_bytes.ensures
-      ∙ sym (raw_part c.args.text.now c.args.line.len c.args.p c.on_from-q.result (omega (arith, (reaches c.args.f (let a = c.args in lent a.text.now a.records.now a.texts.now a.line a.log) c.requires.ready c.args.p c.requires.fact c.on_from-q.result c.on_from-q.ensures).1, length-kept c.args.f (let a = c.args in lent a.text.now a.records.now a.texts.now a.line a.log) c.requires.ready)));
+      copied _ _ _ (sym (let a = c.args in ap length (sym (raw_part a.text.now a.line.len a.p c.on_from-q.result
+      (omega (
+        arith,
+        (reaches c.args.f (let a = c.args in lent a.text.now a.records.now a.texts.now a.line a.log) c.requires.ready
+            c.args.p c.requires.fact c.on_from-q.result c.on_from-q.ensures).1,
+        length-kept c.args.f
+            (let a = c.args in lent a.text.now a.records.now a.texts.now a.line a.log) c.requires.ready,
+      )))) ∙ part_length catalogue
+      (text_of (let a = c.args in lent a.text.now a.records.now a.texts.now a.line a.log)) a.p c.on_from-q.result
+      (reaches c.args.f (let a = c.args in lent a.text.now a.records.now a.texts.now a.line a.log) c.requires.ready c.args.p
+      c.requires.fact c.on_from-q.result c.on_from-q.ensures))) c.insert_bytes.ensures
+      ∙ sym (raw_part c.args.text.now c.args.line.len c.args.p c.on_from-q.result
+      (omega (
+        arith,
+        (reaches c.args.f (let a = c.args in lent a.text.now a.records.now a.texts.now a.line a.log) c.requires.ready
+            c.args.p c.requires.fact c.on_from-q.result c.on_from-q.ensures).1,
+        length-kept c.args.f
+            (let a = c.args in lent a.text.now a.records.now a.texts.now a.line a.log) c.requires.ready,
+      )));
 }
 
 pub slice_bounds-on_from-end-2 : goal.slice_bounds-on_from-end-2
@@ -60,15 +86,23 @@ pub slice_bounds-back_from-end-2 : goal.slice_bounds-back_from-end-2
 slice_bounds-back_from-end-2 c = sym (length-take-le _ _ c.requires.ready.used)
 
 pub back_from-o-requires : goal.back_from-o-requires
-back_from-o-requires c =
-    (text-valid catalogue (text_of (lending (goal.at.back_from-o-requires c).Start)) c.requires.ready.text, c.requires.fact.2, c.requires.fact.1)
+back_from-o-requires c = (
+  text-valid catalogue (text_of (lending (goal.at.back_from-o-requires c).Start)) c.requires.ready.text,
+  c.requires.fact.2,
+  c.requires.fact.1,
+)
 
 pub overflow_sub-n : goal.overflow_sub-n
 overflow_sub-n c = (behind (goal.at.overflow_sub-n c).After-on_from-q).0
 
 pub overflow_add-behind : goal.overflow_add-behind
 overflow_add-behind c =
-    omega (arith, most (goal.at.overflow_add-behind c).After-on_from-q, goes_back c.args.f (lending (goal.at.overflow_add-behind c).Start) c.requires.ready c.args.p c.requires.fact c.back_from-o.result c.back_from-o.ensures)
+    omega (
+      arith,
+      most (goal.at.overflow_add-behind c).After-on_from-q,
+      goes_back c.args.f (lending (goal.at.overflow_add-behind c).Start)
+          c.requires.ready c.args.p c.requires.fact c.back_from-o.result c.back_from-o.ensures,
+    )
 
 pub slice_bounds-insert_bytes-count : goal.slice_bounds-insert_bytes-count
 slice_bounds-insert_bytes-count c = (behind (goal.at.slice_bounds-insert_bytes-count c).After-on_from-q).0
@@ -81,8 +115,15 @@ slice_bounds-insert_bytes-end-2 c =
     omega (arith, within (goal.at.slice_bounds-insert_bytes-end-2 c).After-on_from-q, c.requires.ready.used)
 
 pub insert_bytes-requires : goal.insert_bytes-requires
-insert_bytes-requires c =
-    (omega arith, omega (arith, cut-length (goal.at.insert_bytes-requires c).After-on_from-q, most (goal.at.insert_bytes-requires c).After-on_from-q))
+insert_bytes-requires c = (
+  omega arith,
+  omega (
+    arith,
+    cut-length (goal.at.insert_bytes-requires c).After-on_from-q,
+    most
+        (goal.at.insert_bytes-requires c).After-on_from-q,
+  ),
+)
 
 pub slice_bounds-cut-end : goal.slice_bounds-cut-end
 slice_bounds-cut-end c = omega (arith, c.insert_bytes.auto.s, most (goal.at.slice_bounds-cut-end c).After-on_from-q)

@@ -51,7 +51,8 @@ returns-then-not-words_fit c =
     let l = lent a.text.now a.records.now a.texts.now a.line a.log in
     ten a.f l (words_plan (take a.line.len a.text.now) a.w) _
     (words_short catalogue (take a.line.len a.text.now) c.requires.ready.text a.w c.requires.apart (length a.text.now)
-    (text-within a.f l c.requires.ready a.w c.requires.apart) (omega (arith, c.if-text-left.false, (length-kept a.f l c.requires.ready), c.requires.ready.used)))
+    (text-within a.f l c.requires.ready a.w c.requires.apart)
+    (omega (arith, c.if-text-left.false, (length-kept a.f l c.requires.ready), c.requires.ready.used)))
     (sym c.words_fit.ensures ∙ c.if-not-words_fit.true) c.says-then-not-words_fit.ensures
 
 pub slice_bounds-insert_bytes-end-2 : goal.slice_bounds-insert_bytes-end-2

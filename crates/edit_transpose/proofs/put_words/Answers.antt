@@ -129,7 +129,11 @@ slice_bounds-last_start-end-2 c =
 pub last_start-last2-requires : goal.last_start-last2-requires
 last_start-last2-requires c =
     let k = goal.at.last_start-last2-requires c in
-    record { fit = c.requires.ready.log.fit; listed = listed c.args.f (log.lent _ _ _) (remaining2 k.After-put_in-r2 (remaining1 k.After-cut_out-r1)).ready.log }
+    record {
+      fit = c.requires.ready.log.fit;
+      listed = listed c.args.f (log.lent _ _ _)
+          (remaining2 k.After-put_in-r2 (remaining1 k.After-cut_out-r1)).ready.log;
+    }
 
 pub cut_out-r3-requires : goal.cut_out-r3-requires
 cut_out-r3-requires c =
@@ -179,5 +183,6 @@ returns c =
     let m = c.put_in-r4 in
     edited_as a.f l _ _ _ _ _ _ c.says.ensures
     (ends a.f l (plan l a.w) (lent m.new.text m.new.records m.new.texts m.result.line m.result.log)
-    (goes-on a.f l (plan l a.w) _ _ (lent3 k.After-cut_out-r3) (remaining3 k.After-cut_out-r3 (remaining2 k.After-put_in-r2 (remaining1 k.After-cut_out-r1))) m.result _ _ _
+    (goes-on a.f l (plan l a.w) _ _ (lent3 k.After-cut_out-r3)
+    (remaining3 k.After-cut_out-r3 (remaining2 k.After-put_in-r2 (remaining1 k.After-cut_out-r1))) m.result _ _ _
     (as_read a.f (lent3 k.After-cut_out-r3) a.w.beg1 a.w.beg1 c.requires.second_value m.ensures) m.auto.text m.auto.records m.auto.texts))

@@ -17,17 +17,22 @@ lending entry = let a = entry.args in lent a.text.now a.records.now a.texts.now 
 
 -- ---- what the check has passed
 is-valid : (c : Start) → valid (text_of ((let a = c.args in lent a.text.now a.records.now a.texts.now a.line a.log))) ≡ true
-is-valid c = text-valid catalogue (text_of ((let a = c.args in lent a.text.now a.records.now a.texts.now a.line a.log))) c.requires.ready.text
+is-valid c = text-valid catalogue (text_of ((let a = c.args in lent a.text.now a.records.now a.texts.now a.line a.log)))
+    c.requires.ready.text
 
-inside : (c : Start) → let l = (let a = c.args in lent a.text.now a.records.now a.texts.now a.line a.log) in In (text_of l) l.line.cursor l.line.cursor
+inside : (c : Start) → let l = (let a = c.args in lent a.text.now a.records.now a.texts.now a.line a.log) in In (text_of l) l.line.cursor
+    l.line.cursor
 inside c = cursor_in c.args.f ((let a = c.args in lent a.text.now a.records.now a.texts.now a.line a.log)) c.requires.ready
 
 pub slice_bounds-starts_at-end-2 : goal.slice_bounds-starts_at-end-2
 slice_bounds-starts_at-end-2 c = sym (length-take-le _ _ c.requires.ready.used)
 
 pub starts_at-found-requires : goal.starts_at-found-requires
-starts_at-found-requires c =
-    (is-valid (goal.at.starts_at-found-requires c).Start, (inside (goal.at.starts_at-found-requires c).Start).2, (inside (goal.at.starts_at-found-requires c).Start).1)
+starts_at-found-requires c = (
+  is-valid (goal.at.starts_at-found-requires c).Start,
+  (inside (goal.at.starts_at-found-requires c).Start).2,
+  (inside (goal.at.starts_at-found-requires c).Start).1,
+)
 
 pub exchange_at-requires : goal.exchange_at-requires
 exchange_at-requires c =
@@ -35,7 +40,8 @@ exchange_at-requires c =
     record {
       ready = c.requires.ready;
       last_at = c.requires.last_at;
-      fact = starts_in catalogue (text_of (lending (goal.at.exchange_at-requires c).Start)) (is-valid (goal.at.exchange_at-requires c).Start) a.line.cursor (inside (goal.at.exchange_at-requires c).Start) _ _
+      fact = starts_in catalogue (text_of (lending (goal.at.exchange_at-requires c).Start))
+          (is-valid (goal.at.exchange_at-requires c).Start) a.line.cursor (inside (goal.at.exchange_at-requires c).Start) _ _
           c.starts_at-found.ensures c.in-At.is;
     }
 

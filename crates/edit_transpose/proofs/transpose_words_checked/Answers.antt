@@ -17,17 +17,22 @@ lending entry = let a = entry.args in lent a.text.now a.records.now a.texts.now 
 
 -- ---- what the check has passed
 is-valid : (c : Start) → valid (text_of ((let a = c.args in lent a.text.now a.records.now a.texts.now a.line a.log))) ≡ true
-is-valid c = text-valid catalogue (text_of ((let a = c.args in lent a.text.now a.records.now a.texts.now a.line a.log))) c.requires.ready.text
+is-valid c = text-valid catalogue (text_of ((let a = c.args in lent a.text.now a.records.now a.texts.now a.line a.log)))
+    c.requires.ready.text
 
-inside : (c : Start) → let l = (let a = c.args in lent a.text.now a.records.now a.texts.now a.line a.log) in In (text_of l) l.line.cursor l.line.cursor
+inside : (c : Start) → let l = (let a = c.args in lent a.text.now a.records.now a.texts.now a.line a.log) in In (text_of l) l.line.cursor
+    l.line.cursor
 inside c = cursor_in c.args.f ((let a = c.args in lent a.text.now a.records.now a.texts.now a.line a.log)) c.requires.ready
 
 pub slice_bounds-words_around-end-2 : goal.slice_bounds-words_around-end-2
 slice_bounds-words_around-end-2 c = sym (length-take-le _ _ c.requires.ready.used)
 
 pub words_around-w-requires : goal.words_around-w-requires
-words_around-w-requires c =
-    (is-valid (goal.at.words_around-w-requires c).Start, (inside (goal.at.words_around-w-requires c).Start).2, (inside (goal.at.words_around-w-requires c).Start).1)
+words_around-w-requires c = (
+  is-valid (goal.at.words_around-w-requires c).Start,
+  (inside (goal.at.words_around-w-requires c).Start).2,
+  (inside (goal.at.words_around-w-requires c).Start).1,
+)
 
 pub returns-then-w : goal.returns-then-w
 returns-then-w c =
@@ -42,7 +47,8 @@ exchange_words-requires c =
     record {
       ready = c.requires.ready;
       last_at = c.requires.last_at;
-      apart = words_apart catalogue (text_of (lending (goal.at.exchange_words-requires c).Start)) a.n a.line.cursor _ c.words_around-w.ensures (is-valid (goal.at.exchange_words-requires c).Start)
+      apart = words_apart catalogue (text_of (lending (goal.at.exchange_words-requires c).Start)) a.n a.line.cursor _
+          c.words_around-w.ensures (is-valid (goal.at.exchange_words-requires c).Start)
           (inside (goal.at.exchange_words-requires c).Start) c.if-w.false;
     }
 

@@ -63,7 +63,8 @@ room_cut-r1-requires c =
     record {
       fit = c.requires.ready.log.fit;
       from_le_to = c.requires.apart.second.0;
-      in_range = in_range0 a.f (lent a.text.now a.records.now a.texts.now a.line a.log) c.requires.ready a.w c.requires.apart c.requires.text_value _
+      in_range = in_range0 a.f (lent a.text.now a.records.now a.texts.now a.line a.log) c.requires.ready a.w c.requires.apart
+          c.requires.text_value _
           c.room_now-r0.ensures;
     }
 

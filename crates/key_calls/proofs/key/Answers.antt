@@ -36,7 +36,8 @@ check-c-requires c = fit_for _ c.format_for-f.ensures
 
 pub returns-then-k-ne0 : goal.returns-then-k-ne0
 returns-then-k-ne0 c =
-    by_ring c.args.key.now (lending (goal.at.returns-then-k-ne0 c).Start) (given (goal.at.returns-then-k-ne0 c).Start) c.format_for-f.ensures c.press_of-p.ensures
+    by_ring c.args.key.now (lending (goal.at.returns-then-k-ne0 c).Start) (given (goal.at.returns-then-k-ne0 c).Start)
+    c.format_for-f.ensures c.press_of-p.ensures
     c.is_foreign_key-foreign.ensures
     (c.check-c.ensures.number
     ∙ ap (checked catalogue c.format_for-f.result (lending (goal.at.returns-then-k-ne0 c).Start)) c.only_foreign.ensures)
@@ -47,21 +48,28 @@ check-c-requires-2 c = fit_for _ c.format_for-f.ensures
 
 pub returns-then-c-ne0 : goal.returns-then-c-ne0
 returns-then-c-ne0 c =
-    by_checks c.args.key.now (lending (goal.at.returns-then-c-ne0 c).Start) (given (goal.at.returns-then-c-ne0 c).Start) c.format_for-f.ensures c.press_of-p.ensures
-    c.is_foreign_key-foreign.ensures (sound (goal.at.returns-then-c-ne0 c).After-check-c-2) (number (goal.at.returns-then-c-ne0 c).After-check-c-2) c.if-c-ne0.true c.says-then-c-ne0.ensures
+    by_checks c.args.key.now (lending (goal.at.returns-then-c-ne0 c).Start) (given (goal.at.returns-then-c-ne0 c).Start)
+    c.format_for-f.ensures c.press_of-p.ensures
+    c.is_foreign_key-foreign.ensures (sound (goal.at.returns-then-c-ne0 c).After-check-c-2)
+    (number (goal.at.returns-then-c-ne0 c).After-check-c-2) c.if-c-ne0.true c.says-then-c-ne0.ensures
 
 pub key_checked-requires : goal.key_checked-requires
 key_checked-requires c = record {
-  passed = passed c.args.key.now (lending (goal.at.key_checked-requires c).Start) (given (goal.at.key_checked-requires c).Start) c.format_for-f.ensures c.press_of-p.ensures
-      c.is_foreign_key-foreign.ensures (sound (goal.at.key_checked-requires c).After-check-c-2) (number (goal.at.key_checked-requires c).After-check-c-2) c.if-c-ne0.false
+  passed = passed c.args.key.now (lending (goal.at.key_checked-requires c).Start) (given (goal.at.key_checked-requires c).Start)
+      c.format_for-f.ensures c.press_of-p.ensures
+      c.is_foreign_key-foreign.ensures (sound (goal.at.key_checked-requires c).After-check-c-2)
+      (number (goal.at.key_checked-requires c).After-check-c-2) c.if-c-ne0.false
       (c.check-c-2.ensures.ready c.if-c-ne0.false) _
       (newest_last catalogue c.format_for-f.result _ _ (c.check-c-2.ensures.newest c.if-c-ne0.false));
-  p_value = fit c.args.key.now (lending (goal.at.key_checked-requires c).Start) (given (goal.at.key_checked-requires c).Start) c.format_for-f.ensures c.press_of-p.ensures
-      c.is_foreign_key-foreign.ensures (sound (goal.at.key_checked-requires c).After-check-c-2) (number (goal.at.key_checked-requires c).After-check-c-2) c.if-c-ne0.false;
+  p_value = fit c.args.key.now (lending (goal.at.key_checked-requires c).Start) (given (goal.at.key_checked-requires c).Start)
+      c.format_for-f.ensures c.press_of-p.ensures
+      c.is_foreign_key-foreign.ensures (sound (goal.at.key_checked-requires c).After-check-c-2)
+      (number (goal.at.key_checked-requires c).After-check-c-2) c.if-c-ne0.false;
 }
 
 pub returns : goal.returns
 returns c =
     does c.args.key.now (lending (goal.at.returns c).Start) (given (goal.at.returns c).Start) c.format_for-f.ensures c.press_of-p.ensures
-    c.is_foreign_key-foreign.ensures (sound (goal.at.returns c).After-check-c-2) (number (goal.at.returns c).After-check-c-2) c.if-c-ne0.false
+    c.is_foreign_key-foreign.ensures (sound (goal.at.returns c).After-check-c-2) (number (goal.at.returns c).After-check-c-2)
+    c.if-c-ne0.false
     c.key_checked.ensures

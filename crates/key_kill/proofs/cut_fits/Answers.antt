@@ -24,7 +24,8 @@ abbrev single : List ℕ → Bool
 single s = is_single catalogue (clusters_of catalogue s)
 
 same-part : (s : Start) → let a = s.args in part (text_of (lending s)) a.from a.to ≡ take (a.to - a.from) (drop a.from a.text.now)
-same-part s = let a = s.args in raw_part a.text.now a.line.len a.from a.to (within a.f (lending s) s.requires.ready a.from a.to s.requires.fact)
+same-part s = let a = s.args in raw_part a.text.now a.line.len a.from a.to
+    (within a.f (lending s) s.requires.ready a.from a.to s.requires.fact)
 
 cut-text : (s : Start) → let a = s.args in is_text catalogue (take (a.to - a.from) (drop a.from a.text.now)) ≡ true
 cut-text s = let a = s.args in
@@ -32,7 +33,12 @@ cut-text s = let a = s.args in
 
 pub slice_bounds-is_single-end : goal.slice_bounds-is_single-end
 slice_bounds-is_single-end c =
-    omega (arith, within c.args.f (lending (goal.at.slice_bounds-is_single-end c).Start) c.requires.ready c.args.from c.args.to c.requires.fact, c.requires.ready.used)
+    omega (
+      arith,
+      within c.args.f (lending (goal.at.slice_bounds-is_single-end c).Start) c.requires.ready c.args.from c.args.to
+          c.requires.fact,
+      c.requires.ready.used,
+    )
 
 pub is_single-joins-requires : goal.is_single-joins-requires
 is_single-joins-requires c = cut-text (goal.at.is_single-joins-requires c).Start

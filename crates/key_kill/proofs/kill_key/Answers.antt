@@ -37,25 +37,32 @@ pub slice_bounds-kill_range-end-2 : goal.slice_bounds-kill_range-end-2
 slice_bounds-kill_range-end-2 c = sym (length-take-le _ _ c.requires.ready.used)
 
 pub kill_range-r-requires : goal.kill_range-r-requires
-kill_range-r-requires c =
-    (is-valid (goal.at.kill_range-r-requires c).Start, (inside (goal.at.kill_range-r-requires c).Start).2, (inside (goal.at.kill_range-r-requires c).Start).1)
+kill_range-r-requires c = (
+  is-valid (goal.at.kill_range-r-requires c).Start,
+  (inside (goal.at.kill_range-r-requires c).Start).2,
+  (inside (goal.at.kill_range-r-requires c).Start).1,
+)
 
 pub cut_to_ring-requires : goal.cut_to_ring-requires
 cut_to_ring-requires c = record {
   ready = c.requires.ready;
   last_at = c.requires.newest;
   false_value = c.requires.ring;
-  fact = kill_in catalogue (text_of (lending (goal.at.cut_to_ring-requires c).Start)) (is-valid (goal.at.cut_to_ring-requires c).Start) c.in-Places.a c.in-Places.b
-      c.args.line.cursor (inside (goal.at.cut_to_ring-requires c).Start).2 (inside (goal.at.cut_to_ring-requires c).Start).1 (movement_for c.args.k)
+  fact = kill_in catalogue (text_of (lending (goal.at.cut_to_ring-requires c).Start)) (is-valid (goal.at.cut_to_ring-requires c).Start)
+      c.in-Places.a c.in-Places.b
+      c.args.line.cursor (inside (goal.at.cut_to_ring-requires c).Start).2 (inside (goal.at.cut_to_ring-requires c).Start).1
+      (movement_for c.args.k)
       (ranged (goal.at.cut_to_ring-requires c).After-kill_range-r ∙ c.in-Places.is);
 }
 
 pub returns-in-Places : goal.returns-in-Places
 returns-in-Places c =
-    kill_does c.args.f (lending (goal.at.returns-in-Places c).Start) (given (goal.at.returns-in-Places c).Start) c.args.k c.args.last c.requires c.in-Places.a c.in-Places.b
+    kill_does c.args.f (lending (goal.at.returns-in-Places c).Start) (given (goal.at.returns-in-Places c).Start) c.args.k c.args.last
+    c.requires c.in-Places.a c.in-Places.b
     (ranged (goal.at.returns-in-Places c).After-kill_range-r ∙ c.in-Places.is) _ c.mode_for.ensures c.cut_to_ring.ensures
 
 pub returns-in-Nowhere : goal.returns-in-Nowhere
 returns-in-Nowhere c =
-    nothing_does c.args.f (lending (goal.at.returns-in-Nowhere c).Start) (given (goal.at.returns-in-Nowhere c).Start) c.args.k c.args.last c.requires
+    nothing_does c.args.f (lending (goal.at.returns-in-Nowhere c).Start) (given (goal.at.returns-in-Nowhere c).Start) c.args.k c.args.last
+    c.requires
     (ranged (goal.at.returns-in-Nowhere c).After-kill_range-r ∙ c.in-Nowhere.is) c.says.ensures

@@ -46,16 +46,20 @@ returns-in-End c = key-moved c.args.text.now c.args.line c.requires mk.End c.in-
 
 pub returns-in-Backward : goal.returns-in-Backward
 returns-in-Backward c =
-    key-moved c.args.text.now c.args.line c.requires (mk.Backward c.in-Backward.n) c.in-Backward.is c.prev_pos.ensures c.moved_to-in-Backward.ensures
+    key-moved c.args.text.now c.args.line c.requires (mk.Backward c.in-Backward.n) c.in-Backward.is c.prev_pos.ensures
+    c.moved_to-in-Backward.ensures
 
 pub returns-in-Forward : goal.returns-in-Forward
 returns-in-Forward c =
-    key-moved c.args.text.now c.args.line c.requires (mk.Forward c.in-Forward.n) c.in-Forward.is c.next_pos.ensures c.moved_to-in-Forward.ensures
+    key-moved c.args.text.now c.args.line c.requires (mk.Forward c.in-Forward.n) c.in-Forward.is c.next_pos.ensures
+    c.moved_to-in-Forward.ensures
 
 pub returns-in-PrevWord : goal.returns-in-PrevWord
 returns-in-PrevWord c =
-    key-moved c.args.text.now c.args.line c.requires (mk.PrevWord c.in-PrevWord.n) c.in-PrevWord.is c.prev_word_pos.ensures c.moved_to-in-PrevWord.ensures
+    key-moved c.args.text.now c.args.line c.requires (mk.PrevWord c.in-PrevWord.n) c.in-PrevWord.is c.prev_word_pos.ensures
+    c.moved_to-in-PrevWord.ensures
 
 pub returns-in-NextWord : goal.returns-in-NextWord
 returns-in-NextWord c =
-    key-moved c.args.text.now c.args.line c.requires (mk.NextWord c.in-NextWord.n) c.in-NextWord.is c.next_word_pos.ensures c.moved_to-in-NextWord.ensures
+    key-moved c.args.text.now c.args.line c.requires (mk.NextWord c.in-NextWord.n) c.in-NextWord.is c.next_word_pos.ensures
+    c.moved_to-in-NextWord.ensures

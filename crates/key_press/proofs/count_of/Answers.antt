@@ -36,15 +36,19 @@ returns-then-key-ne27 c =
 
 pub returns-then-not-is_digit : goal.returns-then-not-is_digit
 returns-then-not-is_digit c =
-    not-counted (bytes (goal.at.returns-then-not-is_digit c).After-is_digit) (no_digit (bytes (goal.at.returns-then-not-is_digit c).After-is_digit) (escape (goal.at.returns-then-not-is_digit c).After-is_digit) (sym (second (goal.at.returns-then-not-is_digit c).After-is_digit) ∙ c.if-not-is_digit.true))
+    not-counted (bytes (goal.at.returns-then-not-is_digit c).After-is_digit)
+    (no_digit (bytes (goal.at.returns-then-not-is_digit c).After-is_digit) (escape (goal.at.returns-then-not-is_digit c).After-is_digit)
+    (sym (second (goal.at.returns-then-not-is_digit c).After-is_digit) ∙ c.if-not-is_digit.true))
 
 pub loop-at-init : goal.loop-at-init
 loop-at-init c =
-    begins (bytes (goal.at.loop-at-init c).After-is_digit) (omega (arith, c.if-key-lt2.false)) (escape (goal.at.loop-at-init c).After-is_digit) (sym (second (goal.at.loop-at-init c).After-is_digit) ∙ c.if-not-is_digit.false)
+    begins (bytes (goal.at.loop-at-init c).After-is_digit) (omega (arith, c.if-key-lt2.false))
+    (escape (goal.at.loop-at-init c).After-is_digit) (sym (second (goal.at.loop-at-init c).After-is_digit) ∙ c.if-not-is_digit.false)
 
 pub returns-then-not-is_digit-2 : goal.returns-then-not-is_digit-2
 returns-then-not-is_digit-2 c =
-    stops _ c.loop-at.n c.loop-at.at c.loop-at.invariant c.loop-at-test.true (sym (digit (goal.at.returns-then-not-is_digit-2 c).After-is_digit-in-loop-at) ∙ c.if-not-is_digit-2.true)
+    stops _ c.loop-at.n c.loop-at.at c.loop-at.invariant c.loop-at-test.true
+    (sym (digit (goal.at.returns-then-not-is_digit-2 c).After-is_digit-in-loop-at) ∙ c.if-not-is_digit-2.true)
 
 pub with_digit-n-requires : goal.with_digit-n-requires
 with_digit-n-requires c = sym c.is_digit-in-loop-at.ensures ∙ c.if-not-is_digit-2.false
@@ -54,8 +58,10 @@ loop-at-preserved c =
     let h = c.loop-at-test.true in
     let n = c.loop-at.n in
     subst (λ m. Reading (looped (goal.at.loop-at-preserved c).After-is_digit-in-loop-at) m (c.loop-at.at + 1))
-    (sym (c.with_digit-n.ensures ∙ ap (with_digit n) (sym (get_d_any (looped (goal.at.loop-at-preserved c).After-is_digit-in-loop-at) c.loop-at.at 256 0 h))))
-    (goes-on (looped (goal.at.loop-at-preserved c).After-is_digit-in-loop-at) n c.loop-at.at c.loop-at.invariant h (sym (digit (goal.at.loop-at-preserved c).After-is_digit-in-loop-at) ∙ c.if-not-is_digit-2.false))
+    (sym (c.with_digit-n.ensures ∙ ap (with_digit n) (sym (get_d_any (looped (goal.at.loop-at-preserved c).After-is_digit-in-loop-at)
+    c.loop-at.at 256 0 h))))
+    (goes-on (looped (goal.at.loop-at-preserved c).After-is_digit-in-loop-at) n c.loop-at.at c.loop-at.invariant h
+    (sym (digit (goal.at.loop-at-preserved c).After-is_digit-in-loop-at) ∙ c.if-not-is_digit-2.false))
 
 pub returns : goal.returns
 returns c = ends _ c.loop-at.n c.loop-at.at c.loop-at.invariant c.loop-at-test.false

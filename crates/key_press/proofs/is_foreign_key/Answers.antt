@@ -34,7 +34,8 @@ unfolding foreign_key
 returns-then-n-eq0 c = sym
     (ap not
     (c.loop-at.invariant.1
-    ∙ scan_stuck (untried catalogue) c.args.key.now c.loop-at.at c.tried_len-n.result c.loop-at-test.true c.tried_len-n.ensures c.if-n-eq0.true))
+    ∙ scan_stuck (untried catalogue) c.args.key.now c.loop-at.at c.tried_len-n.result c.loop-at-test.true c.tried_len-n.ensures
+    c.if-n-eq0.true))
 
 pub overflow_add-at : goal.overflow_add-at
 overflow_add-at c = omega (arith, (passed c).0)

@@ -14,13 +14,17 @@ ring s = rings.lent s.args.slots.now s.args.lens.now s.args.ring
 abbrev lending : Start → Lent
 lending s = lent s.args.text.now s.args.records.now s.args.texts.now s.args.line s.args.log
 
-taken : (c : Else-answer-ne0) → Taken (rings.lent c.args.slots.now c.args.lens.now c.args.ring) (yank_pop_out (ring_now (rings.lent c.args.slots.now c.args.lens.now c.args.ring)))
+taken : (c : Else-answer-ne0) → Taken (rings.lent c.args.slots.now c.args.lens.now c.args.ring)
+    (yank_pop_out (ring_now (rings.lent c.args.slots.now c.args.lens.now c.args.ring)))
     c.yank_pop_checked-a.result
-taken c = pop_taken (rings.lent c.args.slots.now c.args.lens.now c.args.ring) c.requires.ring c.yank_pop_checked-a.result c.yank_pop_checked-a.ensures c.if-answer-ne0.false
+taken c = pop_taken (rings.lent c.args.slots.now c.args.lens.now c.args.ring) c.requires.ring c.yank_pop_checked-a.result
+    c.yank_pop_checked-a.ensures c.if-answer-ne0.false
 
 pub returns-then-answer-ne0 : goal.returns-then-answer-ne0
 returns-then-answer-ne0 c =
-    pop_nothing c.args.f (lending (goal.at.returns-then-answer-ne0 c).Start) (ring (goal.at.returns-then-answer-ne0 c).Start) c.requires (pop_none (ring (goal.at.returns-then-answer-ne0 c).Start) c.requires.ring c.yank_pop_checked-a.result c.yank_pop_checked-a.ensures c.if-answer-ne0.true) c.says.ensures
+    pop_nothing c.args.f (lending (goal.at.returns-then-answer-ne0 c).Start) (ring (goal.at.returns-then-answer-ne0 c).Start) c.requires
+    (pop_none (ring (goal.at.returns-then-answer-ne0 c).Start) c.requires.ring c.yank_pop_checked-a.result c.yank_pop_checked-a.ensures
+    c.if-answer-ne0.true) c.says.ensures
 
 pub overflow_mul-from : goal.overflow_mul-from
 overflow_mul-from c =
@@ -34,13 +38,16 @@ overflow_add-to c =
 
 pub slice_bounds-yank_pop_checked-end : goal.slice_bounds-yank_pop_checked-end
 slice_bounds-yank_pop_checked-end c =
-    let r = given-room (ring (goal.at.slice_bounds-yank_pop_checked-end c).Start) c.requires.ring (taken (goal.at.slice_bounds-yank_pop_checked-end c).Else-answer-ne0) in
+    let r = given-room (ring (goal.at.slice_bounds-yank_pop_checked-end c).Start) c.requires.ring
+    (taken (goal.at.slice_bounds-yank_pop_checked-end c).Else-answer-ne0) in
     omega (arith, r.2)
 
 pub yank_pop_checked-put-requires : goal.yank_pop_checked-put-requires
 yank_pop_checked-put-requires c =
     let t = taken (goal.at.yank_pop_checked-put-requires c).Else-answer-ne0 in
-    let fit = pop_fit c.args.f (lending (goal.at.yank_pop_checked-put-requires c).Start) (ring (goal.at.yank_pop_checked-put-requires c).Start) c.requires t (given-part (ring (goal.at.yank_pop_checked-put-requires c).Start) c.requires.ring t) in
+    let fit = pop_fit c.args.f (lending (goal.at.yank_pop_checked-put-requires c).Start)
+    (ring (goal.at.yank_pop_checked-put-requires c).Start) c.requires t
+    (given-part (ring (goal.at.yank_pop_checked-put-requires c).Start) c.requires.ring t) in
     record {
       ready = c.requires.ready;
       last_at = c.requires.newest;
@@ -53,5 +60,6 @@ yank_pop_checked-put-requires c =
 pub returns : goal.returns
 returns c =
     let t = taken (goal.at.returns c).Else-answer-ne0 in
-    pop_does c.args.f (lending (goal.at.returns c).Start) (ring (goal.at.returns c).Start) c.requires t (given-part (ring (goal.at.returns c).Start) c.requires.ring t) c.yank_pop_checked-put.ensures
+    pop_does c.args.f (lending (goal.at.returns c).Start) (ring (goal.at.returns c).Start) c.requires t
+    (given-part (ring (goal.at.returns c).Start) c.requires.ring t) c.yank_pop_checked-put.ensures
     c.yanked.ensures

@@ -14,7 +14,8 @@ pub returns-in_default : goal.returns-in_default
 returns-in_default c =
     unnamed catalogue (given (goal.at.returns-in_default c).Start) c.args.text.now c.args.mode c.refusal.result _
     (sym c.from_code-code.ensures ∙ c.in_default.is)
-    (c.refusal.ensures ∙ ap (λ (b : Bool). checked catalogue (given (goal.at.returns-in_default c).Start) true (not b)) c.check_text.ensures)
+    (c.refusal.ensures ∙ ap (λ (b : Bool). checked catalogue (given (goal.at.returns-in_default c).Start) true (not b))
+    c.check_text.ensures)
     c.says.ensures
 
 pub returns : goal.returns

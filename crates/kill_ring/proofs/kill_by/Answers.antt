@@ -22,19 +22,24 @@ number c = checked catalogue ((lent c.args.slots.now c.args.lens.now c.args.ring
 abbrev killing : Start → Outcome KillRing
 killing c = kill_out c.args.m c.args.text.now (value_of ((lent c.args.slots.now c.args.lens.now c.args.ring)))
 
-said : (c : After-refusal-k) → c.refusal-k.result ≡ (checked catalogue ((lent c.args.slots.now c.args.lens.now c.args.ring)) false (not (is_text catalogue c.args.text.now)))
-said c = c.refusal-k.ensures ∙ ap (λ (b : Bool). checked catalogue ((lent c.args.slots.now c.args.lens.now c.args.ring)) false (not b)) c.check_text.ensures
+said : (c : After-refusal-k) → c.refusal-k.result ≡ (checked catalogue ((lent c.args.slots.now c.args.lens.now c.args.ring)) false
+    (not (is_text catalogue c.args.text.now)))
+said c = c.refusal-k.ensures ∙ ap (λ (b : Bool). checked catalogue ((lent c.args.slots.now c.args.lens.now c.args.ring)) false (not b))
+    c.check_text.ensures
 
 pub returns-then-k-ne0 : goal.returns-then-k-ne0
 returns-then-k-ne0 c =
-    ringed_refused (given (goal.at.returns-then-k-ne0 c).Start) c.refusal-k.result (number (goal.at.returns-then-k-ne0 c).Start) (killing (goal.at.returns-then-k-ne0 c).Start) _ (said (goal.at.returns-then-k-ne0 c).After-refusal-k) c.if-k-ne0.true
+    ringed_refused (given (goal.at.returns-then-k-ne0 c).Start) c.refusal-k.result (number (goal.at.returns-then-k-ne0 c).Start)
+    (killing (goal.at.returns-then-k-ne0 c).Start) _ (said (goal.at.returns-then-k-ne0 c).After-refusal-k) c.if-k-ne0.true
     c.says.ensures
 
 pub kill_checked-requires : goal.kill_checked-requires
 kill_checked-requires c =
-    ring-passed catalogue (given (goal.at.kill_checked-requires c).Start) false (not (is_text catalogue c.args.text.now)) (sym (said (goal.at.kill_checked-requires c).After-refusal-k) ∙ c.if-k-ne0.false)
+    ring-passed catalogue (given (goal.at.kill_checked-requires c).Start) false (not (is_text catalogue c.args.text.now))
+    (sym (said (goal.at.kill_checked-requires c).After-refusal-k) ∙ c.if-k-ne0.false)
 
 pub returns : goal.returns
 returns c =
-    ringed_passed (given (goal.at.returns c).Start) c.refusal-k.result (number (goal.at.returns c).Start) (killing (goal.at.returns c).Start) _ _ _ (said (goal.at.returns c).After-refusal-k) c.if-k-ne0.false
+    ringed_passed (given (goal.at.returns c).Start) c.refusal-k.result (number (goal.at.returns c).Start)
+    (killing (goal.at.returns c).Start) _ _ _ (said (goal.at.returns c).After-refusal-k) c.if-k-ne0.false
     c.kill_checked.ensures

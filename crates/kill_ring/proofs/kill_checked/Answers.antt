@@ -27,20 +27,25 @@ some : (c : Else-ring-eq0) → 0 < c.args.ring.size
 some c = some_of _ c.if-ring-eq0.false
 
 index : (c : Else-ring-eq0) → let g = c.args.ring in g.index < g.size
-index c = index_below catalogue ((lent c.args.slots.now c.args.lens.now c.args.ring)) ((passed catalogue ((lent c.args.slots.now c.args.lens.now c.args.ring)) false false c.requires)) ((some_of _ c.if-ring-eq0.false))
+index c = index_below catalogue ((lent c.args.slots.now c.args.lens.now c.args.ring))
+    ((passed catalogue ((lent c.args.slots.now c.args.lens.now c.args.ring)) false false c.requires)) ((some_of _ c.if-ring-eq0.false))
 
 most : (c : Else-ring-eq0) → let a = c.args in used_of a.lens.now a.ring ≤ 4096
-most c = used-most catalogue ((lent c.args.slots.now c.args.lens.now c.args.ring)) ((passed catalogue ((lent c.args.slots.now c.args.lens.now c.args.ring)) false false c.requires)) ((some_of _ c.if-ring-eq0.false))
+most c = used-most catalogue ((lent c.args.slots.now c.args.lens.now c.args.ring))
+    ((passed catalogue ((lent c.args.slots.now c.args.lens.now c.args.ring)) false false c.requires)) ((some_of _ c.if-ring-eq0.false))
 
 room : (c : After-kill_index-i)
     → let i = c.kill_index-i.result in
     let a = c.args in
     (4096 * i + 4096 ≤ length a.slots.now) × (2 * i + 2 ≤ length a.lens.now) × (i < 16)
-room c = slot_room catalogue ((lent c.args.slots.now c.args.lens.now c.args.ring)) ((passed catalogue ((lent c.args.slots.now c.args.lens.now c.args.ring)) false false c.requires)) ((some_of _ c.if-ring-eq0.false)) c.kill_index-i.result c.kill_index-i.ensures
+room c = slot_room catalogue ((lent c.args.slots.now c.args.lens.now c.args.ring))
+    ((passed catalogue ((lent c.args.slots.now c.args.lens.now c.args.ring)) false false c.requires)) ((some_of _ c.if-ring-eq0.false))
+    c.kill_index-i.result c.kill_index-i.ensures
 
 pub returns-then-ring-eq0 : goal.returns-then-ring-eq0
 returns-then-ring-eq0 c =
-    kill_disabled catalogue (given (goal.at.returns-then-ring-eq0 c).Start) (ready (goal.at.returns-then-ring-eq0 c).Start) c.args.m c.args.text.now _ c.if-ring-eq0.true
+    kill_disabled catalogue (given (goal.at.returns-then-ring-eq0 c).Start) (ready (goal.at.returns-then-ring-eq0 c).Start) c.args.m
+    c.args.text.now _ c.if-ring-eq0.true
     (c.says.ensures ∙ ap (alone 0) c.with_action.ensures)
 
 pub kill_used-used-requires : goal.kill_used-used-requires
@@ -51,12 +56,16 @@ overflow_sub-used c = omega (arith, c.kill_used-used.ensures, most (goal.at.over
 
 pub returns-then-used-text : goal.returns-then-used-text
 returns-then-used-text c =
-    kill_full catalogue (given (goal.at.returns-then-used-text c).Start) (ready (goal.at.returns-then-used-text c).Start) c.args.m c.args.text.now (some (goal.at.returns-then-used-text c).Else-ring-eq0) _ c.kill_used-used.result
+    kill_full catalogue (given (goal.at.returns-then-used-text c).Start) (ready (goal.at.returns-then-used-text c).Start) c.args.m
+    c.args.text.now (some (goal.at.returns-then-used-text c).Else-ring-eq0) _ c.kill_used-used.result
     c.kill_used-used.ensures c.if-used-text.true c.says-then-used-text.ensures
 
 pub kill_index-i-requires : goal.kill_index-i-requires
-kill_index-i-requires c =
-    (some (goal.at.kill_index-i-requires c).Else-ring-eq0, omega (arith, (ready (goal.at.kill_index-i-requires c).Start).size, index (goal.at.kill_index-i-requires c).Else-ring-eq0))
+kill_index-i-requires c = (
+  some (goal.at.kill_index-i-requires c).Else-ring-eq0,
+  omega
+      (arith, (ready (goal.at.kill_index-i-requires c).Start).size, index (goal.at.kill_index-i-requires c).Else-ring-eq0),
+)
 
 pub put_text-requires : goal.put_text-requires
 put_text-requires c = record {
@@ -80,7 +89,8 @@ killed-requires c =
 
 pub returns : goal.returns
 returns c =
-    kill-done catalogue (given (goal.at.returns c).Start) (ready (goal.at.returns c).Start) c.args.m c.args.text.now (some (goal.at.returns c).Else-ring-eq0) _ c.killed.result
+    kill-done catalogue (given (goal.at.returns c).Start) (ready (goal.at.returns c).Start) c.args.m c.args.text.now
+    (some (goal.at.returns c).Else-ring-eq0) _ c.killed.result
     c.kill_used-used.result c.kill_index-i.result c.place.result c.put_text.new.slots
     c.write_num.new.s c.kill_used-used.ensures c.if-used-text.false c.kill_index-i.ensures
     c.place.ensures c.put_text.ensures c.write_num.ensures c.killed.ensures c.says-2.ensures

@@ -21,7 +21,8 @@ popping c = yank_pop_out (value_of (given c))
 
 pub returns-then-k-ne0 : goal.returns-then-k-ne0
 returns-then-k-ne0 c = c.says.ensures
-    ∙ left-refused c.args.ring c.refusal-k.result (number (goal.at.returns-then-k-ne0 c).Start) (popping (goal.at.returns-then-k-ne0 c).Start) c.refusal-k.ensures
+    ∙ left-refused c.args.ring c.refusal-k.result (number (goal.at.returns-then-k-ne0 c).Start)
+    (popping (goal.at.returns-then-k-ne0 c).Start) c.refusal-k.ensures
     c.if-k-ne0.true
 
 pub returns : goal.returns

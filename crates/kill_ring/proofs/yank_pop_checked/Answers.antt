@@ -28,7 +28,9 @@ some : (c : Else-ring-eq0) → 0 < c.args.ring.count
 some c = some_of _ c.if-ring-eq0.false
 
 before : (c : After-previous) → c.previous.result < c.args.ring.count
-before c = previous_in catalogue ((lent c.args.slots.now c.args.lens.now c.args.ring)) ((passed catalogue ((lent c.args.slots.now c.args.lens.now c.args.ring)) false false c.requires)) c.previous.result ((some_of _ c.if-ring-eq0.false)) c.previous.ensures
+before c = previous_in catalogue ((lent c.args.slots.now c.args.lens.now c.args.ring))
+    ((passed catalogue ((lent c.args.slots.now c.args.lens.now c.args.ring)) false false c.requires)) c.previous.result
+    ((some_of _ c.if-ring-eq0.false)) c.previous.ensures
 
 pub returns-in_default : goal.returns-in_default
 returns-in_default c = c.says.ensures
@@ -37,12 +39,14 @@ returns-in_default c = c.says.ensures
 
 pub returns-then-ring-eq0 : goal.returns-then-ring-eq0
 returns-then-ring-eq0 c =
-    c.says-then-ring-eq0.ensures ∙ pop_none catalogue (given (goal.at.returns-then-ring-eq0 c).Start) (ready (goal.at.returns-then-ring-eq0 c).Start) c.in-Yank.size (last (goal.at.returns-then-ring-eq0 c).In-Yank) c.if-ring-eq0.true
+    c.says-then-ring-eq0.ensures ∙ pop_none catalogue (given (goal.at.returns-then-ring-eq0 c).Start)
+    (ready (goal.at.returns-then-ring-eq0 c).Start) c.in-Yank.size (last (goal.at.returns-then-ring-eq0 c).In-Yank) c.if-ring-eq0.true
 
 pub yanked-requires : goal.yanked-requires
 yanked-requires c = let p = ready (goal.at.yanked-requires c).Start in omega (arith, p.lens, p.count, before c)
 
 pub returns : goal.returns
 returns c = c.yanked.ensures
-    ∙ pop_some catalogue (given (goal.at.returns c).Start) (ready (goal.at.returns c).Start) c.in-Yank.size c.previous.result (last (goal.at.returns c).In-Yank)
+    ∙ pop_some catalogue (given (goal.at.returns c).Start) (ready (goal.at.returns c).Start) c.in-Yank.size c.previous.result
+    (last (goal.at.returns c).In-Yank)
     (some (goal.at.returns c).Else-ring-eq0) (before (goal.at.returns c).After-previous) c.previous.ensures

@@ -11,7 +11,8 @@ use Rattle.log_records.proofs.check_list.Goals as goal
 use Rattle.log_records.proofs.check_list.Goals.{Else-not-are_texts_at, Else-r-eq0}
 
 -- a whole record was read
-stands : (c : Else-r-eq0) → let r = c.read_record-r.result in let a = c.args in (c.loop-at.at < c.loop-at.at + r.size) × (c.loop-at.at + r.size ≤
+stands : (c : Else-r-eq0) → let r = c.read_record-r.result in let a = c.args in (c.loop-at.at < c.loop-at.at + r.size) ×
+    (c.loop-at.at + r.size ≤
     length a.records.now)
 stands c = let a = c.args in
     let e = c.read_record-r.ensures.same in
@@ -59,12 +60,23 @@ pub overflow_add-next : goal.overflow_add-next
 overflow_add-next c = omega (arith, (stands (goal.at.overflow_add-next c).Else-r-eq0).1)
 
 pub pass-newest-requires : goal.pass-newest-requires
-pass-newest-requires c =
-    (omega (arith, c.loop-at.invariant.count, (stands (goal.at.pass-newest-requires c).Else-r-eq0).0, (stands (goal.at.pass-newest-requires c).Else-r-eq0).1), c.loop-at.invariant.begins)
+pass-newest-requires c = (
+  omega (
+    arith,
+    c.loop-at.invariant.count,
+    (stands (goal.at.pass-newest-requires c).Else-r-eq0).0,
+    (stands (goal.at.pass-newest-requires c).Else-r-eq0).1,
+  ),
+  c.loop-at.invariant.begins,
+)
 
 pub loop-at-smaller-then-r-le2 : goal.loop-at-smaller-then-r-le2
 loop-at-smaller-then-r-le2 c =
-    omega (arith, (stands (goal.at.loop-at-smaller-then-r-le2 c).Else-r-eq0).0, (stands (goal.at.loop-at-smaller-then-r-le2 c).Else-r-eq0).1)
+    omega (
+      arith,
+      (stands (goal.at.loop-at-smaller-then-r-le2 c).Else-r-eq0).0,
+      (stands (goal.at.loop-at-smaller-then-r-le2 c).Else-r-eq0).1,
+    )
 
 pub loop-at-preserved-then-r-le2 : goal.loop-at-preserved-then-r-le2
 loop-at-preserved-then-r-le2 c =
@@ -89,8 +101,15 @@ returns-then-not-are_texts_at c =
     }
 
 pub pass-newest-requires-in-loop-at : goal.pass-newest-requires-in-loop-at
-pass-newest-requires-in-loop-at c =
-    (omega (arith, c.loop-at.invariant.count, (stands (goal.at.pass-newest-requires-in-loop-at c).Else-r-eq0).0, (stands (goal.at.pass-newest-requires-in-loop-at c).Else-r-eq0).1), c.loop-at.invariant.begins)
+pass-newest-requires-in-loop-at c = (
+  omega (
+    arith,
+    c.loop-at.invariant.count,
+    (stands (goal.at.pass-newest-requires-in-loop-at c).Else-r-eq0).0,
+    (stands (goal.at.pass-newest-requires-in-loop-at c).Else-r-eq0).1,
+  ),
+  c.loop-at.invariant.begins,
+)
 
 pub overflow_add-t : goal.overflow_add-t
 overflow_add-t c = omega (arith, texts-in (goal.at.overflow_add-t c).Else-not-are_texts_at)

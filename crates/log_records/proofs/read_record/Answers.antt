@@ -1,5 +1,6 @@
 use native.Mathlib.Omega.{arith}
-use Rattle.log_records.proofs.Records.{no_byte, no_kind, no_body, none_read, Sized, sized, bare_read, bare_kind, two-fit, insert-read, delete-read, three-fit, replace-read}
+use Rattle.log_records.proofs.Records.{no_byte, no_kind, no_body, none_read, Sized, sized, bare_read, bare_kind, two-fit, insert-read}
+use Rattle.log_records.proofs.Records.{delete-read, three-fit, replace-read}
 use Rattle.log_records.proofs.read_record.Goals as goal
 use Rattle.log_records.proofs.read_record.Goals.{Else-records-at-2}
 
@@ -45,12 +46,17 @@ read_num-place-requires c = record {
 pub read_num-first-requires : goal.read_num-first-requires
 read_num-first-requires c = record {
   width = c.requires.width;
-  width_in_bounds = omega (arith, two-fit c.args.f c.args.records.now c.args.at _ _ (stands (goal.at.read_num-first-requires c).Else-records-at-2) c.if-kind.false);
+  width_in_bounds = omega (
+    arith,
+    two-fit c.args.f c.args.records.now c.args.at _ _
+        (stands (goal.at.read_num-first-requires c).Else-records-at-2) c.if-kind.false,
+  );
 }
 
 pub returns-then-kind-o : goal.returns-then-kind-o
 returns-then-kind-o c = record {
-  same = insert-read c.args.f c.args.records.now c.args.at _ _ (stands (goal.at.returns-then-kind-o c).Else-records-at-2) _ _ c.if-kind-o.true
+  same = insert-read c.args.f c.args.records.now c.args.at _ _ (stands (goal.at.returns-then-kind-o c).Else-records-at-2) _ _
+      c.if-kind-o.true
       c.read_num-place.ensures.0 c.read_num-first.ensures.0;
   kind = omega arith;
   size = c.record_size-size.ensures.1;
@@ -61,7 +67,8 @@ returns-then-kind-o c = record {
 
 pub returns-then-kind-o-2 : goal.returns-then-kind-o-2
 returns-then-kind-o-2 c = record {
-  same = delete-read c.args.f c.args.records.now c.args.at _ _ (stands (goal.at.returns-then-kind-o-2 c).Else-records-at-2) _ _ c.if-kind-o-2.true
+  same = delete-read c.args.f c.args.records.now c.args.at _ _ (stands (goal.at.returns-then-kind-o-2 c).Else-records-at-2) _ _
+      c.if-kind-o-2.true
       c.read_num-place.ensures.0 c.read_num-first.ensures.0;
   kind = omega arith;
   size = c.record_size-size.ensures.1;
@@ -75,13 +82,15 @@ read_num-second-requires c = record {
   width = c.requires.width;
   width_in_bounds = omega (
     arith,
-    three-fit c.args.f c.args.records.now c.args.at _ _ (stands (goal.at.read_num-second-requires c).Else-records-at-2) c.if-kind.false c.if-kind-o.false c.if-kind-o-2.false,
+    three-fit c.args.f c.args.records.now c.args.at _ _ (stands (goal.at.read_num-second-requires c).Else-records-at-2) c.if-kind.false
+        c.if-kind-o.false c.if-kind-o-2.false,
   );
 }
 
 pub returns : goal.returns
 returns c = record {
-  same = replace-read c.args.f c.args.records.now c.args.at _ _ (stands (goal.at.returns c).Else-records-at-2) c.if-kind.false c.if-kind-o.false
+  same = replace-read c.args.f c.args.records.now c.args.at _ _ (stands (goal.at.returns c).Else-records-at-2) c.if-kind.false
+      c.if-kind-o.false
       c.if-kind-o-2.false _ _ _ c.read_num-place.ensures.0 c.read_num-first.ensures.0 c.read_num-second.ensures.0;
   kind = omega arith;
   size = c.record_size-size.ensures.1;

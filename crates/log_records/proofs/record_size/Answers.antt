@@ -49,5 +49,8 @@ pub returns-then-kind-o-3 : goal.returns-then-kind-o-3
 returns-then-kind-o-3 c = (sym (size-replace c.args.f _ c.if-kind-o-3.true), omega (arith, c.requires.width))
 
 pub returns : goal.returns
-returns c =
-    (sym (size_none c.args.f _ c.if-kind-eq1.false c.if-kind-eq2.false c.if-kind-o.false c.if-kind-o-2.false c.if-kind-o-3.false), omega arith)
+returns c = (
+  sym (size_none c.args.f _ c.if-kind-eq1.false c.if-kind-eq2.false c.if-kind-o.false c.if-kind-o-2.false c.if-kind-o-3.false),
+  omega
+      arith,
+)

@@ -7,7 +7,8 @@ use Rattle.log_records.proofs.Sizes.{WrittenOf}
 use Rattle.log_records.proofs.write_sizes.Given as goal
 
 abbrev pub invariant-loop-at : goal.invariant-loop-at
-invariant-loop-at l = (l.count ≤ l.at) × (length l.sizes ≡ length l.initial.sizes) × Come catalogue l.f l.records l.at (WrittenOf l.f l.count l.sizes)
+invariant-loop-at l = (l.count ≤ l.at) × (length l.sizes ≡ length l.initial.sizes) × Come catalogue l.f l.records l.at
+    (WrittenOf l.f l.count l.sizes)
 
 abbrev pub decreases-loop-at : goal.decreases-loop-at
 decreases-loop-at l = length l.records - l.at

@@ -22,7 +22,8 @@ pub returns-then-foreign : goal.returns-then-foreign
 returns-then-foreign c =
     let fine = sym c.over_sizes.ensures ∙ c.if-over_sizes.false in
     record {
-      number = c.refused-then-foreign.ensures ∙ says-foreign c.args.f (lending (goal.at.returns-then-foreign c).Start) c.args.foreign fine c.if-foreign.true;
+      number = c.refused-then-foreign.ensures ∙ says-foreign c.args.f (lending (goal.at.returns-then-foreign c).Start) c.args.foreign fine
+          c.if-foreign.true;
       ready = (λ e. absurd (omega (arith, c.refused-then-foreign.ensures)));
       newest = (λ e. absurd (omega (arith, c.refused-then-foreign.ensures)));
     }
@@ -37,7 +38,8 @@ returns-then-not-seen c =
     let fine = sym c.over_sizes.ensures ∙ c.if-over_sizes.false in
     let broken = not-false _ (sym c.look-seen.ensures.sound ∙ not-true _ c.if-not-seen.true) in
     record {
-      number = c.refused-then-not-seen.ensures ∙ says-damaged c.args.f (lending (goal.at.returns-then-not-seen c).Start) c.args.foreign fine c.if-foreign.false broken;
+      number = c.refused-then-not-seen.ensures ∙ says-damaged c.args.f (lending (goal.at.returns-then-not-seen c).Start) c.args.foreign
+          fine c.if-foreign.false broken;
       ready = (λ e. absurd (omega (arith, c.refused-then-not-seen.ensures)));
       newest = (λ e. absurd (omega (arith, c.refused-then-not-seen.ensures)));
     }

@@ -14,9 +14,14 @@ returns-then-dropped-newest c =
 
 pub overflow_sub-newest : goal.overflow_sub-newest
 overflow_sub-newest c =
-    omega (arith, begins_counted c.args.f c.args.records.now c.args.newest c.requires.newest_at c.requires.listed, c.requires.dropped_le_begins)
+    omega (
+      arith,
+      begins_counted c.args.f c.args.records.now c.args.newest c.requires.newest_at c.requires.listed,
+      c.requires.dropped_le_begins,
+    )
 
 pub returns : goal.returns
 returns c =
     let a = c.args in
-    some_dropped a.f a.records.now a.newest c.requires.newest_at a.dropped c.walk-kept.result c.requires.dropped_le_begins c.walk-kept.ensures
+    some_dropped a.f a.records.now a.newest c.requires.newest_at a.dropped c.walk-kept.result c.requires.dropped_le_begins
+    c.walk-kept.ensures

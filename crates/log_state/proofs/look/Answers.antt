@@ -23,5 +23,6 @@ returns c =
     c.check_list-redo.result.sound c.check_list-redo.ensures.sound in
     record {
       sound = sound_is log.level c.check_list-undo.result.sound c.check_list-redo.result.sound _ _ c.check_list-undo.ensures.sound redo-is;
-      newest = λ e. c.check_list-undo.ensures.newest (both_sound (leb log.level 255) c.check_list-undo.result.sound c.check_list-redo.result.sound e);
+      newest = λ e. c.check_list-undo.ensures.newest (both_sound (leb log.level 255) c.check_list-undo.result.sound
+          c.check_list-redo.result.sound e);
     }

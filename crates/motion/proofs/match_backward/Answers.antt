@@ -11,7 +11,8 @@ use Rattle.motion.proofs.match_backward.Goals.{After-prev_char-at}
 -- the character that prev_char finds ends where the loop stands
 ended : (c : After-prev_char-at) →
     EndsAt c.args.s.now c.loop-left.at c.prev_char-at.result
-ended c = ends-before _ _ _ c.requires.0 c.loop-left.invariant.1 (omega (arith, c.if-at-eq0.false)) c.loop-left.invariant.0 c.prev_char-at.ensures
+ended c = ends-before _ _ _ c.requires.0 c.loop-left.invariant.1 (omega (arith, c.if-at-eq0.false)) c.loop-left.invariant.0
+    c.prev_char-at.ensures
 
 pub loop-left-init : goal.loop-left-init
 loop-left-init c = (c.requires.2, c.requires.1, refl)

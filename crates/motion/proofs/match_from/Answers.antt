@@ -41,7 +41,8 @@ loop-left-preserved c =
       (within-at a.s.now c.loop-left.at _ _ c.loop-left.invariant.0 e1).1,
       c.loop-left.invariant.1
           ∙ elim c.if-cp-c.branch [
-            | then-cp-c w ↦ ahead_in a.s.now a.c c.loop-left.at _ _ e1 c.loop-left.found c.loop-left.left w.if-cp-c.true c.loop-left-test.true
+            | then-cp-c w ↦ ahead_in a.s.now a.c c.loop-left.at _ _ e1 c.loop-left.found c.loop-left.left w.if-cp-c.true
+                c.loop-left-test.true
                 ∙ found_same _ _ _ _ ahead1 w.found-is w.left-is
             | else-cp-c w ↦ ahead_out a.s.now a.c c.loop-left.at _ _ e1 c.loop-left.found c.loop-left.left w.if-cp-c.false
                 ∙ found_same _ _ _ _ ahead1 w.found-is w.left-is

@@ -7,7 +7,8 @@ use Rattle.motion.specs.Steps.{sizes}
 use Rattle.motion.proofs.next_pos.Given as goal
 
 abbrev pub invariant-loop-left : goal.invariant-loop-left
-invariant-loop-left l = (l.at ≤ length l.s) × (l.at + sum (take l.left (sizes catalogue (drop l.at l.s))) ≡ l.pos + sum (take l.n (sizes catalogue (drop l.pos l.s))))
+invariant-loop-left l = (l.at ≤ length l.s) × (l.at + sum (take l.left (sizes catalogue (drop l.at l.s))) ≡ l.pos + sum
+    (take l.n (sizes catalogue (drop l.pos l.s))))
 
 abbrev pub decreases-loop-left : goal.decreases-loop-left
 decreases-loop-left l = l.left

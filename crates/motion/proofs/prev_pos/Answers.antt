@@ -53,4 +53,5 @@ returns c =
     let z : c.loop-left.left ≡ 0 = omega arith in
     prev_found catalogue c.args.s.now _ _ _ c.if-pos-eq0.false c.if-n-eq0.false
     (sym
-    (c.loop-left.invariant.2 ∙ (rw z (backward_done catalogue c.args.s.now c.loop-left.at c.loop-left.invariant.1 c.loop-left.invariant.0))))
+    (c.loop-left.invariant.2 ∙ (rw z (backward_done catalogue c.args.s.now c.loop-left.at c.loop-left.invariant.1
+    c.loop-left.invariant.0))))

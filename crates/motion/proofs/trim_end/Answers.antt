@@ -25,7 +25,8 @@ returns-in_default c =
 pub returns-then-not-is_white : goal.returns-then-not-is_white
 returns-then-not-is_white c = sym
     (c.loop-at.invariant.2
-    ∙ trim_stop catalogue c.args.s.now c.loop-at.at _ _ _ c.loop-at.invariant.1 c.loop-at.invariant.0 (ended (goal.at.returns-then-not-is_white c).After-prev_char-i)
+    ∙ trim_stop catalogue c.args.s.now c.loop-at.at _ _ _ c.loop-at.invariant.1 c.loop-at.invariant.0
+    (ended (goal.at.returns-then-not-is_white c).After-prev_char-i)
     (sym c.decode_at-d.ensures ∙ ap as_first c.in-Char.is) (sym c.is_white.ensures ∙ c.if-not-is_white.true))
 
 pub loop-at-smaller : goal.loop-at-smaller

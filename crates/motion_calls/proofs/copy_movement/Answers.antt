@@ -19,7 +19,8 @@ slice_bounds-starts_after-end c = sym
 pub returns-then-starts_after : goal.returns-then-starts_after
 returns-then-starts_after c = copy-after catalogue c.args.text.now c.args.line c.args.m _ c.is_foreign.ensures _
     c.refusal-r.ensures c.says-then-starts_after.result _ c.starts_after.ensures
-    (elim c.if-r-ne0.branch [ then-r-ne0+else-r-ne6 w ↦ inr w.if-r-ne6.false | else-r-ne0 w ↦ inl w.if-r-ne0.false ]) c.if-starts_after.true c.says-then-starts_after.ensures
+    (elim c.if-r-ne0.branch [ then-r-ne0+else-r-ne6 w ↦ inr w.if-r-ne6.false | else-r-ne0 w ↦ inl w.if-r-ne0.false ])
+    c.if-starts_after.true c.says-then-starts_after.ensures
 
 pub returns-then-r-ne0-2 : goal.returns-then-r-ne0-2
 returns-then-r-ne0-2 c = copy-split catalogue c.args.text.now c.args.line c.args.m _ c.is_foreign.ensures _

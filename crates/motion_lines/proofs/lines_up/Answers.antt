@@ -21,5 +21,7 @@ loop-left-preserved c = (
 )
 
 pub returns : goal.returns
-returns c =
-    (sym (c.loop-left.invariant.1 ∙ up_none c.args.s.now c.loop-left.left c.loop-left.start c.loop-left-test.false), c.loop-left.invariant.0)
+returns c = (
+  sym (c.loop-left.invariant.1 ∙ up_none c.args.s.now c.loop-left.left c.loop-left.start c.loop-left-test.false),
+  c.loop-left.invariant.0,
+)

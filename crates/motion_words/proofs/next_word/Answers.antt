@@ -29,24 +29,44 @@ outer-init c =
 pub overflow_add-next : goal.overflow_add-next
 overflow_add-next c =
     let a = c.args in
-    omega (arith, (told catalogue a.t.now c.outer.next _ c.outer.invariant.0 (c.next_cluster-first.ensures.known, c.next_cluster-first.ensures.within)).fits)
+    omega (
+      arith,
+      (told catalogue a.t.now c.outer.next _ c.outer.invariant.0
+          (c.next_cluster-first.ensures.known, c.next_cluster-first.ensures.within)).fits,
+    )
 
 pub inner-init : goal.inner-init
 inner-init c =
     let a = c.args in
-    let x = told catalogue a.t.now c.outer.next _ c.outer.invariant.0 (c.next_cluster-first.ensures.known, c.next_cluster-first.ensures.within) in
-    let h : 0 < c.outer.left = omega arith in
-    (x.fits, h, refl, refl, c.outer.invariant.2 ∙ rounds_in catalogue a.t.now a.at a.word c.outer.next _ x.known c.outer.left c.outer.found h c.if-n0-eq0.false)
+    let x = told catalogue a.t.now c.outer.next _ c.outer.invariant.0
+    (c.next_cluster-first.ensures.known, c.next_cluster-first.ensures.within) in
+    let h : 0 < c.outer.left = omega arith in (
+      x.fits,
+      h,
+      refl,
+      refl,
+      c.outer.invariant.2 ∙ rounds_in catalogue a.t.now a.at a.word c.outer.next _ x.known c.outer.left c.outer.found
+          h c.if-n0-eq0.false,
+    )
 
 pub overflow_add-next-in-inner : goal.overflow_add-next-in-inner
 overflow_add-next-in-inner c =
     let a = c.args in
-    omega (arith, (told catalogue a.t.now c.inner.next _ c.inner.invariant.0 (c.next_cluster-y.ensures.known, c.next_cluster-y.ensures.within)).fits)
+    omega (
+      arith,
+      (told catalogue a.t.now c.inner.next _ c.inner.invariant.0
+          (c.next_cluster-y.ensures.known, c.next_cluster-y.ensures.within)).fits,
+    )
 
 pub inner-smaller : goal.inner-smaller
 inner-smaller c =
     let a = c.args in
-    omega (arith, (told catalogue a.t.now c.inner.next _ c.inner.invariant.0 (c.next_cluster-y.ensures.known, c.next_cluster-y.ensures.within)).fits, c.if-len-eq0.false)
+    omega (
+      arith,
+      (told catalogue a.t.now c.inner.next _ c.inner.invariant.0
+          (c.next_cluster-y.ensures.known, c.next_cluster-y.ensures.within)).fits,
+      c.if-len-eq0.false,
+    )
 
 pub inner-preserved : goal.inner-preserved
 inner-preserved c =
@@ -78,14 +98,17 @@ outer-preserved c =
 pub returns-after-outer : goal.returns-after-outer
 returns-after-outer c =
     let a = c.args in
-    sym (c.outer.invariant.2 ∙ rounds_done catalogue a.t.now a.at a.word c.outer.left c.outer.next c.outer.found (omega arith) ∙ ap (landing c.outer.found) (sym c.outer.invariant.1))
+    sym (c.outer.invariant.2 ∙ rounds_done catalogue a.t.now a.at a.word c.outer.left c.outer.next c.outer.found (omega arith) ∙ ap
+    (landing c.outer.found) (sym c.outer.invariant.1))
 
 pub returns-then-n0-eq0 : goal.returns-then-n0-eq0
 returns-then-n0-eq0 c =
     let a = c.args in
-    let x = told catalogue a.t.now c.outer.next _ c.outer.invariant.0 (c.next_cluster-first.ensures.known, c.next_cluster-first.ensures.within) in
+    let x = told catalogue a.t.now c.outer.next _ c.outer.invariant.0
+    (c.next_cluster-first.ensures.known, c.next_cluster-first.ensures.within) in
     let h : 0 < c.outer.left = omega arith in
-    sym (c.outer.invariant.2 ∙ rounds_out catalogue a.t.now a.at a.word c.outer.next _ x.known c.outer.left c.outer.found h c.if-n0-eq0.true)
+    sym (c.outer.invariant.2 ∙ rounds_out catalogue a.t.now a.at a.word c.outer.next _ x.known c.outer.left c.outer.found h
+    c.if-n0-eq0.true)
 
 pub returns-then-len-eq0 : goal.returns-then-len-eq0
 returns-then-len-eq0 c =

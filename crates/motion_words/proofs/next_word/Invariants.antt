@@ -14,7 +14,8 @@ abbrev pub decreases-inner : goal.decreases-inner
 decreases-inner l = length l.t - l.next
 
 abbrev pub invariant-outer : goal.invariant-outer
-invariant-outer l = (l.next ≤ length l.t) × (l.last ≡ 0) × (next_word catalogue l.t l.at l.word l.n ≡ rounds catalogue l.t l.at l.word l.left l.next l.found)
+invariant-outer l = (l.next ≤ length l.t) × (l.last ≡ 0) × (next_word catalogue l.t l.at l.word l.n ≡ rounds catalogue l.t l.at l.word
+    l.left l.next l.found)
 
 abbrev pub decreases-outer : goal.decreases-outer
 decreases-outer l = l.left

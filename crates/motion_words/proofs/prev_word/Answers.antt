@@ -20,12 +20,17 @@ prev_cluster-first-requires c = c.outer.invariant.1
 pub overflow_sub-rest : goal.overflow_sub-rest
 overflow_sub-rest c =
     let a = c.args in
-    omega (arith, (back_step catalogue a.t.now c.outer.rest _ c.outer.invariant.0 c.outer.invariant.1 c.prev_cluster-first.ensures.known c.if-n0-eq0.false).fits)
+    omega (
+      arith,
+      (back_step catalogue a.t.now c.outer.rest _ c.outer.invariant.0 c.outer.invariant.1 c.prev_cluster-first.ensures.known
+          c.if-n0-eq0.false).fits,
+    )
 
 pub inner-init : goal.inner-init
 inner-init c =
     let a = c.args in
-    let s = back_step catalogue a.t.now c.outer.rest _ c.outer.invariant.0 c.outer.invariant.1 c.prev_cluster-first.ensures.known c.if-n0-eq0.false in
+    let s = back_step catalogue a.t.now c.outer.rest _ c.outer.invariant.0 c.outer.invariant.1 c.prev_cluster-first.ensures.known
+    c.if-n0-eq0.false in
     let h : 0 < c.outer.left = omega arith in (
       omega arith,
       s.at-boundary,
@@ -33,7 +38,8 @@ inner-init c =
       refl,
       c.outer.invariant.2
           ∙ ap (λ z. z.found)
-          (back_in catalogue a.t.now a.word c.outer.rest _ c.outer.invariant.0 c.outer.invariant.1 c.prev_cluster-first.ensures.known c.outer.left c.outer.found h c.if-n0-eq0.false),
+          (back_in catalogue a.t.now a.word c.outer.rest _ c.outer.invariant.0 c.outer.invariant.1 c.prev_cluster-first.ensures.known
+          c.outer.left c.outer.found h c.if-n0-eq0.false),
     )
 
 pub slice_bounds-prev_cluster-end-in-inner : goal.slice_bounds-prev_cluster-end-in-inner
@@ -45,28 +51,35 @@ prev_cluster-x-requires c = c.inner.invariant.1
 pub overflow_sub-rest-in-inner : goal.overflow_sub-rest-in-inner
 overflow_sub-rest-in-inner c =
     let a = c.args in
-    omega (arith, (back_step catalogue a.t.now c.inner.rest _ c.inner.invariant.0 c.inner.invariant.1 c.prev_cluster-x.ensures.known c.if-len-eq0.false).fits)
+    omega (
+      arith,
+      (back_step catalogue a.t.now c.inner.rest _ c.inner.invariant.0 c.inner.invariant.1 c.prev_cluster-x.ensures.known
+          c.if-len-eq0.false).fits,
+    )
 
 pub inner-smaller : goal.inner-smaller
 inner-smaller c =
     let a = c.args in
     omega (
       arith,
-      (back_step catalogue a.t.now c.inner.rest _ c.inner.invariant.0 c.inner.invariant.1 c.prev_cluster-x.ensures.known c.if-len-eq0.false).fits,
+      (back_step catalogue a.t.now c.inner.rest _ c.inner.invariant.0 c.inner.invariant.1 c.prev_cluster-x.ensures.known
+          c.if-len-eq0.false).fits,
       c.if-len-eq0.false,
     )
 
 pub inner-preserved : goal.inner-preserved
 inner-preserved c =
     let a = c.args in
-    let s = back_step catalogue a.t.now c.inner.rest _ c.inner.invariant.0 c.inner.invariant.1 c.prev_cluster-x.ensures.known c.if-len-eq0.false in (
+    let s = back_step catalogue a.t.now c.inner.rest _ c.inner.invariant.0 c.inner.invariant.1 c.prev_cluster-x.ensures.known
+    c.if-len-eq0.false in (
       omega arith,
       s.at-boundary,
       c.inner.invariant.2,
       c.inner.invariant.3,
       c.inner.invariant.4
           ∙ ap (λ z. z.found)
-          (in_back_on catalogue a.t.now a.word c.inner.rest _ c.inner.invariant.0 c.inner.invariant.1 c.prev_cluster-x.ensures.known c.outer.left c.inner.j
+          (in_back_on catalogue a.t.now a.word c.inner.rest _ c.inner.invariant.0 c.inner.invariant.1 c.prev_cluster-x.ensures.known
+          c.outer.left c.inner.j
           c.inner.y _ c.if-len-eq0.false c.is_start_of_word.ensures c.if-is_start_of_word.false),
     )
 
@@ -76,12 +89,14 @@ outer-smaller c = omega arith
 pub outer-preserved : goal.outer-preserved
 outer-preserved c =
     let a = c.args in
-    let s = back_step catalogue a.t.now c.inner.rest _ c.inner.invariant.0 c.inner.invariant.1 c.prev_cluster-x.ensures.known c.if-len-eq0.false in (
+    let s = back_step catalogue a.t.now c.inner.rest _ c.inner.invariant.0 c.inner.invariant.1 c.prev_cluster-x.ensures.known
+    c.if-len-eq0.false in (
       omega arith,
       s.at-boundary,
       c.inner.invariant.4
           ∙ ap (λ z. z.found)
-          (in_back_hit catalogue a.t.now a.word c.inner.rest _ c.inner.invariant.0 c.inner.invariant.1 c.prev_cluster-x.ensures.known c.outer.left c.inner.j
+          (in_back_hit catalogue a.t.now a.word c.inner.rest _ c.inner.invariant.0 c.inner.invariant.1 c.prev_cluster-x.ensures.known
+          c.outer.left c.inner.j
           c.inner.y _ c.if-len-eq0.false c.is_start_of_word.ensures c.if-is_start_of_word.true),
     )
 
@@ -97,7 +112,8 @@ returns-then-n0-eq0 c =
     sym
     (c.outer.invariant.2
     ∙ ap (λ z. z.found)
-    (back_out catalogue a.t.now a.word c.outer.rest _ c.outer.invariant.0 c.outer.invariant.1 c.prev_cluster-first.ensures.known c.outer.left c.outer.found h c.if-n0-eq0.true))
+    (back_out catalogue a.t.now a.word c.outer.rest _ c.outer.invariant.0 c.outer.invariant.1 c.prev_cluster-first.ensures.known
+    c.outer.left c.outer.found h c.if-n0-eq0.true))
 
 pub returns-then-len-eq0 : goal.returns-then-len-eq0
 returns-then-len-eq0 c =
@@ -106,5 +122,6 @@ returns-then-len-eq0 c =
     ∙ sym
     (c.inner.invariant.4
     ∙ ap (λ z. z.found)
-    (in_back_out catalogue a.t.now a.word c.inner.rest _ c.inner.invariant.0 c.inner.invariant.1 c.prev_cluster-x.ensures.known c.outer.left c.inner.j c.inner.y
+    (in_back_out catalogue a.t.now a.word c.inner.rest _ c.inner.invariant.0 c.inner.invariant.1 c.prev_cluster-x.ensures.known
+    c.outer.left c.inner.j c.inner.y
     c.if-len-eq0.true))

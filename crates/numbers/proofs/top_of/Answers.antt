@@ -14,7 +14,11 @@ pub loop-left-smaller : goal.loop-left-smaller
 loop-left-smaller c = omega arith
 
 pub loop-left-preserved : goal.loop-left-preserved
-loop-left-preserved c = (omega (arith, c.loop-left.invariant.0), top_more c.args.width c.loop-left.left c.loop-left.above c.loop-left-test.true c.loop-left.invariant.0 c.loop-left.invariant.1)
+loop-left-preserved c = (
+  omega (arith, c.loop-left.invariant.0),
+  top_more c.args.width c.loop-left.left c.loop-left.above
+      c.loop-left-test.true c.loop-left.invariant.0 c.loop-left.invariant.1,
+)
 
 pub returns : goal.returns
 returns c = top-whole c.args.width c.loop-left.left c.loop-left.above (omega (arith, c.loop-left-test.false)) c.loop-left.invariant.1

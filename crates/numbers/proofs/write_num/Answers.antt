@@ -24,8 +24,12 @@ pub loop-i-smaller : goal.loop-i-smaller
 loop-i-smaller c = omega arith
 
 pub loop-i-preserved : goal.loop-i-preserved
-loop-i-preserved c = let s = c.args in
-    (omega arith, simp length-set c.loop-i.invariant.1, byte_stored c.loop-i.s s.at c.loop-i.i s.width c.loop-i.rest c.loop-i-test.true ∙ c.loop-i.invariant.2)
+loop-i-preserved c = let s = c.args in (
+  omega arith,
+  simp length-set c.loop-i.invariant.1,
+  byte_stored c.loop-i.s s.at c.loop-i.i s.width c.loop-i.rest c.loop-i-test.true ∙
+      c.loop-i.invariant.2,
+)
 
 pub shape_of-s : goal.shape_of-s
 shape_of-s c = c.loop-i.invariant.1

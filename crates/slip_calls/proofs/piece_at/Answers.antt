@@ -14,7 +14,8 @@ abbrev text : At-loop-end → List ℕ
 text l = l.args.s.now
 
 here : (k : After-next_cluster-k) →
-    ClusterAt catalogue ((k.args.s.now)) k.loop-end.end (first_cluster catalogue (drop k.loop-end.end ((k.args.s.now)))) k.next_cluster-k.result
+    ClusterAt catalogue ((k.args.s.now)) k.loop-end.end (first_cluster catalogue (drop k.loop-end.end ((k.args.s.now))))
+    k.next_cluster-k.result
 here k = cluster_told catalogue ((k.args.s.now)) k.loop-end.end k.next_cluster-k.result k.loop-end-test.true k.loop-end.invariant.whole
     (k.next_cluster-k.ensures.known, k.next_cluster-k.ensures.within)
 
@@ -25,7 +26,8 @@ pub returns-then-k : goal.returns-then-k
 returns-then-k c =
     let a = c.args in
     scan-stops catalogue (text (goal.at.returns-then-k c).At-loop-end) a.at c.loop-end.end c.loop-end.columns c.loop-end.invariant
-    (white_there catalogue (text (goal.at.returns-then-k c).At-loop-end) c.loop-end.end c.loop-end.columns _ _ (here (goal.at.returns-then-k c).After-next_cluster-k) c.if-k.true)
+    (white_there catalogue (text (goal.at.returns-then-k c).At-loop-end) c.loop-end.end c.loop-end.columns _ _
+    (here (goal.at.returns-then-k c).After-next_cluster-k) c.if-k.true)
 
 pub overflow_add-end : goal.overflow_add-end
 overflow_add-end c = omega (arith, (here (goal.at.overflow_add-end c).After-next_cluster-k).within)
@@ -63,8 +65,10 @@ overflow_add-columns c =
 pub returns-then-columns-n-gt60 : goal.returns-then-columns-n-gt60
 returns-then-columns-n-gt60 c =
     let a = c.args in
-    scan-stops catalogue (text (goal.at.returns-then-columns-n-gt60 c).At-loop-end) a.at c.loop-end.end c.loop-end.columns c.loop-end.invariant
-    (full_there catalogue (text (goal.at.returns-then-columns-n-gt60 c).At-loop-end) c.loop-end.end c.loop-end.columns _ _ _ (here (goal.at.returns-then-columns-n-gt60 c).After-next_cluster-k) c.width-n.ensures.0 c.if-k.false
+    scan-stops catalogue (text (goal.at.returns-then-columns-n-gt60 c).At-loop-end) a.at c.loop-end.end c.loop-end.columns
+    c.loop-end.invariant
+    (full_there catalogue (text (goal.at.returns-then-columns-n-gt60 c).At-loop-end) c.loop-end.end c.loop-end.columns _ _ _
+    (here (goal.at.returns-then-columns-n-gt60 c).After-next_cluster-k) c.width-n.ensures.0 c.if-k.false
     c.if-columns-n-gt60.true)
 
 pub overflow_add-columns-in-loop-end : goal.overflow_add-columns-in-loop-end
@@ -81,7 +85,8 @@ loop-end-smaller c =
 pub loop-end-preserved : goal.loop-end-preserved
 loop-end-preserved c =
     let a = c.args in
-    scan_more catalogue (text (goal.at.loop-end-preserved c).At-loop-end) a.at c.loop-end.end c.loop-end.columns c.loop-end.invariant _ _ _ (here (goal.at.loop-end-preserved c).After-next_cluster-k) c.width-n.ensures.0
+    scan_more catalogue (text (goal.at.loop-end-preserved c).At-loop-end) a.at c.loop-end.end c.loop-end.columns c.loop-end.invariant _ _ _
+    (here (goal.at.loop-end-preserved c).After-next_cluster-k) c.width-n.ensures.0
     c.if-k.false (omega (arith, c.if-columns-n-gt60.false))
 
 pub returns : goal.returns

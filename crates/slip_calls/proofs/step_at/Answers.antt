@@ -28,7 +28,8 @@ over_white-requires c = (omega arith, (here (goal.at.over_white-requires c).Afte
 
 pub returns-then-k : goal.returns-then-k
 returns-then-k c =
-    step_white catalogue catalogue_lawful newline-white (text (goal.at.returns-then-k c).Start) c.args.at c.args.filled c.requires.2 _ _ (here (goal.at.returns-then-k c).After-next_cluster-k) _
+    step_white catalogue catalogue_lawful newline-white (text (goal.at.returns-then-k c).Start) c.args.at c.args.filled c.requires.2 _ _
+    (here (goal.at.returns-then-k c).After-next_cluster-k) _
     c.if-k.true c.over_white.ensures
 
 pub piece_at-piece-requires : goal.piece_at-piece-requires
@@ -39,5 +40,6 @@ place_for-requires c = (c.requires.2.narrow, c.piece_at-piece.ensures.narrow)
 
 pub returns : goal.returns
 returns c =
-    step_piece catalogue catalogue_lawful newline-white (text (goal.at.returns c).Start) c.args.at c.args.filled c.requires.2 _ _ (here (goal.at.returns c).After-next_cluster-k) _ _
+    step_piece catalogue catalogue_lawful newline-white (text (goal.at.returns c).Start) c.args.at c.args.filled c.requires.2 _ _
+    (here (goal.at.returns c).After-next_cluster-k) _ _
     c.if-k.false c.piece_at-piece.ensures c.place_for.ensures

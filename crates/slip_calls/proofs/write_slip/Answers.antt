@@ -16,7 +16,8 @@ fits : (k : After-step_at-step) →
     let r = k.step_at-step.result in
     (k.loop-at.out + length (placed r.place) + length (part k.args.s.now r.from r.end) ≤ length k.loop-at.page)
     × (length (part k.args.s.now r.from r.end) ≡ r.end - r.from)
-fits k = write_fits k.args.s.now k.args.page.now k.loop-at.at k.loop-at.filled k.loop-at.out k.loop-at.page k.loop-at.invariant k.step_at-step.result
+fits k = write_fits k.args.s.now k.args.page.now k.loop-at.at k.loop-at.filled k.loop-at.out k.loop-at.page k.loop-at.invariant
+    k.step_at-step.result
     k.step_at-step.ensures k.requires.2
 
 -- what is written with the step
@@ -72,7 +73,8 @@ write_place-requires c =
     omega (
       arith,
       e,
-      end_fits c.args.s.now c.args.page.now c.loop-at.at c.loop-at.filled c.loop-at.out c.loop-at.page c.loop-at.invariant c.loop-at-test.false
+      end_fits c.args.s.now c.args.page.now c.loop-at.at c.loop-at.filled c.loop-at.out c.loop-at.page c.loop-at.invariant
+          c.loop-at-test.false
           c.requires.2,
     )
 

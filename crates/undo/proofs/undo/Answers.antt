@@ -30,7 +30,8 @@ undo_units-requires c =
     let a = c.args in
     let l = lent a.text.now a.records.now a.texts.now a.line a.log in
     let ready = c.check-c.ensures.ready c.if-c-ne0.false in
-    let starts = newest_last catalogue c.format_for-f.result _ _ (c.check-c.ensures.newest c.if-c-ne0.false) _ _ (lays c.format_for-f.result (log_lent l) ready.log) in
+    let starts = newest_last catalogue c.format_for-f.result _ _ (c.check-c.ensures.newest c.if-c-ne0.false) _ _
+    (lays c.format_for-f.result (log_lent l) ready.log) in
     record { fit = fit_for _ c.format_for-f.ensures; ready = ready; last_start = starts }
 
 pub returns : goal.returns

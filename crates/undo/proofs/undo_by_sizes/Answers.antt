@@ -39,7 +39,8 @@ unfolding undo_out
 returns-then-s-ne0 c =
     let k = c.loop-f.invariant.0 in
     let n = some_newest k.come.ready (omega (arith, c.if-u-eq0.false)) in
-    let w = walked_stop k n.2 c.undo_record-p.result c.undo_record-p.new.text c.undo_record-p.ensures c.if-s-ne0.true c.answer-then-s-ne0.ensures in
+    let w = walked_stop k n.2 c.undo_record-p.result c.undo_record-p.new.text c.undo_record-p.ensures c.if-s-ne0.true
+    c.answer-then-s-ne0.ensures in
     record { outcome = edited w; still = still w }
 
 pub overflow_add-begins : goal.overflow_add-begins
@@ -64,11 +65,14 @@ loop-f-preserved-then-begins-ends c =
     let k = c.loop-f.invariant.0 in
     let n = some_newest k.come.ready (omega (arith, c.if-u-eq0.false)) in
     let z = c.if-s-ne0.false in
-    let w = counts_back c.undo_record-p.result.kind c.one_if-begins.ensures.0 c.one_if-ends.ensures.0 c.args.f n.0 k.waiting c.loop-f.ends c.loop-f.begins k.waits (c.undo_record-p.ensures n.0 n.1 n.2).0 in
+    let w = counts_back c.undo_record-p.result.kind c.one_if-begins.ensures.0 c.one_if-ends.ensures.0 c.args.f n.0 k.waiting c.loop-f.ends
+    c.loop-f.begins k.waits (c.undo_record-p.ensures n.0 n.1 n.2).0 in
     let few = one_of c.undo_record-p.result.kind c.one_if-begins.ensures.0 c.one_if-ends.ensures.0 in (
-      walking_on k n.2 c.undo_record-p.result c.undo_record-p.new.text c.undo_record-p.ensures c.undo_record-p.auto.text z (c.loop-f.ends + c.one_if-ends.result) (c.loop-f.begins + c.one_if-begins.result) w (omega (arith, few))
+      walking_on k n.2 c.undo_record-p.result c.undo_record-p.new.text c.undo_record-p.ensures c.undo_record-p.auto.text z
+          (c.loop-f.ends + c.one_if-ends.result) (c.loop-f.begins + c.one_if-begins.result) w (omega (arith, few))
           c.if-begins-ends.true,
-      sizes-next k.come n.2 c.undo_record-p.result c.undo_record-p.new.text c.undo_record-p.ensures c.undo_record-p.auto.text z c.args.sizes.now c.loop-f.invariant.1,
+      sizes-next k.come n.2 c.undo_record-p.result c.undo_record-p.new.text c.undo_record-p.ensures c.undo_record-p.auto.text z
+          c.args.sizes.now c.loop-f.invariant.1,
     )
 
 pub shape_of-text-then-left-le1 : goal.shape_of-text-then-left-le1
@@ -82,9 +86,11 @@ returns-then-left-le1 c =
     let k = c.loop-f.invariant.0 in
     let n = some_newest k.come.ready (omega (arith, c.if-u-eq0.false)) in
     let z = c.if-s-ne0.false in
-    let w = counts_back c.undo_record-p.result.kind c.one_if-begins.ensures.0 c.one_if-ends.ensures.0 c.args.f n.0 k.waiting c.loop-f.ends c.loop-f.begins k.waits (c.undo_record-p.ensures n.0 n.1 n.2).0 in
+    let w = counts_back c.undo_record-p.result.kind c.one_if-begins.ensures.0 c.one_if-ends.ensures.0 c.args.f n.0 k.waiting c.loop-f.ends
+    c.loop-f.begins k.waits (c.undo_record-p.ensures n.0 n.1 n.2).0 in
     let few = one_of c.undo_record-p.result.kind c.one_if-begins.ensures.0 c.one_if-ends.ensures.0 in
-    let e = walked_last k n.2 c.undo_record-p.result c.undo_record-p.new.text c.undo_record-p.ensures c.undo_record-p.auto.text z (c.loop-f.ends + c.one_if-ends.result) (c.loop-f.begins + c.one_if-begins.result) w (omega (arith, few))
+    let e = walked_last k n.2 c.undo_record-p.result c.undo_record-p.new.text c.undo_record-p.ensures c.undo_record-p.auto.text z
+    (c.loop-f.ends + c.one_if-ends.result) (c.loop-f.begins + c.one_if-begins.result) w (omega (arith, few))
     c.if-begins-ends.false (omega (arith, c.if-left-le1.true)) c.answer-then-left-le1.ensures in
     record { outcome = edited e; still = still e }
 
@@ -103,9 +109,12 @@ loop-f-preserved c =
     let k = c.loop-f.invariant.0 in
     let n = some_newest k.come.ready (omega (arith, c.if-u-eq0.false)) in
     let z = c.if-s-ne0.false in
-    let w = counts_back c.undo_record-p.result.kind c.one_if-begins.ensures.0 c.one_if-ends.ensures.0 c.args.f n.0 k.waiting c.loop-f.ends c.loop-f.begins k.waits (c.undo_record-p.ensures n.0 n.1 n.2).0 in
+    let w = counts_back c.undo_record-p.result.kind c.one_if-begins.ensures.0 c.one_if-ends.ensures.0 c.args.f n.0 k.waiting c.loop-f.ends
+    c.loop-f.begins k.waits (c.undo_record-p.ensures n.0 n.1 n.2).0 in
     let few = one_of c.undo_record-p.result.kind c.one_if-begins.ensures.0 c.one_if-ends.ensures.0 in (
-      walking_next k n.2 c.undo_record-p.result c.undo_record-p.new.text c.undo_record-p.ensures c.undo_record-p.auto.text z (c.loop-f.ends + c.one_if-ends.result) (c.loop-f.begins + c.one_if-begins.result) w (omega (arith, few))
+      walking_next k n.2 c.undo_record-p.result c.undo_record-p.new.text c.undo_record-p.ensures c.undo_record-p.auto.text z
+          (c.loop-f.ends + c.one_if-ends.result) (c.loop-f.begins + c.one_if-begins.result) w (omega (arith, few))
           c.if-begins-ends.false (omega (arith, c.if-left-le1.false)),
-      sizes-next k.come n.2 c.undo_record-p.result c.undo_record-p.new.text c.undo_record-p.ensures c.undo_record-p.auto.text z c.args.sizes.now c.loop-f.invariant.1,
+      sizes-next k.come n.2 c.undo_record-p.result c.undo_record-p.new.text c.undo_record-p.ensures c.undo_record-p.auto.text z
+          c.args.sizes.now c.loop-f.invariant.1,
     )

@@ -11,7 +11,8 @@ use Rattle.undo.proofs.undo_by_sizes.Given as goal
 
 abbrev pub invariant-loop-f : goal.invariant-loop-f
 invariant-loop-f l = Walking l.f (lent_by l.initial.text l.records l.texts l.initial.s l.initial.g) true
-    (undo_walk (length l.initial.text) l.n (state_of catalogue l.f (lent_by l.initial.text l.records l.texts l.initial.s l.initial.g))) l.text l.s l.g (l.left - 1) l.ends l.begins × SizesOf
+    (undo_walk (length l.initial.text) l.n (state_of catalogue l.f (lent_by l.initial.text l.records l.texts l.initial.s l.initial.g)))
+    l.text l.s l.g (l.left - 1) l.ends l.begins × SizesOf
     l.f l.sizes (state_of catalogue l.f (lent_by l.text l.records l.texts l.s l.g)).log.undo
 
 abbrev pub decreases-loop-f : goal.decreases-loop-f

@@ -13,7 +13,8 @@ overflow_sub-start-2 c =
 
 pub undo_at-requires : goal.undo_at-requires
 undo_at-requires c =
-    let starts = starts_by_size c.requires.ready c.args.sizes.now c.requires.sizes_of (some_newest c.requires.ready c.requires.number_value.1).2 in
+    let starts = starts_by_size c.requires.ready c.args.sizes.now c.requires.sizes_of
+    (some_newest c.requires.ready c.requires.number_value.1).2 in
     record {
       fit = c.requires.fit;
       ready = c.requires.ready;

@@ -70,6 +70,12 @@ undo_by_sizes-requires-2 c =
     record {
       fit = c.requires.fit;
       ready = c.requires.ready;
-      records_in_bounds = omega (arith, c.write_sizes-2.auto.sizes, c.requires.ready.log.hold.room, c.requires.ready.log.records, c.requires.ready.log.fit.records);
+      records_in_bounds = omega (
+        arith,
+        c.write_sizes-2.auto.sizes,
+        c.requires.ready.log.hold.room,
+        c.requires.ready.log.records,
+        c.requires.ready.log.fit.records,
+      );
       sizes_of = (c.write_sizes-2.ensures _ _ (lays a.f (log_lent l) c.requires.ready.log)).1;
     }

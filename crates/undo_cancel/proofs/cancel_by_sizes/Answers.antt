@@ -37,7 +37,8 @@ returns-then-s-ne0 c =
     let k = c.loop-left.invariant.0 in
     let h = c.loop-left-test.true in
     let n = (cancel_more k h).2 in
-    let q = cancel_stop k c.requires.log_value h n c.undo_record-p.result c.undo_record-p.new.text c.undo_record-p.ensures c.if-s-ne0.true c.answer.ensures in
+    let q = cancel_stop k c.requires.log_value h n c.undo_record-p.result c.undo_record-p.new.text c.undo_record-p.ensures c.if-s-ne0.true
+    c.answer.ensures in
     record { outcome = q.0; still = q.1 }
 
 pub overflow_sub-left-in-loop-left : goal.overflow_sub-left-in-loop-left
@@ -55,12 +56,15 @@ loop-left-preserved c =
     let k = c.loop-left.invariant.0 in
     let h = c.loop-left-test.true in
     let n = (cancel_more k h).2 in (
-      cancelling_next k c.requires.log_value h n c.undo_record-p.result c.undo_record-p.new.text c.undo_record-p.ensures c.undo_record-p.auto.text c.if-s-ne0.false,
-      sizes-next k.come n c.undo_record-p.result c.undo_record-p.new.text c.undo_record-p.ensures c.undo_record-p.auto.text c.if-s-ne0.false c.args.sizes.now c.loop-left.invariant.1,
+      cancelling_next k c.requires.log_value h n c.undo_record-p.result c.undo_record-p.new.text c.undo_record-p.ensures
+          c.undo_record-p.auto.text c.if-s-ne0.false,
+      sizes-next k.come n c.undo_record-p.result c.undo_record-p.new.text c.undo_record-p.ensures c.undo_record-p.auto.text
+          c.if-s-ne0.false c.args.sizes.now c.loop-left.invariant.1,
     )
 
 pub returns : goal.returns
 returns c =
     let k = c.loop-left.invariant.0 in
-    let q = cancel-ended k c.requires.log_value c.loop-left-test.false c.requires.begins_value (c.says.ensures ∙ ap (says 0 (line_of c.loop-left.s)) c.cancel.ensures) in
+    let q = cancel-ended k c.requires.log_value c.loop-left-test.false c.requires.begins_value
+    (c.says.ensures ∙ ap (says 0 (line_of c.loop-left.s)) c.cancel.ensures) in
     record { outcome = q.0; still = q.1 }

@@ -38,7 +38,11 @@ open_begins-begins-requires c =
     record {
       fit = c.requires.fit;
       written_in = record { listed = listed a.f (log_lent l) c.requires.ready.log; written = c.write_sizes-count.ensures };
-      records_in_bounds = (omega (arith, e, c.write_sizes-count.auto.sizes, c.requires.records_in_bounds), omega (arith, e, c.requires.ready.log.hold.room, c.requires.ready.log.records, c.requires.ready.log.fit.records));
+      records_in_bounds = (
+        omega (arith, e, c.write_sizes-count.auto.sizes, c.requires.records_in_bounds),
+        omega
+            (arith, e, c.requires.ready.log.hold.room, c.requires.ready.log.records, c.requires.ready.log.fit.records),
+      );
     }
 
 pub returns-then-begins-eq0 : goal.returns-then-begins-eq0

@@ -35,7 +35,8 @@ pub returns-then-s-ne0 : goal.returns-then-s-ne0
 returns-then-s-ne0 c =
     let k = c.loop-f.invariant in
     let n = some_next k.come.ready (omega (arith, c.if-d-eq0.false)) in
-    redone (walked_stop k n.2 c.redo_record-p.result c.redo_record-p.new.text c.redo_record-p.ensures c.if-s-ne0.true c.answer-then-s-ne0.ensures)
+    redone (walked_stop k n.2 c.redo_record-p.result c.redo_record-p.new.text c.redo_record-p.ensures c.if-s-ne0.true
+    c.answer-then-s-ne0.ensures)
 
 pub overflow_add-ends : goal.overflow_add-ends
 overflow_add-ends c =
@@ -57,10 +58,12 @@ returns-then-ends-begins c =
     let k = c.loop-f.invariant in
     let n = some_next k.come.ready (omega (arith, c.if-d-eq0.false)) in
     let z = c.if-s-ne0.false in
-    let w = counts_on c.redo_record-p.result.kind c.one_if-ends.ensures.0 c.one_if-begins.ensures.0 c.args.f n.0 k.waiting c.loop-f.ends c.loop-f.begins k.waits (c.redo_record-p.ensures n.0 n.1 n.2).0 in
+    let w = counts_on c.redo_record-p.result.kind c.one_if-ends.ensures.0 c.one_if-begins.ensures.0 c.args.f n.0 k.waiting c.loop-f.ends
+    c.loop-f.begins k.waits (c.redo_record-p.ensures n.0 n.1 n.2).0 in
     let few = one_of c.redo_record-p.result.kind c.one_if-ends.ensures.0 c.one_if-begins.ensures.0 in
     redone
-    (walked_last k n.2 c.redo_record-p.result c.redo_record-p.new.text c.redo_record-p.ensures c.redo_record-p.auto.text z (c.loop-f.ends + c.one_if-ends.result) (c.loop-f.begins + c.one_if-begins.result) w (omega (arith, few))
+    (walked_last k n.2 c.redo_record-p.result c.redo_record-p.new.text c.redo_record-p.ensures c.redo_record-p.auto.text z
+    (c.loop-f.ends + c.one_if-ends.result) (c.loop-f.begins + c.one_if-begins.result) w (omega (arith, few))
     c.if-ends-begins.true refl c.answer-then-ends-begins.ensures)
 
 pub loop-f-smaller : goal.loop-f-smaller
@@ -75,6 +78,8 @@ loop-f-preserved c =
     let k = c.loop-f.invariant in
     let n = some_next k.come.ready (omega (arith, c.if-d-eq0.false)) in
     let z = c.if-s-ne0.false in
-    let w = counts_on c.redo_record-p.result.kind c.one_if-ends.ensures.0 c.one_if-begins.ensures.0 c.args.f n.0 k.waiting c.loop-f.ends c.loop-f.begins k.waits (c.redo_record-p.ensures n.0 n.1 n.2).0 in
+    let w = counts_on c.redo_record-p.result.kind c.one_if-ends.ensures.0 c.one_if-begins.ensures.0 c.args.f n.0 k.waiting c.loop-f.ends
+    c.loop-f.begins k.waits (c.redo_record-p.ensures n.0 n.1 n.2).0 in
     let few = one_of c.redo_record-p.result.kind c.one_if-ends.ensures.0 c.one_if-begins.ensures.0 in
-    walking_on k n.2 c.redo_record-p.result c.redo_record-p.new.text c.redo_record-p.ensures c.redo_record-p.auto.text z (c.loop-f.ends + c.one_if-ends.result) (c.loop-f.begins + c.one_if-begins.result) w (omega (arith, few)) c.if-ends-begins.false
+    walking_on k n.2 c.redo_record-p.result c.redo_record-p.new.text c.redo_record-p.ensures c.redo_record-p.auto.text z
+    (c.loop-f.ends + c.one_if-ends.result) (c.loop-f.begins + c.one_if-begins.result) w (omega (arith, few)) c.if-ends-begins.false

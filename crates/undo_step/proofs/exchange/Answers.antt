@@ -21,7 +21,8 @@ pub returns-then-len-end : goal.returns-then-len-end
 returns-then-len-end c =
     let a = c.args in
     stopped (length a.text.now) a.place a.out a.put.now (take a.len a.text.now) 12 a.text.now
-    (ends_outside (length a.text.now) a.place a.out a.put.now (take a.len a.text.now) (omega (arith, c.if-len-end.true, used (goal.at.returns-then-len-end c).Start)))
+    (ends_outside (length a.text.now) a.place a.out a.put.now (take a.len a.text.now)
+    (omega (arith, c.if-len-end.true, used (goal.at.returns-then-len-end c).Start)))
 
 pub slice_bounds-is_boundary-end-2 : goal.slice_bounds-is_boundary-end-2
 slice_bounds-is_boundary-end-2 c = sym (used (goal.at.slice_bounds-is_boundary-end-2 c).Start)
@@ -48,9 +49,11 @@ returns-then-text-left c =
     let a = c.args in
     let h = c.if-len-end.false in
     stopped (length a.text.now) a.place a.out a.put.now (take a.len a.text.now) 9 a.text.now
-    (too_long (length a.text.now) a.place a.out a.put.now (take a.len a.text.now) (omega (arith, h, used (goal.at.returns-then-text-left c).Start))
+    (too_long (length a.text.now) a.place a.out a.put.now (take a.len a.text.now)
+    (omega (arith, h, used (goal.at.returns-then-text-left c).Start))
     (sym (c.is_boundary.ensures.text (is-valid (goal.at.returns-then-text-left c).Start)) ∙ c.if-not-is_boundary.false)
-    (sym (c.is_boundary-2.ensures.text (is-valid (goal.at.returns-then-text-left c).Start)) ∙ c.if-not-is_boundary-2.false) (omega (arith, h, used (goal.at.returns-then-text-left c).Start, c.if-text-left.true)))
+    (sym (c.is_boundary-2.ensures.text (is-valid (goal.at.returns-then-text-left c).Start)) ∙ c.if-not-is_boundary-2.false)
+    (omega (arith, h, used (goal.at.returns-then-text-left c).Start, c.if-text-left.true)))
 
 pub returns : goal.returns
 returns c =

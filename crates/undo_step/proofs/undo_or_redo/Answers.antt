@@ -42,26 +42,35 @@ slice_bounds-exchange-end c = (inside (goal.at.slice_bounds-exchange-end c).Join
 
 pub exchange-number-requires : goal.exchange-number-requires
 exchange-number-requires c = record {
-  len_in_bounds = (c.requires.number_value.1, c.requires.number_value.2, omega (arith, (inside (goal.at.exchange-number-requires c).Joined-back).taken, c.requires.number_value.4));
+  len_in_bounds = (
+    c.requires.number_value.1,
+    c.requires.number_value.2,
+    omega
+        (arith, (inside (goal.at.exchange-number-requires c).Joined-back).taken, c.requires.number_value.4),
+  );
   text_value = c.requires.text_value;
 }
 
 pub returns-then-number-ne0 : goal.returns-then-number-ne0
 returns-then-number-ne0 c =
     let a = c.args in
-    λ F x h. stops_at a.r a.texts.now a.t a.s a.text.now c.requires.number_value.0 c.requires.number_value.1 c.if-back.out c.if-back.from c.if-back.to
-    c.exchange-number.result _ (inside (goal.at.returns-then-number-ne0 c).Joined-back) c.exchange-number.ensures a.back F x h c.if-r-le2.false (takes-and-puts (goal.at.returns-then-number-ne0 c).Joined-back) c.if-number-ne0.true
+    λ F x h. stops_at a.r a.texts.now a.t a.s a.text.now c.requires.number_value.0 c.requires.number_value.1 c.if-back.out c.if-back.from
+    c.if-back.to
+    c.exchange-number.result _ (inside (goal.at.returns-then-number-ne0 c).Joined-back) c.exchange-number.ensures a.back F x h
+    c.if-r-le2.false (takes-and-puts (goal.at.returns-then-number-ne0 c).Joined-back) c.if-number-ne0.true
 
 pub overflow_sub-result : goal.overflow_sub-result
 overflow_sub-result c =
     let a = c.args in
-    out_within a.r a.texts.now a.t a.s a.text.now c.requires.number_value.0 c.requires.number_value.1 c.if-back.out c.if-back.from c.if-back.to c.exchange-number.result _
+    out_within a.r a.texts.now a.t a.s a.text.now c.requires.number_value.0 c.requires.number_value.1 c.if-back.out c.if-back.from
+    c.if-back.to c.exchange-number.result _
     (inside (goal.at.overflow_sub-result c).Joined-back) c.exchange-number.ensures c.if-number-ne0.false
 
 pub overflow_add-result : goal.overflow_add-result
 overflow_add-result c =
     let a = c.args in
-    let l = left-within a.r a.texts.now a.t a.s a.text.now c.requires.number_value.0 c.requires.number_value.1 c.if-back.out c.if-back.from c.if-back.to
+    let l = left-within a.r a.texts.now a.t a.s a.text.now c.requires.number_value.0 c.requires.number_value.1 c.if-back.out c.if-back.from
+    c.if-back.to
     c.exchange-number.result _ (inside (goal.at.overflow_add-result c).Joined-back) c.exchange-number.ensures c.if-number-ne0.false in
     omega (arith, l)
 
@@ -72,5 +81,7 @@ overflow_add-result-2 c =
 pub returns : goal.returns
 returns c =
     let a = c.args in
-    λ F x h. moves a.r a.texts.now a.t a.s a.text.now c.requires.number_value.0 c.requires.number_value.1 c.if-back.out c.if-back.from c.if-back.to c.exchange-number.result
-    _ (inside (goal.at.returns c).Joined-back) c.exchange-number.ensures c.if-number-ne0.false a.back F x h c.if-r-le2.false (takes-and-puts (goal.at.returns c).Joined-back)
+    λ F x h. moves a.r a.texts.now a.t a.s a.text.now c.requires.number_value.0 c.requires.number_value.1 c.if-back.out c.if-back.from
+    c.if-back.to c.exchange-number.result
+    _ (inside (goal.at.returns c).Joined-back) c.exchange-number.ensures c.if-number-ne0.false a.back F x h c.if-r-le2.false
+    (takes-and-puts (goal.at.returns c).Joined-back)

@@ -29,11 +29,13 @@ pub returns-then-not-ends_at : goal.returns-then-not-ends_at
 returns-then-not-ends_at c =
     let a = c.args in
     c.apart-then-not-ends_at.ensures
-    ∙ away a.f a.kind a.place a.old a.new a.self a.joins (c.if-not-joins.false) c.if-self-kind.false c.if-self-place.false c.if-kind-ne4.false
+    ∙ away a.f a.kind a.place a.old a.new a.self a.joins (c.if-not-joins.false) c.if-self-kind.false c.if-self-place.false
+    c.if-kind-ne4.false
     (sym c.ends_at.ensures ∙ c.if-not-ends_at.true)
 
 pub returns : goal.returns
 returns c =
     let a = c.args in
-    before a.f a.kind a.place a.old a.new a.self a.joins (c.if-not-joins.false) c.if-self-kind.false c.if-self-place.false c.if-kind-ne4.false
+    before a.f a.kind a.place a.old a.new a.self a.joins (c.if-not-joins.false) c.if-self-kind.false c.if-self-place.false
+    c.if-kind-ne4.false
     (sym c.ends_at.ensures ∙ c.if-not-ends_at.false)

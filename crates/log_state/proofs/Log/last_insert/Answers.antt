@@ -14,13 +14,16 @@ slice_bounds-read_record-end c = sym (length-take-le _ _ (omega (arith, c.requir
 
 pub overflow_sub-result : goal.overflow_sub-result
 overflow_sub-result c =
-    new-within c.args.f (lending (goal.at.overflow_sub-result c).Start) c.requires.ready c.args.newest c.requires.newest_at c.read_record-r.result c.read_record-r.ensures.same
+    new-within c.args.f (lending (goal.at.overflow_sub-result c).Start) c.requires.ready c.args.newest c.requires.newest_at
+    c.read_record-r.result c.read_record-r.ensures.same
 
 pub returns-then-r : goal.returns-then-r
 returns-then-r c =
-    finds c.args.f (lending (goal.at.returns-then-r c).Start) c.requires.ready c.args.newest c.requires.newest_at c.read_record-r.result c.read_record-r.ensures.same c.if-r.true
+    finds c.args.f (lending (goal.at.returns-then-r c).Start) c.requires.ready c.args.newest c.requires.newest_at c.read_record-r.result
+    c.read_record-r.ensures.same c.if-r.true
 
 pub returns : goal.returns
 returns c = c.says.ensures
-    ∙ finds_none c.args.f (lending (goal.at.returns c).Start) c.requires.ready c.args.newest c.requires.newest_at c.read_record-r.result c.read_record-r.ensures.same
+    ∙ finds_none c.args.f (lending (goal.at.returns c).Start) c.requires.ready c.args.newest c.requires.newest_at c.read_record-r.result
+    c.read_record-r.ensures.same
     c.if-r.false

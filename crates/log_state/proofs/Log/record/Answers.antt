@@ -46,7 +46,8 @@ note-n-requires c =
       fit = c.requires.fit;
       in_range = in_range a.f (lent a.records.now a.texts.now a.self) c.requires.ready a.joins a.kind a.place a.old.now a.new.now
           (edit_of a.kind a.place a.old.now a.new.now) c.requires.numbered c.requires.value c.tail_for-tail.result c.tail_for-tail.ensures
-          (omega (arith, c.if-space-old.false, c.if-space-old-2.false, c.requires.ready.hold.space)) (omega (arith, c.requires.ready.fit.lengths))
+          (omega (arith, c.if-space-old.false, c.if-space-old-2.false, c.requires.ready.hold.space))
+          (omega (arith, c.requires.ready.fit.lengths))
           (top_max _ c.requires.fit.width.most);
     }
 

@@ -18,7 +18,11 @@ walk-kept-requires c =
     record {
       fit = c.requires.fit;
       listed = listed a.f (lent a.records.now a.texts.now a.self) c.requires.ready;
-      records_len_bound = omega (arith, length-take-le a.self.undo.records a.records.now (omega (arith, c.requires.ready.hold.room)), c.requires.ready.records);
+      records_len_bound = omega (
+        arith,
+        length-take-le a.self.undo.records a.records.now (omega (arith, c.requires.ready.hold.room)),
+        c.requires.ready.records,
+      );
     }
 
 pub overflow_add-ur : goal.overflow_add-ur
