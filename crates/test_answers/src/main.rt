@@ -8,7 +8,7 @@ mod replay;
 use std::io;
 use std::rt::Files;
 
-fn replay_file(rt: &(impl Files + Alloc + Print), path: &str) -> io::Result<()> {
+fn replay_file(rt: &(impl Files + Print), path: &str) -> io::Result<()> {
     println!(rt; "{path}")?;
     replay::run(rt, path)
 }

@@ -6,9 +6,9 @@ ghost use Rattle.std.specs.Prelude.{◌<◌, length};
 use super::counts::{AGREES, COMMENT, DIFFERS, counted, print_count, report};
 use check::same;
 use std::fs::File;
-use std::io::{self, Read};
+use std::io;
 use std::rt::Files;
-use test_fields::{is_at, is_of, past, place_of};
+use test_fields::{fill_from, is_at, is_of, past, place_of};
 
 // Does a line agree? Its name ends at one place, and '>' stands at another.
 fn parts_agree(s: &[u8], end: usize, middle: usize) -> bool
@@ -78,11 +78,11 @@ fn replay(rt: &impl Print, s: &[u8]) -> io::Result<()> {
 }
 
 // The bytes of a file that are read.
-const LARGEST: u64 = 262144;
+const LARGEST: usize = 262144;
 
 // Replays a file.
-pub fn run(rt: &(impl Files + Alloc + Print), path: &str) -> io::Result<()> {
-    let mut input = Vec::new(rt.alloc());
-    File::open(rt, path)?.take(LARGEST).read_to_end(&mut input)?;
-    replay(rt, &input)
+pub fn run(rt: &(impl Files + Print), path: &str) -> io::Result<()> {
+    let mut input = [0u8; LARGEST];
+    let n = fill_from(&mut File::open(rt, path)?, &mut input)?;
+    replay(rt, &input[..n])
 }

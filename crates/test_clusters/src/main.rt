@@ -12,12 +12,12 @@ ghost use Rattle.std.specs.Prelude.{◌<◌, ◌≤◌, length};
 
 use cluster::{next_cluster, prev_cluster};
 use repertoire::check_text;
-use std::io::{self, Read};
-use test_fields::{is_at, one_if, past, place_of};
+use std::io;
+use test_fields::{fill_from, is_at, one_if, past, place_of};
 use utf8::encode_at;
 
 // The bytes of standard input that are read.
-const LARGEST: u64 = 65536;
+const LARGEST: usize = 65536;
 
 // The mark of what is no sign.
 const NO_SIGN: u8 = 2;
@@ -261,9 +261,9 @@ fn total(s: &[u8]) -> Tally {
 }
 
 fn main(rt: HostRuntime) -> io::Result<()> {
-    let mut input = Vec::new(rt.alloc());
-    rt.reader().take(LARGEST).read_to_end(&mut input)?;
-    let t = total(&input);
+    let mut input = [0u8; LARGEST];
+    let n = fill_from(&mut rt.reader(), &mut input)?;
+    let t = total(&input[..n]);
     println!(rt;
         "{} lines: {} agree forward, {} agree backward",
         t.lines, t.forward, t.backward

@@ -1,9 +1,10 @@
 // The fields of a recorded answer's line: the call's name, decimal numbers, and texts in hexadecimal.
 #![tactic(auto)]
 
-ghost use Rattle.std.specs.Prelude.{◌≡◌, true, ◌+◌, ◌<◌, ◌≤◌, min, length};
+ghost use Rattle.std.specs.Prelude.{◌≡◌, true, ◌+◌, ◌<◌, ◌≤◌, min, length, IfOk};
 
 use check::same;
+use std::io::{self, Read};
 
 // A digit's value, 16 where it is none.
 fn digit_of(b: u8) -> u8
@@ -384,4 +385,19 @@ pub fn method_at(name: &[u8]) -> usize
     ensures { result ≤ length name.now }
 {
     past(place_of(name, 0, b'_'), name.len())
+}
+
+// Fills a buffer from its start with what a reader gives, to the reader's end or the buffer's, and answers how many bytes came.
+pub fn fill_from<R: Read>(reader: &mut R, out: &mut [u8]) -> io::Result<usize>
+    ensures { IfOk result (λ n. n ≤ length out.old) }
+{
+    let mut filled: usize = 0;
+    while filled < out.len() {
+        let n = reader.read(&mut out[filled..])?;
+        if n == 0 {
+            return Ok(filled);
+        }
+        filled += n;
+    }
+    Ok(filled)
 }
