@@ -170,7 +170,7 @@ pub fn change(
     requires from_le_to { (from ≤ to) × (to ≤ line.len) }
     requires last_at { joins ≡ true → LastAt catalogue f (take log.undo.records records.old) last }
     requires numbered { Numbered (edit_of kind from (part (take line.len text.old) from to) new.now) kind from (part (take line.len text.old) from to) new.now }
-    requires value { ok_change catalogue (edit (edit_of kind from (part (take line.len text.old) from to) new.now)) ≡ true }
+    requires ok { ok_change catalogue (edit (edit_of kind from (part (take line.len text.old) from to) new.now)) ≡ true }
     ensures { Edited f (lent text.old records.old texts.old line log)
         (change_out f (sizes_of (lent text.old records.old texts.old line log)) (length text.old) joins
         (edit_of kind from (part (take line.len text.old) from to) new.now) cursor
@@ -226,7 +226,7 @@ pub fn cut_out(
 ) -> EditAnswer
     requires fit { Fit f }
     requires ready { Ready f (lent text.old records.old texts.old line log) }
-    requires fact { In (take line.len text.old) from to }
+    requires in_text { In (take line.len text.old) from to }
     requires last_at { is_single catalogue (clusters_of catalogue (part (take line.len text.old) from to)) ≡ true
         → LastAt catalogue f (take log.undo.records records.old) last }
     ensures { Makes f (lent text.old records.old texts.old line log)
@@ -266,8 +266,8 @@ pub fn put_in(
 ) -> EditAnswer
     requires fit { Fit f }
     requires ready { Ready f (lent text.old records.old texts.old line log) }
-    requires fact { In (take line.len text.old) at at }
-    requires value { is_text catalogue new.now ≡ true }
+    requires in_text { In (take line.len text.old) at at }
+    requires new_text { is_text catalogue new.now ≡ true }
     ensures { Makes f (lent text.old records.old texts.old line log)
         (once (pasted at new.now) cursor)
         result text.new records.new texts.new }

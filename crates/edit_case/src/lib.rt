@@ -98,7 +98,7 @@ fn case_from(
 ) -> EditAnswer
     requires ready { Ready f (lent text.old records.old texts.old line log) }
     requires last_at { LastAt catalogue f (take log.undo.records records.old) last }
-    requires fact { In (take line.len text.old) from from }
+    requires in_text { In (take line.len text.old) from from }
     ensures { Makes f (lent text.old records.old texts.old line log)
         (case_plan catalogue (take line.len text.old) action from (words_on catalogue (take line.len text.old) 1 from))
         result text.new records.new texts.new }

@@ -117,7 +117,7 @@ pub fn indent_range(
 ) -> EditAnswer
     requires m_bound { m ≤ 256 }
     requires ready { Ready f (lent text.old records.old texts.old line log) }
-    requires fact { In (take line.len text.old) from to }
+    requires in_text { In (take line.len text.old) from to }
     ensures { Makes f (lent text.old records.old texts.old line log)
         (indent_plan catalogue m false line.cursor from (split_lines (part (take line.len text.old) from to)))
         result text.new records.new texts.new }
@@ -199,8 +199,8 @@ pub fn dedent_range(
     to: usize,
 ) -> EditAnswer
     requires ready { Ready f (lent text.old records.old texts.old line log) }
-    requires fact { In (take line.len text.old) from to }
-    requires to_value { Touched·splits catalogue m (split_lines (part (take line.len text.old) from to)) ≡ false }
+    requires in_text { In (take line.len text.old) from to }
+    requires not_split { Touched·splits catalogue m (split_lines (part (take line.len text.old) from to)) ≡ false }
     ensures { Makes f (lent text.old records.old texts.old line log)
         (indent_plan catalogue m true line.cursor from (split_lines (part (take line.len text.old) from to)))
         result text.new records.new texts.new }

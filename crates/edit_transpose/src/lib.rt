@@ -278,7 +278,7 @@ fn exchange_at(
 ) -> EditAnswer
     requires ready { Ready f (lent text.old records.old texts.old line log) }
     requires last_at { LastAt catalogue f (take log.undo.records records.old) last }
-    requires fact { In (take line.len text.old) p p }
+    requires in_text { In (take line.len text.old) p p }
     ensures { Makes f (lent text.old records.old texts.old line log)
         (exchange catalogue (take line.len text.old) p)
         result text.new records.new texts.new }

@@ -64,7 +64,7 @@ fn cut_fits(
 ) -> bool
     requires ready { Ready f (lent text.now records.now texts.now line log) }
     requires last_at { LastAt catalogue f (take log.undo.records records.now) last }
-    requires fact { In (take line.len text.now) from to }
+    requires in_text { In (take line.len text.now) from to }
     ensures { result ≡ fits f (sizes_of (lent text.now records.now texts.now line log))
         (list_after catalogue (cutting from to ∷ []) (take line.len text.now)
         (state_of catalogue f (lent text.now records.now texts.now line log)).log.undo) }
@@ -94,7 +94,7 @@ fn cut_to_ring(
     requires ready { Ready f (lent text.old records.old texts.old line log) }
     requires last_at { LastAt catalogue f (take log.undo.records records.old) last }
     requires false_value { rings.checked catalogue (rings.lent slots.old lens.old ring) false false ≡ 0 }
-    requires fact { In (take line.len text.old) from to }
+    requires in_text { In (take line.len text.old) from to }
     ensures { KeyDone f (lent text.old records.old texts.old line log) (rings.lent slots.old lens.old ring)
         (together
         (edited catalogue f (sizes_of (lent text.old records.old texts.old line log)) (length text.old) (once (cutting from to) from)

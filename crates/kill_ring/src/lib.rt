@@ -178,7 +178,7 @@ fn action_breaks(ring: Ring) -> bool
 // Is one of the first n slots' texts none of the repertoire?
 fn any_foreign(slots: &[u8], lens: &[u8], n: usize) -> bool
     requires n_in_bounds { 4096 * n ≤ length slots.now }
-    requires n_in_bounds_2 { 2 * n ≤ length lens.now }
+    requires lens_in_bounds { 2 * n ≤ length lens.now }
     requires n_value { any_over lens.now 0 n ≡ false }
     ensures { result ≡ any_foreign catalogue (slots_from slots.now lens.now 0 n) }
 {

@@ -281,7 +281,7 @@ impl Log {
         requires ready { Ready f (lent records.old texts.old self) }
         requires last_at { joins ≡ true → LastAt catalogue f (take self.undo.records records.old) last }
         requires numbered { Numbered (edit_of kind place old.now new.now) kind place old.now new.now }
-        requires value { ok_change catalogue (edit (edit_of kind place old.now new.now)) ≡ true }
+        requires ok { ok_change catalogue (edit (edit_of kind place old.now new.now)) ≡ true }
         ensures { Logged f (lent records.old texts.old self)
             (record_out f (sizes_of (lent records.old texts.old self))
             (note joins (edit_of kind place old.now new.now) (value_of catalogue f (lent records.old texts.old self)).undo)

@@ -1,7 +1,8 @@
 // The fields of a recorded answer's line: the call's name, decimal numbers, and texts in hexadecimal.
 #![tactic(auto)]
 
-ghost use Rattle.std.specs.Prelude.{◌≡◌, true, ◌+◌, ◌<◌, ◌≤◌, min, length, IfOk};
+ghost use Rattle.std.specs.Prelude.{◌≡◌, true, ◌+◌, ◌<◌, ◌≤◌, min, length, take, IfOk};
+ghost use Rattle.std.specs.Io.KnownBytes.{Consumes, IsAtEnd};
 
 use check::same;
 use std::io::{self, Read};
@@ -388,8 +389,11 @@ pub fn method_at(name: &[u8]) -> usize
 }
 
 // Fills a buffer from its start with what a reader gives, to the reader's end or the buffer's, and answers how many bytes came.
+// Wrong answers ruled out: a byte's room left where the reader has more; a read of one byte taken for the reader's end.
 pub fn fill_from<R: Read>(reader: &mut R, out: &mut [u8]) -> io::Result<usize>
-    ensures { IfOk result (λ n. n ≤ length out.old) }
+    ensures bound { IfOk result (λ n. n ≤ length out.old) }
+    ensures bytes { IfOk result (λ n. Consumes (R.remaining reader.old) (R.remaining reader.new) (take n out.new)) }
+    ensures end { IfOk result (λ n. n < length out.old → IsAtEnd (R.remaining reader.new)) }
 {
     let mut filled: usize = 0;
     while filled < out.len() {

@@ -173,7 +173,7 @@ fn undo_newest(
     requires ready { Ready f (lent text.old records.now texts.now line log) }
     requires n_bound { (n ≤ 1) × (0 < log.undo.records) }
     requires last_start { LastStart f (lent text.old records.now texts.now line log) last }
-    requires fact { (record_at f records.now last).kind ≡ 2 → ⊥ }
+    requires not_end { (record_at f records.now last).kind ≡ 2 → ⊥ }
     ensures outcome { Edited f (lent text.old records.now texts.now line log)
         (undo_out (length text.old) n (state_of catalogue f (lent text.old records.now texts.now line log)))
         result text.new records.now texts.now }

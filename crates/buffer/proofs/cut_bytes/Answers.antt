@@ -1,5 +1,5 @@
-use borrow.Author.Rules.{rules}
 -- `cut_bytes` meets its contract. The invariant: `j` bytes have been moved down. Assumes nothing.
+use borrow.Author.Rules.{rules}
 use mathlib.Core.Path.{◌≡◌, refl, ap, ◌∙◌}
 use mathlib.Core.List.{List}
 use Prim.Native.Nat.{ℕ, ◌+◌, ◌-◌}

@@ -1,6 +1,6 @@
-use borrow.Author.Rules.{rules}
 -- `buffer::shift_up` meets its contract. The invariant: the bytes from `i` on have moved. The measure is `i`.
 -- Assumes nothing.
+use borrow.Author.Rules.{rules}
 use mathlib.Core.Path.{◌≡◌, refl, ap, ◌∙◌}
 use mathlib.Core.List.{List}
 use Prim.Native.Nat.{ℕ, ◌+◌, ◌-◌}

@@ -1,5 +1,5 @@
-use borrow.Author.Rules.{rules}
 -- `buffer::write_front` meets its contract. The invariant: `j` bytes of `src` stand at the front. Assumes nothing.
+use borrow.Author.Rules.{rules}
 use mathlib.Core.Path.{◌≡◌, refl, sym, ap, ◌∙◌}
 use mathlib.Core.List.{List, ◌++◌}
 use Prim.Native.Nat.{ℕ, ◌+◌}

@@ -66,7 +66,7 @@ record-a-requires c =
       ready = c.requires.ready.log;
       last_at = c.requires.last_at;
       numbered = numbered_as a.f l a.joins a.kind a.from a.new.now part1 take1 raw-part1 c.requires.numbered;
-      value = ok_as a.f l a.joins a.kind a.from a.new.now part1 take1 raw-part1 c.requires.value;
+      ok = ok_as a.f l a.joins a.kind a.from a.new.now part1 take1 raw-part1 c.requires.ok;
     }
 
 pub returns-then-a-ne0 : goal.returns-then-a-ne0

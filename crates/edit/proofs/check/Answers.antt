@@ -73,14 +73,15 @@ returns-then-not-seen c =
 
 pub returns : goal.returns
 returns c =
+    let here = goal.at.returns c in
     let a = c.args in
     let fine = sym c.over_sizes.ensures ∙ c.if-over_sizes.false in
     let sound = not-false _ c.if-not-seen.false in
     let whole = not-true _ (sym c.look-seen.ensures.sound ∙ sound) in
     record {
-      number = by_none a.f (lending (goal.at.returns c).Start) a.o fine c.if-o.false c.refusal_in-k.result c.refusal_in-k.ensures
+      number = by_none a.f (lending here.Start) a.o fine c.if-o.false c.refusal_in-k.result c.refusal_in-k.ensures
           c.if-k-ne0.false c.if-o-2.false whole;
-      ready = (λ e. ready a.f (lending (goal.at.returns c).Start) a.o fine c.if-o.false c.refusal_in-k.result c.refusal_in-k.ensures
+      ready = (λ e. ready a.f (lending here.Start) a.o fine c.if-o.false c.refusal_in-k.result c.refusal_in-k.ensures
           c.if-k-ne0.false
           (λ i. omega (arith, c.type_inv.records i)) whole c.requires);
       newest = (λ e. c.look-seen.ensures.newest sound);

@@ -54,7 +54,7 @@ cut_out-a-requires c =
     record {
       fit = c.requires.fit;
       ready = c.requires.ready;
-      fact = cut_suits a.f (lent a.text.now a.records.now a.texts.now a.line a.log) c.requires.ready a.from a.to a.at a.new.now
+      in_text = cut_suits a.f (lent a.text.now a.records.now a.texts.now a.line a.log) c.requires.ready a.from a.to a.at a.new.now
           c.requires.all_suit;
       last_at = (λ e. c.requires.last_at);
     }
@@ -73,8 +73,8 @@ put_in-b-requires c =
     record {
       fit = c.requires.fit;
       ready = pair-mid1.ready;
-      fact = next-suits1.0;
-      value = next-suits1.1;
+      in_text = next-suits1.0;
+      new_text = next-suits1.1;
     }
 
 pub returns : goal.returns

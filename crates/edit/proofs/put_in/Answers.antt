@@ -17,7 +17,7 @@ change-requires c =
     record {
       fit = c.requires.fit;
       ready = c.requires.ready;
-      from_le_to = (omega arith, omega (arith, c.requires.fact.1, length-take-le a.line.len a.text.now c.requires.ready.used));
+      from_le_to = (omega arith, omega (arith, c.requires.in_text.1, length-take-le a.line.len a.text.now c.requires.ready.used));
       last_at = (λ e. never _ _ e refl);
       numbered = record {
         kind = refl;
@@ -25,7 +25,7 @@ change-requires c =
         old = sym (ap (λ (i : ℕ). take i (drop a.at (take a.line.len a.text.now))) z);
         new = refl;
       };
-      value = c.requires.value;
+      ok = c.requires.new_text;
     }
 
 pub returns : goal.returns

@@ -18,13 +18,13 @@ slice_bounds-words_on-end-2 c = sym (length-take-le _ _ c.requires.ready.used)
 pub slice_bounds-write_case-count : goal.slice_bounds-write_case-count
 slice_bounds-write_case-count c =
     let a = c.args in
-    (word_in a.f (lent a.text.now a.records.now a.texts.now a.line a.log) c.requires.ready a.from c.requires.fact c.words_on-to.result
+    (word_in a.f (lent a.text.now a.records.now a.texts.now a.line a.log) c.requires.ready a.from c.requires.in_text c.words_on-to.result
     c.words_on-to.ensures).0
 
 pub slice_bounds-write_case-start : goal.slice_bounds-write_case-start
 slice_bounds-write_case-start c =
     let a = c.args in
-    (word_in a.f (lent a.text.now a.records.now a.texts.now a.line a.log) c.requires.ready a.from c.requires.fact c.words_on-to.result
+    (word_in a.f (lent a.text.now a.records.now a.texts.now a.line a.log) c.requires.ready a.from c.requires.in_text c.words_on-to.result
     c.words_on-to.ensures).0
 
 pub slice_bounds-write_case-end : goal.slice_bounds-write_case-end
@@ -35,7 +35,7 @@ slice_bounds-write_case-end c =
       arith,
       (let w : c.words_on-to.result ≤ a.line.len = omega (
         arith,
-        (word_in a.f l c.requires.ready a.from c.requires.fact c.words_on-to.result c.words_on-to.ensures).1,
+        (word_in a.f l c.requires.ready a.from c.requires.in_text c.words_on-to.result c.words_on-to.ensures).1,
         (length-kept a.f l c.requires.ready),
       ) in
           w),
@@ -46,7 +46,7 @@ pub write_case-n-requires : goal.write_case-n-requires
 write_case-n-requires c =
     let a = c.args in
     let l = lent a.text.now a.records.now a.texts.now a.line a.log in
-    let word-in1 = word_in a.f l c.requires.ready a.from c.requires.fact c.words_on-to.result c.words_on-to.ensures in
+    let word-in1 = word_in a.f l c.requires.ready a.from c.requires.in_text c.words_on-to.result c.words_on-to.ensures in
     let length-kept1 = length-kept a.f l c.requires.ready in
     record {
       s_in_bounds = omega (
@@ -68,7 +68,7 @@ pub overflow_add-behind : goal.overflow_add-behind
 overflow_add-behind c =
     let a = c.args in
     let l = lent a.text.now a.records.now a.texts.now a.line a.log in
-    let word-in1 = word_in a.f l c.requires.ready a.from c.requires.fact c.words_on-to.result c.words_on-to.ensures in
+    let word-in1 = word_in a.f l c.requires.ready a.from c.requires.in_text c.words_on-to.result c.words_on-to.ensures in
     omega (
       arith,
       (take_within c.write_case-n.result _
@@ -99,7 +99,7 @@ cut_and_put-requires c =
       fit = c.requires.ready.log.fit;
       ready = c.requires.ready;
       last_at = c.requires.last_at;
-      all_suit = recased_suits a.f l c.requires.ready a.from c.requires.fact c.words_on-to.result c.words_on-to.ensures
+      all_suit = recased_suits a.f l c.requires.ready a.from c.requires.in_text c.words_on-to.result c.words_on-to.ensures
           a.action _
           (c.write_case-n.ensures.bytes
           ∙ ap (in_case catalogue a.action)
@@ -107,7 +107,7 @@ cut_and_put-requires c =
           (raw_part a.text.now a.line.len a.from c.words_on-to.result
           (let w : c.words_on-to.result ≤ a.line.len = omega (
             arith,
-            (word_in a.f l c.requires.ready a.from c.requires.fact c.words_on-to.result c.words_on-to.ensures).1,
+            (word_in a.f l c.requires.ready a.from c.requires.in_text c.words_on-to.result c.words_on-to.ensures).1,
             (length-kept a.f l c.requires.ready),
           ) in
           w))));
@@ -117,14 +117,14 @@ pub returns : goal.returns
 returns c =
     let a = c.args in
     let l = lent a.text.now a.records.now a.texts.now a.line a.log in
-    recased a.f l c.requires.ready a.from c.requires.fact c.words_on-to.result c.words_on-to.ensures a.action _
+    recased a.f l c.requires.ready a.from c.requires.in_text c.words_on-to.result c.words_on-to.ensures a.action _
     (c.write_case-n.ensures.bytes
     ∙ ap (in_case catalogue a.action)
     (sym
     (raw_part a.text.now a.line.len a.from c.words_on-to.result
     (let w : c.words_on-to.result ≤ a.line.len = omega (
       arith,
-      (word_in a.f l c.requires.ready a.from c.requires.fact c.words_on-to.result c.words_on-to.ensures).1,
+      (word_in a.f l c.requires.ready a.from c.requires.in_text c.words_on-to.result c.words_on-to.ensures).1,
       (length-kept a.f l c.requires.ready),
     ) in
     w)))) _ (c.write_case-n.ensures.counted ∙ ap length (sym c.write_case-n.ensures.bytes)) _ _ _ _

@@ -6,7 +6,6 @@ use Rattle.edit.specs.Calls.{Lent, lent, text_of}
 use Rattle.edit.proofs.Answers.{cursor_in, stays}
 use Rattle.edit.proofs.Made.{plan_made}
 use Rattle.edit_case.proofs.Begins.{skip_in, case_at, case_none}
--- ---- a place is sought in the text
 use Rattle.edit_case.proofs.edit_word_checked.Goals as goal
 use Rattle.edit_case.proofs.edit_word_checked.Goals.{Start}
 
@@ -14,10 +13,11 @@ abbrev lending : Start → Lent
 lending entry = let a = entry.args in lent a.text.now a.records.now a.texts.now a.line a.log
 
 -- ---- what the check has passed
-inside : (c : Start) → let l = (let a = c.args in lent a.text.now a.records.now a.texts.now a.line a.log) in In (text_of l) l.line.cursor
+inside : (c : Start) → let l = (lending c) in In (text_of l) l.line.cursor
     l.line.cursor
-inside c = cursor_in c.args.f ((let a = c.args in lent a.text.now a.records.now a.texts.now a.line a.log)) c.requires.ready
+inside c = cursor_in c.args.f (lending c) c.requires.ready
 
+-- ---- a place is sought in the text
 pub slice_bounds-skip_whitespace-end-2 : goal.slice_bounds-skip_whitespace-end-2
 slice_bounds-skip_whitespace-end-2 c = sym (length-take-le _ _ c.requires.ready.used)
 
@@ -26,27 +26,30 @@ skip_whitespace-found-requires c = (inside (goal.at.skip_whitespace-found-requir
 
 pub case_from-requires : goal.case_from-requires
 case_from-requires c =
+    let here = goal.at.case_from-requires c in
     let a = c.args in
     record {
       ready = c.requires.ready;
       last_at = c.requires.last_at;
-      fact = skip_in catalogue (text_of (lending (goal.at.case_from-requires c).Start)) a.action a.line.cursor _
+      in_text = skip_in catalogue (text_of (lending here.Start)) a.action a.line.cursor _
           c.skip_whitespace-found.ensures
-          c.requires.ready.text (inside (goal.at.case_from-requires c).Start) _ c.in-At.is;
+          c.requires.ready.text (inside here.Start) _ c.in-At.is;
     }
 
 pub returns-in-At : goal.returns-in-At
 returns-in-At c =
+    let here = goal.at.returns-in-At c in
     let a = c.args in
-    plan_made a.f (lending (goal.at.returns-in-At c).Start)
-    (case_at catalogue (text_of (lending (goal.at.returns-in-At c).Start)) a.action a.line.cursor _ c.skip_whitespace-found.ensures _
+    plan_made a.f (lending here.Start)
+    (case_at catalogue (text_of (lending here.Start)) a.action a.line.cursor _ c.skip_whitespace-found.ensures _
     c.in-At.is)
     c.case_from.ensures
 
 pub returns-in-Nothing : goal.returns-in-Nothing
 returns-in-Nothing c =
+    let here = goal.at.returns-in-Nothing c in
     let a = c.args in
-    plan_made a.f (lending (goal.at.returns-in-Nothing c).Start)
-    (case_none catalogue (text_of (lending (goal.at.returns-in-Nothing c).Start)) a.action a.line.cursor _ c.skip_whitespace-found.ensures
+    plan_made a.f (lending here.Start)
+    (case_none catalogue (text_of (lending here.Start)) a.action a.line.cursor _ c.skip_whitespace-found.ensures
     c.in-Nothing.is)
-    (stays a.f (lending (goal.at.returns-in-Nothing c).Start) c.requires.ready _ c.says.ensures)
+    (stays a.f (lending here.Start) c.requires.ready _ c.says.ensures)

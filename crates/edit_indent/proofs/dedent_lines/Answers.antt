@@ -8,10 +8,10 @@ use Rattle.formats.specs.Formats.{text_max}
 use Rattle.edit.specs.Calls.{lent}
 use Rattle.edit_indent_plans.proofs.Lines.{lines_begin, end_in, line_in, lines_end}
 use Rattle.edit_indent.proofs.Cuts.{cut_in, cut_suits, cut_apart, last_cut, next-cut}
--- the turn's cut, from where its cursor has moved
 use Rattle.edit_indent.proofs.dedent_lines.Goals as goal
 use Rattle.edit_indent.proofs.dedent_lines.Goals.{After-deleting-d}
 
+-- the turn's cut, from where its cursor has moved
 sizes : (c : After-deleting-d)
     → (c.loop-end.at + c.deleting-d.result ≤ c.end_of_line-e.result)
     × (c.end_of_line-e.result ≤ c.loop-end.end)
@@ -51,7 +51,7 @@ cut_out-a-requires c =
     record {
       fit = k.left.ready.log.fit;
       ready = k.left.ready;
-      fact = cut_suits _ k c.end_of_line-e.ensures.0 c.deleting-d.ensures.0;
+      in_text = cut_suits _ k c.end_of_line-e.ensures.0 c.deleting-d.ensures.0;
       last_at = (λ j. never _ _ j apart);
     }
 

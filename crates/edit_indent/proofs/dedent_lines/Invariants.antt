@@ -2,7 +2,6 @@ use Prim.Native.Nat.{◌-◌}
 use mathlib.Core.Bool.{true}
 use Rattle.edit.specs.Calls.{lent}
 use Rattle.edit_indent_plans.proofs.Lines.{way, lines_plan, Lines}
--- the turn's cut, from where its cursor has moved
 use Rattle.edit_indent.proofs.dedent_lines.Given as goal
 
 abbrev pub invariant-loop-end : goal.invariant-loop-end

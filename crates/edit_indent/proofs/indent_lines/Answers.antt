@@ -7,10 +7,10 @@ use Rattle.formats.specs.Formats.{text_max}
 use Rattle.edit.specs.Calls.{lent}
 use Rattle.edit_indent_plans.proofs.Lines.{lines_begin, end_in, lines_end}
 use Rattle.edit_indent.proofs.Spaces.{opens, done_in, last_done, next-done, piece_within, put_suits, next-put, turns_line, turns_put}
--- the turn's piece, from where it is in.before.before.before.before.before.before.before.before
 use Rattle.edit_indent.proofs.indent_lines.Goals as goal
 use Rattle.edit_indent.proofs.indent_lines.Goals.{After-piece-n}
 
+-- the turn's piece, from where it is put in
 sizes : (c : After-piece-n) → (0 < c.piece-n.result) × (c.piece-n.result ≤ 32)
     × (c.piece-n.result ≤ c.loop-left.left) × (c.loop-left.end ≤ text_max)
 sizes c = piece_within c.loop-left.invariant c.if-left-eq0.false c.piece-n.ensures
@@ -99,8 +99,8 @@ put_in-a-requires c =
     record {
       fit = k.lines.left.ready.log.fit;
       ready = k.lines.left.ready;
-      fact = q.0;
-      value = q.1;
+      in_text = q.0;
+      new_text = q.1;
     }
 
 pub overflow_add-end : goal.overflow_add-end
@@ -111,7 +111,8 @@ overflow_sub-left c = (sizes (goal.at.overflow_sub-left c).After-piece-n).2
 
 pub loop-left-smaller : goal.loop-left-smaller
 loop-left-smaller c =
-    turns_put _ _ _ _ _ (sizes (goal.at.loop-left-smaller c).After-piece-n).0 (sizes (goal.at.loop-left-smaller c).After-piece-n).2
+    let here = goal.at.loop-left-smaller c in
+    turns_put _ _ _ _ _ (sizes here.After-piece-n).0 (sizes here.After-piece-n).2
 
 pub loop-left-preserved : goal.loop-left-preserved
 loop-left-preserved c =

@@ -2,7 +2,6 @@ use mathlib.Core.Bool.{false}
 use Rattle.edit.specs.Calls.{lent}
 use Rattle.edit_indent_plans.proofs.Lines.{lines_plan}
 use Rattle.edit_indent.proofs.Spaces.{Indenting, turns}
--- the turn's piece, from where it is in.before.before.before.before.before.before.before.before
 use Rattle.edit_indent.proofs.indent_lines.Given as goal
 
 abbrev pub invariant-loop-left : goal.invariant-loop-left

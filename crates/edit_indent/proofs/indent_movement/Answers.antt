@@ -32,11 +32,11 @@ dedent_range-requires c =
     let l = lent a.text.now a.records.now a.texts.now a.line a.log in
     record {
       ready = (c.refusal-k.ensures.ready c.if-k-ne0.false);
-      fact = indent_in a.f l a.m a.amount a.dedent c.is_foreign.result c.is_split.result
+      in_text = indent_in a.f l a.m a.amount a.dedent c.is_foreign.result c.is_split.result
           c.is_foreign.ensures c.is_split.ensures c.refusal-k.result
           c.refusal-k.ensures.number c.if-k-ne0.false (c.refusal-k.ensures.ready c.if-k-ne0.false) c.touched-r.result
           c.touched-r.ensures;
-      to_value = indent-whole a.f l a.m a.amount a.dedent c.is_foreign.result c.is_split.result
+      not_split = indent-whole a.f l a.m a.amount a.dedent c.is_foreign.result c.is_split.result
           c.is_foreign.ensures c.is_split.ensures c.refusal-k.result
           c.refusal-k.ensures.number c.if-k-ne0.false (c.refusal-k.ensures.ready c.if-k-ne0.false) c.touched-r.result
           c.touched-r.ensures c.if-dedent.true;
@@ -56,7 +56,7 @@ indent_range-requires c =
     record {
       m_bound = c.requires.amount_bound;
       ready = (c.refusal-k.ensures.ready c.if-k-ne0.false);
-      fact = indent_in a.f (lent a.text.now a.records.now a.texts.now a.line a.log) a.m a.amount a.dedent
+      in_text = indent_in a.f (lent a.text.now a.records.now a.texts.now a.line a.log) a.m a.amount a.dedent
           c.is_foreign.result c.is_split.result c.is_foreign.ensures
           c.is_split.ensures c.refusal-k.result c.refusal-k.ensures.number c.if-k-ne0.false
           (c.refusal-k.ensures.ready c.if-k-ne0.false) c.touched-r.result c.touched-r.ensures;

@@ -9,13 +9,13 @@ use Rattle.edit_indent.proofs.indent_range.Goals.{After-has_room, Start}
 abbrev asked : Start → Part
 asked s = asks (lent s.args.text.now s.args.records.now s.args.texts.now s.args.line s.args.log) s.requires.ready s.args.m s.args.from
     s.args.to
-    s.requires.fact
+    s.requires.in_text
 
 tested : (c : After-has_room) → RoomTested (asks (lent c.args.text.now c.args.records.now c.args.texts.now c.args.line c.args.log)
-    c.requires.ready c.args.m c.args.from c.args.to c.requires.fact)
+    c.requires.ready c.args.m c.args.from c.args.to c.requires.in_text)
     false c.has_room.result
 tested c = indent_tested (asks (lent c.args.text.now c.args.records.now c.args.texts.now c.args.line c.args.log) c.requires.ready c.args.m
-    c.args.from c.args.to c.requires.fact) c.requires.m_bound c.count_lines-k.ensures c.if-text-line.false c.has_room.ensures
+    c.args.from c.args.to c.requires.in_text) c.requires.m_bound c.count_lines-k.ensures c.if-text-line.false c.has_room.ensures
 
 pub slice_bounds-count_lines-end : goal.slice_bounds-count_lines-end
 slice_bounds-count_lines-end c = (to-within (asked (goal.at.slice_bounds-count_lines-end c).Start)).1
@@ -43,11 +43,11 @@ has_room-requires c =
 
 pub returns-then-not-has_room : goal.returns-then-not-has_room
 returns-then-not-has_room c =
-    full _ (tested (goal.at.returns-then-not-has_room c).After-has_room) (c.if-not-has_room.true) c.says-then-not-has_room.ensures
+    full _ (tested (goal.at.returns-then-not-has_room c).After-has_room) c.if-not-has_room.true c.says-then-not-has_room.ensures
 
 pub indent_lines-requires : goal.indent_lines-requires
 indent_lines-requires c =
-    let q = begin _ (tested (goal.at.indent_lines-requires c).After-has_room) (c.if-not-has_room.false) in
+    let q = begin _ (tested (goal.at.indent_lines-requires c).After-has_room) c.if-not-has_room.false in
     record {
       m_bound = c.requires.m_bound;
       ready = q.0;

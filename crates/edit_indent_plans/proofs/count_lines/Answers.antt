@@ -1,6 +1,6 @@
 use mathlib.Core.Path.{refl, ◌∙◌}
 use native.Mathlib.Omega.{arith}
-use Rattle.lists.proofs.Parts.{get_d_any}
+use Rattle.lists.proofs.Parts.{get_or_any}
 use Rattle.edit_indent_plans.proofs.Newlines.{count-newline, count_other, count-end}
 use Rattle.edit_indent_plans.proofs.count_lines.Goals as goal
 use Rattle.edit_indent_plans.proofs.count_lines.Goals.{else-p-i-eq10, then-p-i-eq10}
@@ -22,7 +22,7 @@ loop-i-preserved c =
           arith,
           c.loop-i.invariant.2,
           count-newline a.p.now c.loop-i.i c.loop-i-test.true
-              (get_d_any a.p.now c.loop-i.i 256 0 c.loop-i-test.true ∙ w.if-p-i-eq10.true),
+              (get_or_any a.p.now c.loop-i.i 256 0 c.loop-i-test.true ∙ w.if-p-i-eq10.true),
         ),
       )
       | else-p-i-eq10 w ↦ (
@@ -32,7 +32,7 @@ loop-i-preserved c =
           arith,
           c.loop-i.invariant.2,
           count_other a.p.now c.loop-i.i c.loop-i-test.true
-              (λ x. w.if-p-i-eq10.false (get_d_any a.p.now c.loop-i.i 0 256 c.loop-i-test.true ∙ x)),
+              (λ x. w.if-p-i-eq10.false (get_or_any a.p.now c.loop-i.i 0 256 c.loop-i-test.true ∙ x)),
         ),
       )
     ]

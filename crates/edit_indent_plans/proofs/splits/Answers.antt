@@ -22,7 +22,7 @@ returns-then-not-is_boundary c = sym
     c.is_boundary.result
     (c.is_boundary.ensures.text
     (line-valid c.args.p.now c.loop-m.i c.end_of_line-e.result c.loop-m.invariant.0
-    c.end_of_line-e.ensures.0 c.loop-m.invariant.1)) (c.if-not-is_boundary.true))
+    c.end_of_line-e.ensures.0 c.loop-m.invariant.1)) c.if-not-is_boundary.true)
 
 pub returns-then-e-p : goal.returns-then-e-p
 returns-then-e-p c = sym
@@ -32,7 +32,7 @@ returns-then-e-p c = sym
     c.is_boundary.result
     (c.is_boundary.ensures.text
     (line-valid c.args.p.now c.loop-m.i c.end_of_line-e.result c.loop-m.invariant.0
-    c.end_of_line-e.ensures.0 c.loop-m.invariant.1)) (c.if-not-is_boundary.false) c.if-e-p.true)
+    c.end_of_line-e.ensures.0 c.loop-m.invariant.1)) c.if-not-is_boundary.false c.if-e-p.true)
 
 pub overflow_add-i : goal.overflow_add-i
 overflow_add-i c = omega (
@@ -63,5 +63,5 @@ loop-m-preserved c =
           c.is_boundary.result
           (c.is_boundary.ensures.text
           (line-valid a.p.now c.loop-m.i c.end_of_line-e.result c.loop-m.invariant.0 c.end_of_line-e.ensures.0
-          c.loop-m.invariant.1)) (c.if-not-is_boundary.false) (omega (arith, line-in1, c.if-e-p.false)),
+          c.loop-m.invariant.1)) c.if-not-is_boundary.false (omega (arith, line-in1, c.if-e-p.false)),
     )

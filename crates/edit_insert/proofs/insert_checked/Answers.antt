@@ -11,7 +11,6 @@ use Rattle.repertoire.proofs.Typed.{typed-text, typed-within, typed-bytes}
 use Rattle.edit.specs.Calls.{Lent, lent}
 use Rattle.edit_insert.proofs.Calls.{plan_one, plan_many}
 use Rattle.edit.proofs.Made.{plan_made}
--- ---- where the character is encoded
 use Rattle.edit_insert.proofs.insert_checked.Goals as goal
 use Rattle.edit_insert.proofs.insert_checked.Goals.{After-encode_at-size, Start}
 
@@ -19,6 +18,7 @@ use Rattle.edit_insert.proofs.insert_checked.Goals.{After-encode_at-size, Start}
 abbrev lending : Start → Lent
 lending s = let a = s.args in lent a.text.now a.records.now a.texts.now a.line a.log
 
+-- ---- where the character is encoded
 within : (c : After-encode_at-size) → c.encode_at-size.result ≤ length c.encode_at-size.new.out
 within c = typed-within c.args.ch c.requires.ch_value _ c.encode_at-size.new.out c.encode_at-size.result (omega arith)
     c.encode_at-size.ensures
@@ -47,15 +47,18 @@ returns-then-n-eq1 c =
     plan_made a.f (lending (goal.at.returns-then-n-eq1 c).Start) (plan_one a.line.cursor a.ch a.n c.if-n-eq1.true) c.type_char.ensures
 
 pub put_copies-requires : goal.put_copies-requires
-put_copies-requires c = record {
-  ready = c.requires.ready;
-  last_at = c.requires.last_at;
-  s_value = ap (is_text catalogue) (bytes (goal.at.put_copies-requires c).After-encode_at-size) ∙ typed-text c.args.ch c.requires.ch_value;
-  s_len_bound = (omega (arith, ap length (bytes (goal.at.put_copies-requires c).After-encode_at-size), encode_max c.args.ch), omega arith);
-}
+put_copies-requires c =
+    let here = goal.at.put_copies-requires c in
+    record {
+      ready = c.requires.ready;
+      last_at = c.requires.last_at;
+      s_value = ap (is_text catalogue) (bytes here.After-encode_at-size) ∙ typed-text c.args.ch c.requires.ch_value;
+      s_len_bound = (omega (arith, ap length (bytes here.After-encode_at-size), encode_max c.args.ch), omega arith);
+    }
 
 pub returns : goal.returns
 returns c =
+    let here = goal.at.returns c in
     let a = c.args in
-    plan_made a.f (lending (goal.at.returns c).Start) (plan_many a.line.cursor a.ch a.n c.if-n-eq1.false
-    (bytes (goal.at.returns c).After-encode_at-size)) c.put_copies.ensures
+    plan_made a.f (lending here.Start) (plan_many a.line.cursor a.ch a.n c.if-n-eq1.false
+    (bytes here.After-encode_at-size)) c.put_copies.ensures

@@ -32,8 +32,8 @@ put_in-requires c =
     record {
       fit = c.requires.ready.log.fit;
       ready = c.requires.ready;
-      fact = cursor_in a.f (lent a.text.now a.records.now a.texts.now a.line a.log) c.requires.ready;
-      value = text_nil catalogue;
+      in_text = cursor_in a.f (lent a.text.now a.records.now a.texts.now a.line a.log) c.requires.ready;
+      new_text = text_nil catalogue;
     }
 
 pub returns-then-size-eq0 : goal.returns-then-size-eq0
@@ -74,7 +74,7 @@ record-a-requires c =
       ready = c.requires.ready.log;
       last_at = (λ e. never _ false e refl);
       numbered = record { kind = refl; place = refl; old = refl; new = refl };
-      value = new-text a.f (lent a.text.now a.records.now a.texts.now a.line a.log) c.requires.ready a.s.now c.requires.s_value
+      ok = new-text a.f (lent a.text.now a.records.now a.texts.now a.line a.log) c.requires.ready a.s.now c.requires.s_value
           a.n c.if-text-len.false _ c.room_now-now.ensures _ c.room_put-room.ensures
           (not-false _ c.if-not-room.false) c.if-size-eq0.false _ c.insert_copies.ensures;
     }

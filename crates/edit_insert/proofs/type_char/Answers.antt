@@ -22,7 +22,7 @@ change-requires c =
       from_le_to = (omega arith, c.requires.ready.within);
       last_at = (λ e. c.requires.last_at);
       numbered = an_insert (take a.line.len a.text.now) a.line.cursor a.s.now;
-      value = ap (is_text catalogue) c.requires.s_value ∙ typed-text a.ch c.requires.ch_value;
+      ok = ap (is_text catalogue) c.requires.s_value ∙ typed-text a.ch c.requires.ch_value;
     }
 
 pub returns : goal.returns

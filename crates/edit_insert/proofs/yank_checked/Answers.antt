@@ -13,9 +13,10 @@ lending s = let a = s.args in lent a.text.now a.records.now a.texts.now a.line a
 
 pub returns-then-buf-eq0 : goal.returns-then-buf-eq0
 returns-then-buf-eq0 c =
+    let here = goal.at.returns-then-buf-eq0 c in
     let a = c.args in
-    plan_made a.f (lending (goal.at.returns-then-buf-eq0 c).Start) (plan_empty a.line.cursor a.buf.now a.n c.if-buf-eq0.true)
-    (stays a.f (lending (goal.at.returns-then-buf-eq0 c).Start) c.requires.ready _ c.says.ensures)
+    plan_made a.f (lending here.Start) (plan_empty a.line.cursor a.buf.now a.n c.if-buf-eq0.true)
+    (stays a.f (lending here.Start) c.requires.ready _ c.says.ensures)
 
 pub put_copies-requires : goal.put_copies-requires
 put_copies-requires c = record {

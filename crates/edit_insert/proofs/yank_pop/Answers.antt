@@ -27,12 +27,12 @@ abbrev plan : After-check-c → Plan
 plan c = let a = c.args in yank_pop_plan a.line.cursor a.size a.buf.now
 
 number : (c : After-check-c)
-    → let a = c.args in checked catalogue ((c.format_for-f.result))
-    ((let a = c.args in lent a.text.now a.records.now a.texts.now a.line a.log))
-    (pop_tests ((c.format_for-f.result)) ((let a = c.args in lent a.text.now a.records.now a.texts.now a.line a.log)) a.size a.buf.now)
+    → let a = c.args in checked catalogue c.format_for-f.result
+    (lending c)
+    (pop_tests c.format_for-f.result (lending c) a.size a.buf.now)
     ≡ c.check-c.result.number
 number c = let a = c.args in
-    as_pop ((c.format_for-f.result)) ((let a = c.args in lent a.text.now a.records.now a.texts.now a.line a.log)) a.size a.buf.now
+    as_pop c.format_for-f.result (lending c) a.size a.buf.now
     c.back-at.ensures c.check-c.ensures.number
     c.check_text.ensures c.is_split-split.ensures
 
@@ -40,10 +40,10 @@ number c = let a = c.args in
 passed : (c : Else-c-ne0)
     → let a = c.args in (is_text catalogue a.buf.now ≡ true)
     × (length a.buf.now ≤ length a.text.now) × (a.size ≤ a.line.cursor)
-    × (boundary (text_of ((let a = c.args in lent a.text.now a.records.now a.texts.now a.line a.log))) (a.line.cursor - a.size) ≡ true)
+    × (boundary (text_of (let a = c.args in lent a.text.now a.records.now a.texts.now a.line a.log)) (a.line.cursor - a.size) ≡ true)
 passed c = let a = c.args in
-    pop_passed ((c.format_for-f.result)) ((let a = c.args in lent a.text.now a.records.now a.texts.now a.line a.log)) a.size a.buf.now
-    ((let a = c.args in as_pop ((c.format_for-f.result)) ((let a = c.args in lent a.text.now a.records.now a.texts.now a.line a.log))
+    pop_passed c.format_for-f.result (let a = c.args in lent a.text.now a.records.now a.texts.now a.line a.log) a.size a.buf.now
+    ((let a = c.args in as_pop c.format_for-f.result (let a = c.args in lent a.text.now a.records.now a.texts.now a.line a.log)
     a.size a.buf.now c.back-at.ensures c.check-c.ensures.number c.check_text.ensures c.is_split-split.ensures) ∙ c.if-c-ne0.false)
 
 pub check-c-requires : goal.check-c-requires
@@ -51,22 +51,26 @@ check-c-requires c = fit_for _ c.format_for-f.ensures
 
 pub returns-then-c-ne0 : goal.returns-then-c-ne0
 returns-then-c-ne0 c =
-    call_refused (lending (goal.at.returns-then-c-ne0 c).After-check-c) _ (plan (goal.at.returns-then-c-ne0 c).After-check-c)
-    c.format_for-f.ensures (number (goal.at.returns-then-c-ne0 c).After-check-c) c.if-c-ne0.true c.says.ensures
+    let here = goal.at.returns-then-c-ne0 c in
+    call_refused (lending here.After-check-c) _ (plan here.After-check-c)
+    c.format_for-f.ensures (number here.After-check-c) c.if-c-ne0.true c.says.ensures
 
 pub yank_pop_checked-requires : goal.yank_pop_checked-requires
-yank_pop_checked-requires c = record {
-  ready = c.check-c.ensures.ready c.if-c-ne0.false;
-  last_at = newest_last catalogue (format (goal.at.yank_pop_checked-requires c).After-check-c) _ _
-      (c.check-c.ensures.newest c.if-c-ne0.false);
-  buf_value = (passed (goal.at.yank_pop_checked-requires c).Else-c-ne0).0;
-  buf_in_bounds = (passed (goal.at.yank_pop_checked-requires c).Else-c-ne0).1;
-  size_le_cursor = (passed (goal.at.yank_pop_checked-requires c).Else-c-ne0).2;
-  size_value = (passed (goal.at.yank_pop_checked-requires c).Else-c-ne0).3;
-}
+yank_pop_checked-requires c =
+    let here = goal.at.yank_pop_checked-requires c in
+    record {
+      ready = c.check-c.ensures.ready c.if-c-ne0.false;
+      last_at = newest_last catalogue (format here.After-check-c) _ _
+          (c.check-c.ensures.newest c.if-c-ne0.false);
+      buf_value = (passed here.Else-c-ne0).0;
+      buf_in_bounds = (passed here.Else-c-ne0).1;
+      size_le_cursor = (passed here.Else-c-ne0).2;
+      size_value = (passed here.Else-c-ne0).3;
+    }
 
 pub returns : goal.returns
 returns c =
-    call_made (lending (goal.at.returns c).After-check-c) _ (plan (goal.at.returns c).After-check-c) c.format_for-f.ensures
-    (number (goal.at.returns c).After-check-c) c.if-c-ne0.false refl
+    let here = goal.at.returns c in
+    call_made (lending here.After-check-c) _ (plan here.After-check-c) c.format_for-f.ensures
+    (number here.After-check-c) c.if-c-ne0.false refl
     c.yank_pop_checked.ensures

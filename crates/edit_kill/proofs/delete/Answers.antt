@@ -23,20 +23,21 @@ lending c = let a = c.args in lent a.text.now a.records.now a.texts.now a.line a
 
 abbrev plan : After-check-c → Plan
 plan c = let a = c.args in places_plan a.line.cursor (kill_range catalogue
-    (text_of ((let a = c.args in lent a.text.now a.records.now a.texts.now a.line a.log))) a.line.cursor (ForwardChar a.n))
+    (text_of (lending c)) a.line.cursor (ForwardChar a.n))
 
-number : (c : After-check-c) → checked catalogue ((c.format_for-f.result))
-    ((let a = c.args in lent a.text.now a.records.now a.texts.now a.line a.log)) (own_tests false false false) ≡ c.check-c.result.number
-number c = sym (c.check-c.ensures.number ∙ ap (λ (o : Own). checked catalogue ((c.format_for-f.result))
-    ((let a = c.args in lent a.text.now a.records.now a.texts.now a.line a.log)) (own o)) c.none.ensures)
+number : (c : After-check-c) → checked catalogue c.format_for-f.result
+    (lending c) (own_tests false false false) ≡ c.check-c.result.number
+number c = sym (c.check-c.ensures.number ∙ ap (λ (o : Own). checked catalogue c.format_for-f.result
+    (lending c) (own o)) c.none.ensures)
 
 pub check-c-requires : goal.check-c-requires
 check-c-requires c = fit_for _ c.format_for-f.ensures
 
 pub returns-then-c-ne0 : goal.returns-then-c-ne0
 returns-then-c-ne0 c =
-    call_refused (lending (goal.at.returns-then-c-ne0 c).After-check-c) _ (plan (goal.at.returns-then-c-ne0 c).After-check-c)
-    c.format_for-f.ensures (number (goal.at.returns-then-c-ne0 c).After-check-c) c.if-c-ne0.true c.says.ensures
+    let here = goal.at.returns-then-c-ne0 c in
+    call_refused (lending here.After-check-c) _ (plan here.After-check-c)
+    c.format_for-f.ensures (number here.After-check-c) c.if-c-ne0.true c.says.ensures
 
 pub delete_checked-requires : goal.delete_checked-requires
 delete_checked-requires c = record {
@@ -47,6 +48,7 @@ delete_checked-requires c = record {
 
 pub returns : goal.returns
 returns c =
-    call_made (lending (goal.at.returns c).After-check-c) _ (plan (goal.at.returns c).After-check-c) c.format_for-f.ensures
-    (number (goal.at.returns c).After-check-c) c.if-c-ne0.false
+    let here = goal.at.returns c in
+    call_made (lending here.After-check-c) _ (plan here.After-check-c) c.format_for-f.ensures
+    (number here.After-check-c) c.if-c-ne0.false
     refl c.delete_checked.ensures

@@ -1,10 +1,10 @@
 use native.Mathlib.Omega.{arith}
 use Rattle.edit.specs.Calls.{Lent, lent}
 use Rattle.edit_kill.proofs.Deleted.{not-cut, was_cut}
--- ---- where the cut is made
 use Rattle.edit_kill.proofs.delete_checked.Goals as goal
 use Rattle.edit_kill.proofs.delete_checked.Goals.{After-kill_checked-a}
 
+-- ---- where the cut is made
 abbrev lending : After-kill_checked-a → Lent
 lending c = let a = c.args in lent a.text.now a.records.now a.texts.now a.line a.log
 

@@ -16,33 +16,35 @@ use Rattle.edit_kill.proofs.kill_checked.Goals.{Start}
 abbrev lending : Start → Lent
 lending s = let a = s.args in lent a.text.now a.records.now a.texts.now a.line a.log
 
-inside : (s : Start) → let l = (let a = s.args in lent a.text.now a.records.now a.texts.now a.line a.log) in In (text_of l) l.line.cursor
+inside : (s : Start) → let l = (lending s) in In (text_of l) l.line.cursor
     l.line.cursor
-inside s = cursor_in s.args.f ((let a = s.args in lent a.text.now a.records.now a.texts.now a.line a.log)) s.requires.ready
+inside s = cursor_in s.args.f (lending s) s.requires.ready
 
-is-valid : (s : Start) → valid (text_of ((let a = s.args in lent a.text.now a.records.now a.texts.now a.line a.log))) ≡ true
-is-valid s = text-valid catalogue (text_of ((let a = s.args in lent a.text.now a.records.now a.texts.now a.line a.log)))
+is-valid : (s : Start) → valid (text_of (lending s)) ≡ true
+is-valid s = text-valid catalogue (text_of (lending s))
     s.requires.ready.text
 
 pub slice_bounds-kill_range-end-2 : goal.slice_bounds-kill_range-end-2
 slice_bounds-kill_range-end-2 c = sym (length-take-le _ _ c.requires.ready.used)
 
 pub kill_range-r-requires : goal.kill_range-r-requires
-kill_range-r-requires c = (
-  is-valid (goal.at.kill_range-r-requires c).Start,
-  (inside (goal.at.kill_range-r-requires c).Start).2,
-  (inside (goal.at.kill_range-r-requires c).Start).1,
-)
+kill_range-r-requires c =
+    let here = goal.at.kill_range-r-requires c in (
+      is-valid here.Start,
+      (inside here.Start).2,
+      (inside here.Start).1,
+    )
 
 pub cut_out-requires : goal.cut_out-requires
 cut_out-requires c =
+    let here = goal.at.cut_out-requires c in
     let a = c.args in
     record {
       fit = c.requires.ready.log.fit;
       ready = c.requires.ready;
-      fact = kill_in catalogue (text_of (lending (goal.at.cut_out-requires c).Start)) (is-valid (goal.at.cut_out-requires c).Start)
+      in_text = kill_in catalogue (text_of (lending here.Start)) (is-valid here.Start)
           c.in-Places.a c.in-Places.b a.line.cursor
-          (inside (goal.at.cut_out-requires c).Start).2 (inside (goal.at.cut_out-requires c).Start).1 a.m
+          (inside here.Start).2 (inside here.Start).1 a.m
           (sym c.kill_range-r.ensures ∙ c.in-Places.is);
       last_at = (λ e. c.requires.last_at);
     }
@@ -53,6 +55,8 @@ returns-in-Places c = plan_made c.args.f (lending (goal.at.returns-in-Places c).
     c.cut_out.ensures
 
 pub returns-in-Nowhere : goal.returns-in-Nowhere
-returns-in-Nowhere c = plan_made c.args.f (lending (goal.at.returns-in-Nowhere c).Start)
+returns-in-Nowhere c =
+    let here = goal.at.returns-in-Nowhere c in
+    plan_made c.args.f (lending here.Start)
     (ap (cut_plan c.args.line.cursor) (sym c.in-Nowhere.is ∙ c.kill_range-r.ensures))
-    (stays c.args.f (lending (goal.at.returns-in-Nowhere c).Start) c.requires.ready _ c.says.ensures)
+    (stays c.args.f (lending here.Start) c.requires.ready _ c.says.ensures)

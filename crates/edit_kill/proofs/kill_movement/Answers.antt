@@ -22,15 +22,15 @@ lending c = let a = c.args in lent a.text.now a.records.now a.texts.now a.line a
 
 abbrev plan : After-check-c → Plan
 plan c = let a = c.args in cut_plan a.line.cursor (kill_range catalogue
-    (text_of ((let a = c.args in lent a.text.now a.records.now a.texts.now a.line a.log))) a.line.cursor a.m)
+    (text_of (lending c)) a.line.cursor a.m)
 
 number : (c : After-check-c)
-    → checked catalogue ((c.format_for-f.result)) ((let a = c.args in lent a.text.now a.records.now a.texts.now a.line a.log))
+    → checked catalogue c.format_for-f.result (lending c)
     (own_tests false (is_foreign catalogue c.args.m) false) ≡ c.check-c.result.number
 number c = sym
     (c.check-c.ensures.number
-    ∙ ap (λ (b : Bool). checked catalogue ((c.format_for-f.result))
-    ((let a = c.args in lent a.text.now a.records.now a.texts.now a.line a.log)) (own_tests false b false))
+    ∙ ap (λ (b : Bool). checked catalogue c.format_for-f.result
+    (lending c) (own_tests false b false))
     c.is_foreign.ensures)
 
 pub check-c-requires : goal.check-c-requires
@@ -38,8 +38,9 @@ check-c-requires c = fit_for _ c.format_for-f.ensures
 
 pub returns-then-c-ne0 : goal.returns-then-c-ne0
 returns-then-c-ne0 c =
-    call_refused (lending (goal.at.returns-then-c-ne0 c).After-check-c) _ (plan (goal.at.returns-then-c-ne0 c).After-check-c)
-    c.format_for-f.ensures (number (goal.at.returns-then-c-ne0 c).After-check-c) c.if-c-ne0.true c.says.ensures
+    let here = goal.at.returns-then-c-ne0 c in
+    call_refused (lending here.After-check-c) _ (plan here.After-check-c)
+    c.format_for-f.ensures (number here.After-check-c) c.if-c-ne0.true c.says.ensures
 
 pub kill_checked-requires : goal.kill_checked-requires
 kill_checked-requires c = record {
@@ -49,6 +50,7 @@ kill_checked-requires c = record {
 
 pub returns : goal.returns
 returns c =
-    call_made (lending (goal.at.returns c).After-check-c) _ (plan (goal.at.returns c).After-check-c) c.format_for-f.ensures
-    (number (goal.at.returns c).After-check-c) c.if-c-ne0.false refl
+    let here = goal.at.returns c in
+    call_made (lending here.After-check-c) _ (plan here.After-check-c) c.format_for-f.ensures
+    (number here.After-check-c) c.if-c-ne0.false refl
     c.kill_checked.ensures

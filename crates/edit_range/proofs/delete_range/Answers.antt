@@ -25,7 +25,7 @@ cut_out-requires c =
     record {
       fit = fit_for _ c.format_for-f.ensures;
       ready = c.check-c.ensures.ready c.if-c-ne0.false;
-      fact = delete_in c.format_for-f.result (lent a.text.now a.records.now a.texts.now a.line a.log) a.start a.end
+      in_text = delete_in c.format_for-f.result (lent a.text.now a.records.now a.texts.now a.line a.log) a.start a.end
           _ _ c.is_split.ensures c.is_split-2.ensures _ c.check-c.ensures.number c.if-c-ne0.false
           (c.check-c.ensures.ready c.if-c-ne0.false);
       last_at = (λ e. newest_last catalogue c.format_for-f.result _ _ (c.check-c.ensures.newest c.if-c-ne0.false));

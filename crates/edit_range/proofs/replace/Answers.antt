@@ -45,7 +45,7 @@ change-requires c =
       last_at = (λ e. newest_last catalogue c.format_for-f.result _ _
           (c.check-c.ensures.newest c.if-c-ne0.false));
       numbered = record { kind = refl; place = refl; old = refl; new = refl };
-      value = replace-texts c.format_for-f.result l a.start a.end _ _ c.is_split.ensures
+      ok = replace-texts c.format_for-f.result l a.start a.end _ _ c.is_split.ensures
           c.is_split-2.ensures a.buf.now _ c.check_text.ensures _
           c.check-c.ensures.number c.if-c-ne0.false (c.check-c.ensures.ready c.if-c-ne0.false);
     }

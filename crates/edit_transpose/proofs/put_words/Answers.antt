@@ -99,7 +99,7 @@ pub cut_out-r1-requires : goal.cut_out-r1-requires
 cut_out-r1-requires c = record {
   fit = c.requires.ready.log.fit;
   ready = c.requires.ready;
-  fact = c.requires.apart.second;
+  in_text = c.requires.apart.second;
   last_at = (λ e. c.requires.last_at);
 }
 
@@ -112,8 +112,8 @@ put_in-r2-requires c =
     record {
       fit = c.requires.ready.log.fit;
       ready = r.ready;
-      fact = q.0;
-      value = ap (is_text catalogue) c.requires.first_value ∙ q.1;
+      in_text = q.0;
+      new_text = ap (is_text catalogue) c.requires.first_value ∙ q.1;
     }
 
 pub slice_bounds-last_start-end : goal.slice_bounds-last_start-end
@@ -142,7 +142,7 @@ cut_out-r3-requires c =
     record {
       fit = c.requires.ready.log.fit;
       ready = r.ready;
-      fact = next_suits c.args.f (lending k.Start) (plan (lending k.Start) c.args.w) (cut2 c.args.w) _ (lent2 k.After-put_in-r2) r;
+      in_text = next_suits c.args.f (lending k.Start) (plan (lending k.Start) c.args.w) (cut2 c.args.w) _ (lent2 k.After-put_in-r2) r;
       last_at = λ e. c.last_start-last2.ensures;
     }
 
@@ -155,8 +155,8 @@ put_in-r4-requires c =
     record {
       fit = c.requires.ready.log.fit;
       ready = r.ready;
-      fact = q.0;
-      value = ap (is_text catalogue) c.requires.second_value ∙ q.1;
+      in_text = q.0;
+      new_text = ap (is_text catalogue) c.requires.second_value ∙ q.1;
     }
 
 -- each change keeps the buffers' lengths

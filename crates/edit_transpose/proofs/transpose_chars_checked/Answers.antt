@@ -8,7 +8,6 @@ use Rattle.edit.specs.Calls.{Lent, lent, text_of}
 use Rattle.edit.proofs.Answers.{cursor_in, stays}
 use Rattle.edit.proofs.Made.{plan_made}
 use Rattle.edit_transpose.proofs.Begins.{starts_in, plan_at, plan_none}
--- ---- a place is sought in the text
 use Rattle.edit_transpose.proofs.transpose_chars_checked.Goals as goal
 use Rattle.edit_transpose.proofs.transpose_chars_checked.Goals.{Start}
 
@@ -16,45 +15,50 @@ abbrev lending : Start → Lent
 lending entry = let a = entry.args in lent a.text.now a.records.now a.texts.now a.line a.log
 
 -- ---- what the check has passed
-is-valid : (c : Start) → valid (text_of ((let a = c.args in lent a.text.now a.records.now a.texts.now a.line a.log))) ≡ true
-is-valid c = text-valid catalogue (text_of ((let a = c.args in lent a.text.now a.records.now a.texts.now a.line a.log)))
+is-valid : (c : Start) → valid (text_of (lending c)) ≡ true
+is-valid c = text-valid catalogue (text_of (lending c))
     c.requires.ready.text
 
-inside : (c : Start) → let l = (let a = c.args in lent a.text.now a.records.now a.texts.now a.line a.log) in In (text_of l) l.line.cursor
+inside : (c : Start) → let l = (lending c) in In (text_of l) l.line.cursor
     l.line.cursor
-inside c = cursor_in c.args.f ((let a = c.args in lent a.text.now a.records.now a.texts.now a.line a.log)) c.requires.ready
+inside c = cursor_in c.args.f (lending c) c.requires.ready
 
+-- ---- a place is sought in the text
 pub slice_bounds-starts_at-end-2 : goal.slice_bounds-starts_at-end-2
 slice_bounds-starts_at-end-2 c = sym (length-take-le _ _ c.requires.ready.used)
 
 pub starts_at-found-requires : goal.starts_at-found-requires
-starts_at-found-requires c = (
-  is-valid (goal.at.starts_at-found-requires c).Start,
-  (inside (goal.at.starts_at-found-requires c).Start).2,
-  (inside (goal.at.starts_at-found-requires c).Start).1,
-)
+starts_at-found-requires c =
+    let here = goal.at.starts_at-found-requires c in (
+      is-valid here.Start,
+      (inside here.Start).2,
+      (inside here.Start).1,
+    )
 
 pub exchange_at-requires : goal.exchange_at-requires
 exchange_at-requires c =
+    let here = goal.at.exchange_at-requires c in
     let a = c.args in
     record {
       ready = c.requires.ready;
       last_at = c.requires.last_at;
-      fact = starts_in catalogue (text_of (lending (goal.at.exchange_at-requires c).Start))
-          (is-valid (goal.at.exchange_at-requires c).Start) a.line.cursor (inside (goal.at.exchange_at-requires c).Start) _ _
+      in_text = starts_in catalogue (text_of (lending here.Start))
+          (is-valid here.Start) a.line.cursor (inside here.Start) _ _
           c.starts_at-found.ensures c.in-At.is;
     }
 
 pub returns-in-At : goal.returns-in-At
 returns-in-At c =
+    let here = goal.at.returns-in-At c in
     let a = c.args in
-    plan_made a.f (lending (goal.at.returns-in-At c).Start)
-    (plan_at catalogue (text_of (lending (goal.at.returns-in-At c).Start)) a.line.cursor _ c.starts_at-found.ensures _ c.in-At.is)
+    plan_made a.f (lending here.Start)
+    (plan_at catalogue (text_of (lending here.Start)) a.line.cursor _ c.starts_at-found.ensures _ c.in-At.is)
     c.exchange_at.ensures
 
 pub returns-in-Nothing : goal.returns-in-Nothing
 returns-in-Nothing c =
+    let here = goal.at.returns-in-Nothing c in
     let a = c.args in
-    plan_made a.f (lending (goal.at.returns-in-Nothing c).Start)
-    (plan_none catalogue (text_of (lending (goal.at.returns-in-Nothing c).Start)) a.line.cursor _ c.starts_at-found.ensures c.in-Nothing.is)
-    (stays a.f (lending (goal.at.returns-in-Nothing c).Start) c.requires.ready _ c.says.ensures)
+    plan_made a.f (lending here.Start)
+    (plan_none catalogue (text_of (lending here.Start)) a.line.cursor _ c.starts_at-found.ensures c.in-Nothing.is)
+    (stays a.f (lending here.Start) c.requires.ready _ c.says.ensures)

@@ -22,20 +22,21 @@ lending c = let a = c.args in lent a.text.now a.records.now a.texts.now a.line a
 
 abbrev plan : After-check-c → Plan
 plan c = let a = c.args in transpose_words_plan catalogue (text_of
-    ((let a = c.args in lent a.text.now a.records.now a.texts.now a.line a.log))) a.n a.line.cursor
+    (lending c)) a.n a.line.cursor
 
-number : (c : After-check-c) → checked catalogue ((c.format_for-f.result))
-    ((let a = c.args in lent a.text.now a.records.now a.texts.now a.line a.log)) (own_tests false false false) ≡ c.check-c.result.number
-number c = sym (c.check-c.ensures.number ∙ ap (λ (o : Own). checked catalogue ((c.format_for-f.result))
-    ((let a = c.args in lent a.text.now a.records.now a.texts.now a.line a.log)) (own o)) c.none.ensures)
+number : (c : After-check-c) → checked catalogue c.format_for-f.result
+    (lending c) (own_tests false false false) ≡ c.check-c.result.number
+number c = sym (c.check-c.ensures.number ∙ ap (λ (o : Own). checked catalogue c.format_for-f.result
+    (lending c) (own o)) c.none.ensures)
 
 pub check-c-requires : goal.check-c-requires
 check-c-requires c = fit_for _ c.format_for-f.ensures
 
 pub returns-then-c-ne0 : goal.returns-then-c-ne0
 returns-then-c-ne0 c =
-    call_refused (lending (goal.at.returns-then-c-ne0 c).After-check-c) _ (plan (goal.at.returns-then-c-ne0 c).After-check-c)
-    c.format_for-f.ensures (number (goal.at.returns-then-c-ne0 c).After-check-c) c.if-c-ne0.true c.says.ensures
+    let here = goal.at.returns-then-c-ne0 c in
+    call_refused (lending here.After-check-c) _ (plan here.After-check-c)
+    c.format_for-f.ensures (number here.After-check-c) c.if-c-ne0.true c.says.ensures
 
 pub transpose_words_checked-requires : goal.transpose_words_checked-requires
 transpose_words_checked-requires c = record {
@@ -46,6 +47,7 @@ transpose_words_checked-requires c = record {
 
 pub returns : goal.returns
 returns c =
-    call_made (lending (goal.at.returns c).After-check-c) _ (plan (goal.at.returns c).After-check-c) c.format_for-f.ensures
-    (number (goal.at.returns c).After-check-c) c.if-c-ne0.false refl
+    let here = goal.at.returns c in
+    call_made (lending here.After-check-c) _ (plan here.After-check-c) c.format_for-f.ensures
+    (number here.After-check-c) c.if-c-ne0.false refl
     c.transpose_words_checked.ensures

@@ -9,7 +9,6 @@ use Rattle.kill_ring.specs.Calls as rings
 use Rattle.key_model.specs.Stands.{stands_for}
 use Rattle.key_model.specs.Own.{key_own}
 use Rattle.key_calls.proofs.Numbers.{by_ring, by_checks, fit, passed, does}
--- ---- where the ring's checks have passed, and the others are made
 use Rattle.key_calls.proofs.key.Goals as goal
 use Rattle.key_calls.proofs.key.Goals.{After-check-c-2, Start}
 
@@ -20,6 +19,7 @@ lending s = let a = s.args in lent a.text.now a.records.now a.texts.now a.line a
 abbrev given : Start → rings.Lent
 given s = let a = s.args in rings.lent a.slots.now a.lens.now a.ring
 
+-- ---- where the ring's checks have passed, and the others are made
 sound : (c : After-check-c-2) → rings.checked catalogue (let a = c.args in rings.lent a.slots.now a.lens.now a.ring) false false ≡ 0
 sound c = sym c.refusal-k.ensures ∙ c.if-k-ne0.false
 
@@ -36,11 +36,12 @@ check-c-requires c = fit_for _ c.format_for-f.ensures
 
 pub returns-then-k-ne0 : goal.returns-then-k-ne0
 returns-then-k-ne0 c =
-    by_ring c.args.key.now (lending (goal.at.returns-then-k-ne0 c).Start) (given (goal.at.returns-then-k-ne0 c).Start)
+    let here = goal.at.returns-then-k-ne0 c in
+    by_ring c.args.key.now (lending here.Start) (given here.Start)
     c.format_for-f.ensures c.press_of-p.ensures
     c.is_foreign_key-foreign.ensures
     (c.check-c.ensures.number
-    ∙ ap (checked catalogue c.format_for-f.result (lending (goal.at.returns-then-k-ne0 c).Start)) c.only_foreign.ensures)
+    ∙ ap (checked catalogue c.format_for-f.result (lending here.Start)) c.only_foreign.ensures)
     c.refusal-k.ensures c.if-k-ne0.true c.lower.ensures c.says.ensures
 
 pub check-c-requires-2 : goal.check-c-requires-2
@@ -48,28 +49,32 @@ check-c-requires-2 c = fit_for _ c.format_for-f.ensures
 
 pub returns-then-c-ne0 : goal.returns-then-c-ne0
 returns-then-c-ne0 c =
-    by_checks c.args.key.now (lending (goal.at.returns-then-c-ne0 c).Start) (given (goal.at.returns-then-c-ne0 c).Start)
+    let here = goal.at.returns-then-c-ne0 c in
+    by_checks c.args.key.now (lending here.Start) (given here.Start)
     c.format_for-f.ensures c.press_of-p.ensures
-    c.is_foreign_key-foreign.ensures (sound (goal.at.returns-then-c-ne0 c).After-check-c-2)
-    (number (goal.at.returns-then-c-ne0 c).After-check-c-2) c.if-c-ne0.true c.says-then-c-ne0.ensures
+    c.is_foreign_key-foreign.ensures (sound here.After-check-c-2)
+    (number here.After-check-c-2) c.if-c-ne0.true c.says-then-c-ne0.ensures
 
 pub key_checked-requires : goal.key_checked-requires
-key_checked-requires c = record {
-  passed = passed c.args.key.now (lending (goal.at.key_checked-requires c).Start) (given (goal.at.key_checked-requires c).Start)
-      c.format_for-f.ensures c.press_of-p.ensures
-      c.is_foreign_key-foreign.ensures (sound (goal.at.key_checked-requires c).After-check-c-2)
-      (number (goal.at.key_checked-requires c).After-check-c-2) c.if-c-ne0.false
-      (c.check-c-2.ensures.ready c.if-c-ne0.false) _
-      (newest_last catalogue c.format_for-f.result _ _ (c.check-c-2.ensures.newest c.if-c-ne0.false));
-  p_value = fit c.args.key.now (lending (goal.at.key_checked-requires c).Start) (given (goal.at.key_checked-requires c).Start)
-      c.format_for-f.ensures c.press_of-p.ensures
-      c.is_foreign_key-foreign.ensures (sound (goal.at.key_checked-requires c).After-check-c-2)
-      (number (goal.at.key_checked-requires c).After-check-c-2) c.if-c-ne0.false;
-}
+key_checked-requires c =
+    let here = goal.at.key_checked-requires c in
+    record {
+      passed = passed c.args.key.now (lending here.Start) (given here.Start)
+          c.format_for-f.ensures c.press_of-p.ensures
+          c.is_foreign_key-foreign.ensures (sound here.After-check-c-2)
+          (number here.After-check-c-2) c.if-c-ne0.false
+          (c.check-c-2.ensures.ready c.if-c-ne0.false) _
+          (newest_last catalogue c.format_for-f.result _ _ (c.check-c-2.ensures.newest c.if-c-ne0.false));
+      p_value = fit c.args.key.now (lending here.Start) (given here.Start)
+          c.format_for-f.ensures c.press_of-p.ensures
+          c.is_foreign_key-foreign.ensures (sound here.After-check-c-2)
+          (number here.After-check-c-2) c.if-c-ne0.false;
+    }
 
 pub returns : goal.returns
 returns c =
-    does c.args.key.now (lending (goal.at.returns c).Start) (given (goal.at.returns c).Start) c.format_for-f.ensures c.press_of-p.ensures
-    c.is_foreign_key-foreign.ensures (sound (goal.at.returns c).After-check-c-2) (number (goal.at.returns c).After-check-c-2)
+    let here = goal.at.returns c in
+    does c.args.key.now (lending here.Start) (given here.Start) c.format_for-f.ensures c.press_of-p.ensures
+    c.is_foreign_key-foreign.ensures (sound here.After-check-c-2) (number here.After-check-c-2)
     c.if-c-ne0.false
     c.key_checked.ensures

@@ -34,11 +34,13 @@ pub move_key-requires : goal.move_key-requires
 move_key-requires c = passed (goal.at.move_key-requires c).Start c.in-Move.is
 
 pub edit_key-requires : goal.edit_key-requires
-edit_key-requires c = record {
-  passed = passed (goal.at.edit_key-requires c).Start c.in-Edit.is;
-  k_value = fit
-      (goal.at.edit_key-requires c).Start c.in-Edit.is;
-}
+edit_key-requires c =
+    let here = goal.at.edit_key-requires c in
+    record {
+      passed = passed here.Start c.in-Edit.is;
+      k_value = fit
+          here.Start c.in-Edit.is;
+    }
 
 pub undo_key-requires : goal.undo_key-requires
 undo_key-requires c = passed (goal.at.undo_key-requires c).Start c.in-Undo.is
@@ -54,8 +56,9 @@ yank_pop_key-requires c = passed (goal.at.yank_pop_key-requires c).Start c.in-Ya
 
 pub returns-in-Unbound : goal.returns-in-Unbound
 returns-in-Unbound c =
-    does (goal.at.returns-in-Unbound c).Start c.in-Unbound.is
-    (unbound_does c.args.f (lending (goal.at.returns-in-Unbound c).Start) (given (goal.at.returns-in-Unbound c).Start) c.says.ensures)
+    let here = goal.at.returns-in-Unbound c in
+    does here.Start c.in-Unbound.is
+    (unbound_does c.args.f (lending here.Start) (given here.Start) c.says.ensures)
 
 pub returns-in-Move : goal.returns-in-Move
 returns-in-Move c = does (goal.at.returns-in-Move c).Start c.in-Move.is c.move_key.ensures

@@ -25,18 +25,18 @@ single s = is_single catalogue (clusters_of catalogue s)
 
 same-part : (s : Start) → let a = s.args in part (text_of (lending s)) a.from a.to ≡ take (a.to - a.from) (drop a.from a.text.now)
 same-part s = let a = s.args in raw_part a.text.now a.line.len a.from a.to
-    (within a.f (lending s) s.requires.ready a.from a.to s.requires.fact)
+    (within a.f (lending s) s.requires.ready a.from a.to s.requires.in_text)
 
 cut-text : (s : Start) → let a = s.args in is_text catalogue (take (a.to - a.from) (drop a.from a.text.now)) ≡ true
 cut-text s = let a = s.args in
-    ap (is_text catalogue) (sym (same-part s)) ∙ part-text catalogue (text_of (lending s)) a.from a.to s.requires.fact s.requires.ready.text
+    ap (is_text catalogue) (sym (same-part s)) ∙ part-text catalogue (text_of (lending s)) a.from a.to s.requires.in_text s.requires.ready.text
 
 pub slice_bounds-is_single-end : goal.slice_bounds-is_single-end
 slice_bounds-is_single-end c =
     omega (
       arith,
       within c.args.f (lending (goal.at.slice_bounds-is_single-end c).Start) c.requires.ready c.args.from c.args.to
-          c.requires.fact,
+          c.requires.in_text,
       c.requires.ready.used,
     )
 
@@ -46,12 +46,14 @@ is_single-joins-requires c = cut-text (goal.at.is_single-joins-requires c).Start
 pub room_cut-b-requires : goal.room_cut-b-requires
 room_cut-b-requires c = record {
   fit = c.requires.ready.log.fit;
-  from_le_to = c.requires.fact.0;
-  in_range = in_range c.args.f (lending (goal.at.room_cut-b-requires c).Start) c.requires.ready c.args.from c.args.to c.requires.fact
+  from_le_to = c.requires.in_text.0;
+  in_range = in_range c.args.f (lending (goal.at.room_cut-b-requires c).Start) c.requires.ready c.args.from c.args.to c.requires.in_text
       (top_max c.args.f.width c.requires.ready.log.fit.width.most) _ c.room_now-a.ensures;
 }
 
 pub returns : goal.returns
-returns c = room c.args.f (lending (goal.at.returns c).Start) c.requires.ready c.args.from c.args.to c.requires.fact
+returns c =
+    let here = goal.at.returns c in
+    room c.args.f (lending here.Start) c.requires.ready c.args.from c.args.to c.requires.in_text
     (top_max c.args.f.width c.requires.ready.log.fit.width.most) _ c.room_now-a.ensures _
-    (c.is_single-joins.ensures ∙ ap single (sym (same-part (goal.at.returns c).Start))) _ c.room_cut-b.ensures
+    (c.is_single-joins.ensures ∙ ap single (sym (same-part here.Start))) _ c.room_cut-b.ensures

@@ -12,7 +12,6 @@ use Rattle.edit.proofs.Parts.{raw_part}
 use Rattle.kill_ring.specs.Calls as rings
 use Rattle.key_kill.proofs.CutRoom.{within, no_room, roomy}
 use Rattle.key_kill.proofs.Both.{ten, eleven, both-done}
--- ---- where there is room: the cut can not be refused any more
 use Rattle.key_kill.proofs.cut_to_ring.Goals as goal
 use Rattle.key_kill.proofs.cut_to_ring.Goals.{Else-not-cut_fits, Start}
 
@@ -32,24 +31,26 @@ cutting-out s = let a = s.args in
     let l = lending s in
     edited catalogue a.f (sizes_of l) (length l.text) (once (cutting a.from a.to) a.from) (state_of catalogue a.f l)
 
+-- ---- where there is room: the cut can not be refused any more
 made : (c : Else-not-cut_fits) → (let a = c.args in let l = (let a = c.args in lent a.text.now a.records.now a.texts.now a.line a.log) in
     edited catalogue a.f (sizes_of l) (length l.text) (once (cutting a.from a.to) a.from) (state_of catalogue a.f l)) ≡ answered 0 0 0
     (planned catalogue (once (cutting c.args.from c.args.to)
     c.args.from) (state_of catalogue c.args.f (let a = c.args in lent a.text.now a.records.now a.texts.now a.line a.log)))
 made c = let a = c.args in
-    roomy a.f (let a = c.args in lent a.text.now a.records.now a.texts.now a.line a.log) c.requires.ready a.from a.to c.requires.fact
+    roomy a.f (let a = c.args in lent a.text.now a.records.now a.texts.now a.line a.log) c.requires.ready a.from a.to c.requires.in_text
     (sym c.cut_fits.ensures ∙ c.if-not-cut_fits.false)
 
 -- what is cut, as it is lent from the buffer
 lent-part : (s : Start) → let a = s.args in take (a.to - a.from) (drop a.from a.text.now) ≡ cut s
 lent-part s = let a = s.args in sym (raw_part a.text.now a.line.len a.from a.to
-    (within a.f (lending s) s.requires.ready a.from a.to s.requires.fact))
+    (within a.f (lending s) s.requires.ready a.from a.to s.requires.in_text))
 
 pub returns-then-not-cut_fits : goal.returns-then-not-cut_fits
 returns-then-not-cut_fits c =
-    ten c.args.f (lending (goal.at.returns-then-not-cut_fits c).Start) (given (goal.at.returns-then-not-cut_fits c).Start) c.args.m
-    (cut (goal.at.returns-then-not-cut_fits c).Start) (cutting-out (goal.at.returns-then-not-cut_fits c).Start)
-    (no_room c.args.f (lending (goal.at.returns-then-not-cut_fits c).Start) c.requires.ready c.args.from c.args.to c.requires.fact
+    let here = goal.at.returns-then-not-cut_fits c in
+    ten c.args.f (lending here.Start) (given here.Start) c.args.m
+    (cut here.Start) (cutting-out here.Start)
+    (no_room c.args.f (lending here.Start) c.requires.ready c.args.from c.args.to c.requires.in_text
     (sym c.cut_fits.ensures ∙ c.if-not-cut_fits.true)) c.says.ensures
 
 pub slice_bounds-kill_checked-end : goal.slice_bounds-kill_checked-end
@@ -57,22 +58,23 @@ slice_bounds-kill_checked-end c =
     omega (
       arith,
       within c.args.f (lending (goal.at.slice_bounds-kill_checked-end c).Start) c.requires.ready c.args.from c.args.to
-          c.requires.fact,
+          c.requires.in_text,
       c.requires.ready.used,
     )
 
 pub returns-then-answer-ne0 : goal.returns-then-answer-ne0
 returns-then-answer-ne0 c =
-    eleven c.args.f (lending (goal.at.returns-then-answer-ne0 c).Start) (given (goal.at.returns-then-answer-ne0 c).Start) c.args.m
-    (cut (goal.at.returns-then-answer-ne0 c).Start) (cutting-out (goal.at.returns-then-answer-ne0 c).Start) _
-    (made (goal.at.returns-then-answer-ne0 c).Else-not-cut_fits) _ (lent-part (goal.at.returns-then-answer-ne0 c).Start)
+    let here = goal.at.returns-then-answer-ne0 c in
+    eleven c.args.f (lending here.Start) (given here.Start) c.args.m
+    (cut here.Start) (cutting-out here.Start) _
+    (made here.Else-not-cut_fits) _ (lent-part here.Start)
     c.kill_checked-killed.ensures c.if-answer-ne0.true c.says-then-answer-ne0.ensures
 
 pub cut_out-a-requires : goal.cut_out-a-requires
 cut_out-a-requires c = record {
   fit = c.requires.ready.log.fit;
   ready = c.requires.ready;
-  fact = c.requires.fact;
+  in_text = c.requires.in_text;
   last_at = (λ e. c.requires.last_at);
 }
 
@@ -84,6 +86,7 @@ shape_of-lens c = c.kill_checked-killed.auto.lens
 
 pub returns : goal.returns
 returns c =
-    both-done c.args.f (lending (goal.at.returns c).Start) (given (goal.at.returns c).Start) c.args.m (cut (goal.at.returns c).Start)
-    (cutting-out (goal.at.returns c).Start) _ (made (goal.at.returns c).Else-not-cut_fits) _ (lent-part (goal.at.returns c).Start)
+    let here = goal.at.returns c in
+    both-done c.args.f (lending here.Start) (given here.Start) c.args.m (cut here.Start)
+    (cutting-out here.Start) _ (made here.Else-not-cut_fits) _ (lent-part here.Start)
     c.kill_checked-killed.ensures c.if-answer-ne0.false c.cut_out-a.ensures c.with_ring.ensures

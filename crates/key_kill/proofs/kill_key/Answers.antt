@@ -11,7 +11,6 @@ use Rattle.edit_kill.proofs.Ranges.{kill_in}
 use Rattle.kill_ring.specs.Calls as rings
 use Rattle.key_model.specs.Stands.{movement_for}
 use Rattle.key_kill.proofs.Kills.{kill_does, nothing_does}
--- ---- the range
 use Rattle.key_kill.proofs.kill_key.Goals as goal
 use Rattle.key_kill.proofs.kill_key.Goals.{After-kill_range-r, Start}
 
@@ -28,6 +27,7 @@ inside s = cursor_in s.args.f (lending s) s.requires.ready
 is-valid : (s : Start) → valid (text_of (lending s)) ≡ true
 is-valid s = text-valid catalogue (text_of (lending s)) s.requires.ready.text
 
+-- ---- the range
 ranged : (c : After-kill_range-r) → let l = (let a = c.args in lent a.text.now a.records.now a.texts.now a.line a.log) in
     kill_range catalogue (text_of l) l.line.cursor (movement_for c.args.k) ≡ c.kill_range-r.result
 ranged c = let l = (let a = c.args in lent a.text.now a.records.now a.texts.now a.line a.log) in
@@ -37,32 +37,37 @@ pub slice_bounds-kill_range-end-2 : goal.slice_bounds-kill_range-end-2
 slice_bounds-kill_range-end-2 c = sym (length-take-le _ _ c.requires.ready.used)
 
 pub kill_range-r-requires : goal.kill_range-r-requires
-kill_range-r-requires c = (
-  is-valid (goal.at.kill_range-r-requires c).Start,
-  (inside (goal.at.kill_range-r-requires c).Start).2,
-  (inside (goal.at.kill_range-r-requires c).Start).1,
-)
+kill_range-r-requires c =
+    let here = goal.at.kill_range-r-requires c in (
+      is-valid here.Start,
+      (inside here.Start).2,
+      (inside here.Start).1,
+    )
 
 pub cut_to_ring-requires : goal.cut_to_ring-requires
-cut_to_ring-requires c = record {
-  ready = c.requires.ready;
-  last_at = c.requires.newest;
-  false_value = c.requires.ring;
-  fact = kill_in catalogue (text_of (lending (goal.at.cut_to_ring-requires c).Start)) (is-valid (goal.at.cut_to_ring-requires c).Start)
-      c.in-Places.a c.in-Places.b
-      c.args.line.cursor (inside (goal.at.cut_to_ring-requires c).Start).2 (inside (goal.at.cut_to_ring-requires c).Start).1
-      (movement_for c.args.k)
-      (ranged (goal.at.cut_to_ring-requires c).After-kill_range-r ∙ c.in-Places.is);
-}
+cut_to_ring-requires c =
+    let here = goal.at.cut_to_ring-requires c in
+    record {
+      ready = c.requires.ready;
+      last_at = c.requires.newest;
+      false_value = c.requires.ring;
+      in_text = kill_in catalogue (text_of (lending here.Start)) (is-valid here.Start)
+          c.in-Places.a c.in-Places.b
+          c.args.line.cursor (inside here.Start).2 (inside here.Start).1
+          (movement_for c.args.k)
+          (ranged here.After-kill_range-r ∙ c.in-Places.is);
+    }
 
 pub returns-in-Places : goal.returns-in-Places
 returns-in-Places c =
-    kill_does c.args.f (lending (goal.at.returns-in-Places c).Start) (given (goal.at.returns-in-Places c).Start) c.args.k c.args.last
+    let here = goal.at.returns-in-Places c in
+    kill_does c.args.f (lending here.Start) (given here.Start) c.args.k c.args.last
     c.requires c.in-Places.a c.in-Places.b
-    (ranged (goal.at.returns-in-Places c).After-kill_range-r ∙ c.in-Places.is) _ c.mode_for.ensures c.cut_to_ring.ensures
+    (ranged here.After-kill_range-r ∙ c.in-Places.is) _ c.mode_for.ensures c.cut_to_ring.ensures
 
 pub returns-in-Nowhere : goal.returns-in-Nowhere
 returns-in-Nowhere c =
-    nothing_does c.args.f (lending (goal.at.returns-in-Nowhere c).Start) (given (goal.at.returns-in-Nowhere c).Start) c.args.k c.args.last
+    let here = goal.at.returns-in-Nowhere c in
+    nothing_does c.args.f (lending here.Start) (given here.Start) c.args.k c.args.last
     c.requires
-    (ranged (goal.at.returns-in-Nowhere c).After-kill_range-r ∙ c.in-Nowhere.is) c.says.ensures
+    (ranged here.After-kill_range-r ∙ c.in-Nowhere.is) c.says.ensures

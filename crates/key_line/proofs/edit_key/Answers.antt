@@ -22,6 +22,7 @@ edited_by-a-requires c = record {
 
 pub returns : goal.returns
 returns c =
-    edit_does c.args.f (lending (goal.at.returns c).Start) (ringing (goal.at.returns c).Start) c.requires.passed.ring (edit_for c.args.k)
-    (key_refuses c.args.f (lending (goal.at.returns c).Start) c.requires.passed.line c.args.k c.requires.k_value)
+    let here = goal.at.returns c in
+    edit_does c.args.f (lending here.Start) (ringing here.Start) c.requires.passed.ring (edit_for c.args.k)
+    (key_refuses c.args.f (lending here.Start) c.requires.passed.line c.args.k c.requires.k_value)
     c.edited_by-a.ensures c.reset_after.ensures

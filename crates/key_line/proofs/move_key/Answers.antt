@@ -17,7 +17,8 @@ moved_by-a-requires c = line-passed (lending (goal.at.moved_by-a-requires c).Sta
 
 pub returns : goal.returns
 returns c =
+    let here = goal.at.returns c in
     let h = c.requires in
-    let l = lending (goal.at.returns c).Start in
-    move_does c.args.f l (ringing (goal.at.returns c).Start) h.ring (move_for c.args.k) (move_refuses c.args.f l h.format h.line c.args.k)
+    let l = lending here.Start in
+    move_does c.args.f l (ringing here.Start) h.ring (move_for c.args.k) (move_refuses c.args.f l h.format h.line c.args.k)
     (move-left c.args.f l h.format h.line c.args.k h.ready c.moved_by-a.ensures) c.reset_after.ensures

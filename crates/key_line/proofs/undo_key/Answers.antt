@@ -24,8 +24,9 @@ undo_units-a-requires c =
 
 pub returns : goal.returns
 returns c =
+    let here = goal.at.returns c in
     let h = c.requires in
-    undo_does c.args.f (lending (goal.at.returns c).Start) (ringing (goal.at.returns c).Start) h.ring c.args.n
-    (undo_refuses c.args.f (lending (goal.at.returns c).Start) h.line c.args.n)
-    (undo-made c.args.f (lending (goal.at.returns c).Start) h.line c.args.n c.undo_units-a.ensures.outcome) c.undo_units-a.ensures.still
+    undo_does c.args.f (lending here.Start) (ringing here.Start) h.ring c.args.n
+    (undo_refuses c.args.f (lending here.Start) h.line c.args.n)
+    (undo-made c.args.f (lending here.Start) h.line c.args.n c.undo_units-a.ensures.outcome) c.undo_units-a.ensures.still
     c.reset_after.ensures

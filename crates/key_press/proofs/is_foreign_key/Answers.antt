@@ -20,10 +20,10 @@ abbrev bytes : Else-n-eq0 → List ℕ
 bytes c = c.args.key.now
 
 passed : (c : Else-n-eq0)
-    → ((c.loop-at.at) + c.tried_len-n.result ≤ length ((c.args.key.now)))
-    × (is_text (untried catalogue) (drop ((c.loop-at.at)) ((c.args.key.now)))
-    ≡ is_text (untried catalogue) (drop ((c.loop-at.at) + c.tried_len-n.result) ((c.args.key.now))))
-passed c = scan_on (untried catalogue) ((c.args.key.now)) ((c.loop-at.at)) c.tried_len-n.result c.loop-at.invariant.0 c.tried_len-n.ensures
+    → (c.loop-at.at + c.tried_len-n.result ≤ length c.args.key.now)
+    × (is_text (untried catalogue) (drop c.loop-at.at c.args.key.now)
+    ≡ is_text (untried catalogue) (drop (c.loop-at.at + c.tried_len-n.result) c.args.key.now))
+passed c = scan_on (untried catalogue) c.args.key.now c.loop-at.at c.tried_len-n.result c.loop-at.invariant.0 c.tried_len-n.ensures
     (omega (arith, c.if-n-eq0.false))
 
 pub loop-at-init : goal.loop-at-init

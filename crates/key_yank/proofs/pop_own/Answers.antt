@@ -10,13 +10,15 @@ ring s = rings.lent s.args.slots.now s.args.lens.now s.args.ring
 
 pub returns-then-answer-ne0 : goal.returns-then-answer-ne0
 returns-then-answer-ne0 c =
-    λ F rb tb log. none_own F (lent c.args.text.now rb tb c.args.line log) c.args.foreign (ring (goal.at.returns-then-answer-ne0 c).Start)
+    let here = goal.at.returns-then-answer-ne0 c in
+    λ F rb tb log. none_own F (lent c.args.text.now rb tb c.args.line log) c.args.foreign (ring here.Start)
     _ _ _ c.only_foreign.ensures
-    (pop_none (ring (goal.at.returns-then-answer-ne0 c).Start) c.requires c.yank_pop_checked-a.result c.yank_pop_checked-a.ensures
+    (pop_none (ring here.Start) c.requires c.yank_pop_checked-a.result c.yank_pop_checked-a.ensures
     c.if-answer-ne0.true)
 
 pub returns : goal.returns
 returns c =
-    λ F rb tb log. pop-own F (lent c.args.text.now rb tb c.args.line log) c.args.foreign (ring (goal.at.returns c).Start) c.requires
-    (pop_taken (ring (goal.at.returns c).Start) c.requires c.yank_pop_checked-a.result c.yank_pop_checked-a.ensures c.if-answer-ne0.false)
+    let here = goal.at.returns c in
+    λ F rb tb log. pop-own F (lent c.args.text.now rb tb c.args.line log) c.args.foreign (ring here.Start) c.requires
+    (pop_taken (ring here.Start) c.requires c.yank_pop_checked-a.result c.yank_pop_checked-a.ensures c.if-answer-ne0.false)
     c.back.ensures c.is_split-split.ensures

@@ -10,12 +10,14 @@ ring s = rings.lent s.args.slots.now s.args.lens.now s.args.ring
 
 pub returns-then-answer-ne0 : goal.returns-then-answer-ne0
 returns-then-answer-ne0 c =
-    λ F rb tb log. none_own F (lent c.args.text.now rb tb c.args.line log) c.args.foreign (ring (goal.at.returns-then-answer-ne0 c).Start)
+    let here = goal.at.returns-then-answer-ne0 c in
+    λ F rb tb log. none_own F (lent c.args.text.now rb tb c.args.line log) c.args.foreign (ring here.Start)
     _ _ _ c.only_foreign.ensures
-    (yank_none (ring (goal.at.returns-then-answer-ne0 c).Start) c.requires c.yank_checked-a.result c.yank_checked-a.ensures
+    (yank_none (ring here.Start) c.requires c.yank_checked-a.result c.yank_checked-a.ensures
     c.if-answer-ne0.true)
 
 pub returns : goal.returns
 returns c =
-    λ F rb tb log. yank-own F (lent c.args.text.now rb tb c.args.line log) c.args.foreign (ring (goal.at.returns c).Start) c.requires
-    (yank_taken (ring (goal.at.returns c).Start) c.requires c.yank_checked-a.result c.yank_checked-a.ensures c.if-answer-ne0.false)
+    let here = goal.at.returns c in
+    λ F rb tb log. yank-own F (lent c.args.text.now rb tb c.args.line log) c.args.foreign (ring here.Start) c.requires
+    (yank_taken (ring here.Start) c.requires c.yank_checked-a.result c.yank_checked-a.ensures c.if-answer-ne0.false)

@@ -28,11 +28,12 @@ returns-then-action_breaks c = simp (
 
 pub any_foreign-requires : goal.any_foreign-requires
 any_foreign-requires c =
-    let s = sized (given (goal.at.any_foreign-requires c).Start) c.requires in
+    let here = goal.at.any_foreign-requires c in
+    let s = sized (given here.Start) c.requires in
     record {
       n_in_bounds = omega (arith, s.slots, c.if-ring.false);
-      n_in_bounds_2 = omega (arith, s.lens, c.if-ring.false);
-      n_value = all_short (given (goal.at.any_foreign-requires c).Start) s c.if-ring.false;
+      lens_in_bounds = omega (arith, s.lens, c.if-ring.false);
+      n_value = all_short (given here.Start) s c.if-ring.false;
     }
 
 pub returns : goal.returns

@@ -12,9 +12,10 @@ given c = lent c.args.slots.now c.args.lens.now c.args.ring
 
 pub returns-in_default : goal.returns-in_default
 returns-in_default c =
-    unnamed catalogue (given (goal.at.returns-in_default c).Start) c.args.text.now c.args.mode c.refusal.result _
+    let here = goal.at.returns-in_default c in
+    unnamed catalogue (given here.Start) c.args.text.now c.args.mode c.refusal.result _
     (sym c.from_code-code.ensures ∙ c.in_default.is)
-    (c.refusal.ensures ∙ ap (λ (b : Bool). checked catalogue (given (goal.at.returns-in_default c).Start) true (not b))
+    (c.refusal.ensures ∙ ap (λ (b : Bool). checked catalogue (given here.Start) true (not b))
     c.check_text.ensures)
     c.says.ensures
 

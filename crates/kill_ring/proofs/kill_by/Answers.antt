@@ -8,7 +8,6 @@ use Rattle.kill_ring.specs.Ring.{KillRing, kill_out}
 use Rattle.kill_ring.specs.Calls.{Lent, lent, checked, value_of}
 use Rattle.kill_ring.proofs.Passed.{ring-passed}
 use Rattle.kill_ring.proofs.Kills.{ringed_refused, ringed_passed}
--- the number that refusal gives
 use Rattle.kill_ring.proofs.kill_by.Goals as goal
 use Rattle.kill_ring.proofs.kill_by.Goals.{After-refusal-k, Start}
 
@@ -17,29 +16,33 @@ abbrev given : Start → Lent
 given c = lent c.args.slots.now c.args.lens.now c.args.ring
 
 abbrev number : Start → ℕ
-number c = checked catalogue ((lent c.args.slots.now c.args.lens.now c.args.ring)) false (not (is_text catalogue c.args.text.now))
+number c = checked catalogue (given c) false (not (is_text catalogue c.args.text.now))
 
 abbrev killing : Start → Outcome KillRing
-killing c = kill_out c.args.m c.args.text.now (value_of ((lent c.args.slots.now c.args.lens.now c.args.ring)))
+killing c = kill_out c.args.m c.args.text.now (value_of (given c))
 
-said : (c : After-refusal-k) → c.refusal-k.result ≡ (checked catalogue ((lent c.args.slots.now c.args.lens.now c.args.ring)) false
+-- the number that refusal gives
+said : (c : After-refusal-k) → c.refusal-k.result ≡ (checked catalogue (lent c.args.slots.now c.args.lens.now c.args.ring) false
     (not (is_text catalogue c.args.text.now)))
-said c = c.refusal-k.ensures ∙ ap (λ (b : Bool). checked catalogue ((lent c.args.slots.now c.args.lens.now c.args.ring)) false (not b))
+said c = c.refusal-k.ensures ∙ ap (λ (b : Bool). checked catalogue (lent c.args.slots.now c.args.lens.now c.args.ring) false (not b))
     c.check_text.ensures
 
 pub returns-then-k-ne0 : goal.returns-then-k-ne0
 returns-then-k-ne0 c =
-    ringed_refused (given (goal.at.returns-then-k-ne0 c).Start) c.refusal-k.result (number (goal.at.returns-then-k-ne0 c).Start)
-    (killing (goal.at.returns-then-k-ne0 c).Start) _ (said (goal.at.returns-then-k-ne0 c).After-refusal-k) c.if-k-ne0.true
+    let here = goal.at.returns-then-k-ne0 c in
+    ringed_refused (given here.Start) c.refusal-k.result (number here.Start)
+    (killing here.Start) _ (said here.After-refusal-k) c.if-k-ne0.true
     c.says.ensures
 
 pub kill_checked-requires : goal.kill_checked-requires
 kill_checked-requires c =
-    ring-passed catalogue (given (goal.at.kill_checked-requires c).Start) false (not (is_text catalogue c.args.text.now))
-    (sym (said (goal.at.kill_checked-requires c).After-refusal-k) ∙ c.if-k-ne0.false)
+    let here = goal.at.kill_checked-requires c in
+    ring-passed catalogue (given here.Start) false (not (is_text catalogue c.args.text.now))
+    (sym (said here.After-refusal-k) ∙ c.if-k-ne0.false)
 
 pub returns : goal.returns
 returns c =
-    ringed_passed (given (goal.at.returns c).Start) c.refusal-k.result (number (goal.at.returns c).Start)
-    (killing (goal.at.returns c).Start) _ _ _ (said (goal.at.returns c).After-refusal-k) c.if-k-ne0.false
+    let here = goal.at.returns c in
+    ringed_passed (given here.Start) c.refusal-k.result (number here.Start)
+    (killing here.Start) _ _ _ (said here.After-refusal-k) c.if-k-ne0.false
     c.kill_checked.ensures

@@ -11,7 +11,7 @@ abbrev given : Start → Lent
 given c = lent c.args.slots.now c.args.lens.now c.args.ring
 
 -- check 2 passes
-fine : (c : Else-over_sizes) → over_sizes ((lent c.args.slots.now c.args.lens.now c.args.ring)) ≡ false
+fine : (c : Else-over_sizes) → over_sizes (lent c.args.slots.now c.args.lens.now c.args.ring) ≡ false
 fine c = sym c.over_sizes.ensures ∙ c.if-over_sizes.false
 
 pub returns-then-over_sizes : goal.returns-then-over_sizes
@@ -21,25 +21,29 @@ returns-then-over_sizes c =
 
 pub returns-then-code : goal.returns-then-code
 returns-then-code c =
-    says-code catalogue (given (goal.at.returns-then-code c).Start) c.args.code c.args.foreign
-    (fine (goal.at.returns-then-code c).Else-over_sizes) c.if-code.true
+    let here = goal.at.returns-then-code c in
+    says-code catalogue (given here.Start) c.args.code c.args.foreign
+    (fine here.Else-over_sizes) c.if-code.true
 
 pub returns-then-foreign : goal.returns-then-foreign
 returns-then-foreign c =
-    says-foreign catalogue (given (goal.at.returns-then-foreign c).Start) c.args.code c.args.foreign
-    (fine (goal.at.returns-then-foreign c).Else-over_sizes) c.if-code.false c.if-foreign.true
+    let here = goal.at.returns-then-foreign c in
+    says-foreign catalogue (given here.Start) c.args.code c.args.foreign
+    (fine here.Else-over_sizes) c.if-code.false c.if-foreign.true
 
 pub is_damaged-requires : goal.is_damaged-requires
 is_damaged-requires c = fine (goal.at.is_damaged-requires c).Else-over_sizes
 
 pub returns-then-is_damaged : goal.returns-then-is_damaged
 returns-then-is_damaged c =
-    says-damaged catalogue (given (goal.at.returns-then-is_damaged c).Start) c.args.code c.args.foreign
-    (fine (goal.at.returns-then-is_damaged c).Else-over_sizes) c.if-code.false c.if-foreign.false
+    let here = goal.at.returns-then-is_damaged c in
+    says-damaged catalogue (given here.Start) c.args.code c.args.foreign
+    (fine here.Else-over_sizes) c.if-code.false c.if-foreign.false
     (sym c.is_damaged.ensures ∙ c.if-is_damaged.true)
 
 pub returns : goal.returns
 returns c =
-    says-passed catalogue (given (goal.at.returns c).Start) c.args.code c.args.foreign (fine (goal.at.returns c).Else-over_sizes)
+    let here = goal.at.returns c in
+    says-passed catalogue (given here.Start) c.args.code c.args.foreign (fine here.Else-over_sizes)
     c.if-code.false c.if-foreign.false
     (sym c.is_damaged.ensures ∙ c.if-is_damaged.false)

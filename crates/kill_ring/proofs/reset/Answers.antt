@@ -20,13 +20,16 @@ abbrev resetting : Start → Outcome KillRing
 resetting c = reset_out (value_of (given c))
 
 pub returns-then-k-ne0 : goal.returns-then-k-ne0
-returns-then-k-ne0 c = c.says.ensures
-    ∙ left-refused c.args.ring c.refusal-k.result (number (goal.at.returns-then-k-ne0 c).Start)
-    (resetting (goal.at.returns-then-k-ne0 c).Start) c.refusal-k.ensures
+returns-then-k-ne0 c =
+    let here = goal.at.returns-then-k-ne0 c in
+    c.says.ensures
+    ∙ left-refused c.args.ring c.refusal-k.result (number here.Start)
+    (resetting here.Start) c.refusal-k.ensures
     c.if-k-ne0.true
 
 pub returns : goal.returns
 returns c =
-    left_passed c.args.ring c.refusal-k.result (number (goal.at.returns c).Start) (resetting (goal.at.returns c).Start) _
+    let here = goal.at.returns c in
+    left_passed c.args.ring c.refusal-k.result (number here.Start) (resetting here.Start) _
     c.refusal-k.ensures
     c.if-k-ne0.false c.reset_checked.ensures

@@ -7,7 +7,6 @@ use Rattle.kill_ring.specs.Calls.{Lent, lent}
 use Rattle.kill_ring.proofs.Passed.{Ready, passed}
 use Rattle.kill_ring.proofs.Value.{some_of, index_in}
 use Rattle.kill_ring.proofs.Answers.{yank_none, yank_some}
--- there are slots, and the index is one of them
 use Rattle.kill_ring.proofs.yank_checked.Goals as goal
 use Rattle.kill_ring.proofs.yank_checked.Goals.{Else-ring-eq0, Start}
 
@@ -16,19 +15,21 @@ abbrev given : Start → Lent
 given c = lent c.args.slots.now c.args.lens.now c.args.ring
 
 -- its checks pass
-ready : (c : Start) → Ready catalogue ((lent c.args.slots.now c.args.lens.now c.args.ring))
-ready c = passed catalogue ((lent c.args.slots.now c.args.lens.now c.args.ring)) false false c.requires
+ready : (c : Start) → Ready catalogue (given c)
+ready c = passed catalogue (given c) false false c.requires
 
+-- there are slots, and the index is one of them
 some : (c : Else-ring-eq0) → 0 < c.args.ring.count
 some c = some_of _ c.if-ring-eq0.false
 
 index : (c : Else-ring-eq0) → let g = c.args.ring in g.index < g.count
-index c = index_in catalogue ((lent c.args.slots.now c.args.lens.now c.args.ring))
-    ((passed catalogue ((lent c.args.slots.now c.args.lens.now c.args.ring)) false false c.requires)) ((some_of _ c.if-ring-eq0.false))
+index c = index_in catalogue (lent c.args.slots.now c.args.lens.now c.args.ring)
+    (passed catalogue (lent c.args.slots.now c.args.lens.now c.args.ring) false false c.requires) (some_of _ c.if-ring-eq0.false)
 
 pub returns-then-ring-eq0 : goal.returns-then-ring-eq0
 returns-then-ring-eq0 c =
-    c.says.ensures ∙ yank_none catalogue (given (goal.at.returns-then-ring-eq0 c).Start) (ready (goal.at.returns-then-ring-eq0 c).Start)
+    let here = goal.at.returns-then-ring-eq0 c in
+    c.says.ensures ∙ yank_none catalogue (given here.Start) (ready here.Start)
     c.if-ring-eq0.true
 
 pub yanked-requires : goal.yanked-requires
@@ -36,5 +37,6 @@ yanked-requires c = let p = ready (goal.at.yanked-requires c).Start in omega (ar
 
 pub returns : goal.returns
 returns c =
-    c.yanked.ensures ∙ yank_some catalogue (given (goal.at.returns c).Start) (ready (goal.at.returns c).Start)
-    (some (goal.at.returns c).Else-ring-eq0) (index (goal.at.returns c).Else-ring-eq0)
+    let here = goal.at.returns c in
+    c.yanked.ensures ∙ yank_some catalogue (given here.Start) (ready here.Start)
+    (some here.Else-ring-eq0) (index here.Else-ring-eq0)

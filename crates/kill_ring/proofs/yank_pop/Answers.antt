@@ -20,12 +20,15 @@ abbrev popping : Start → Outcome KillRing
 popping c = yank_pop_out (value_of (given c))
 
 pub returns-then-k-ne0 : goal.returns-then-k-ne0
-returns-then-k-ne0 c = c.says.ensures
-    ∙ left-refused c.args.ring c.refusal-k.result (number (goal.at.returns-then-k-ne0 c).Start)
-    (popping (goal.at.returns-then-k-ne0 c).Start) c.refusal-k.ensures
+returns-then-k-ne0 c =
+    let here = goal.at.returns-then-k-ne0 c in
+    c.says.ensures
+    ∙ left-refused c.args.ring c.refusal-k.result (number here.Start)
+    (popping here.Start) c.refusal-k.ensures
     c.if-k-ne0.true
 
 pub returns : goal.returns
 returns c =
-    left_passed c.args.ring c.refusal-k.result (number (goal.at.returns c).Start) (popping (goal.at.returns c).Start) _ c.refusal-k.ensures
+    let here = goal.at.returns c in
+    left_passed c.args.ring c.refusal-k.result (number here.Start) (popping here.Start) _ c.refusal-k.ensures
     c.if-k-ne0.false c.yank_pop_checked.ensures

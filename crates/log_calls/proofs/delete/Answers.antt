@@ -28,28 +28,30 @@ abbrev recorded : After-check-c → List Change → List Change
 recorded c = record_delete catalogue c.args.idx c.args.buf.now
 
 number : (c : After-check-c)
-    → checked catalogue ((c.format_for-f.result)) ((lent c.args.records.now c.args.texts.now c.args.log))
+    → checked catalogue c.format_for-f.result (lending c)
     (not (is_text catalogue c.args.buf.now)) ≡ c.check-c.result.number
-number c = sym (c.check-c.ensures.number ∙ ap (λ (b : Bool). checked catalogue ((c.format_for-f.result))
-    ((lent c.args.records.now c.args.texts.now c.args.log)) (not b)) c.check_text.ensures)
+number c = sym (c.check-c.ensures.number ∙ ap (λ (b : Bool). checked catalogue c.format_for-f.result
+    (lending c) (not b)) c.check_text.ensures)
 
 is-text : (c : Else-c-ne0) → is_text catalogue c.args.buf.now ≡ true
-is-text c = not-false _ (own-passed ((c.format_for-f.result)) ((lent c.args.records.now c.args.texts.now c.args.log)) _
-    ((sym (c.check-c.ensures.number ∙ ap (λ (b : Bool). checked catalogue ((c.format_for-f.result))
-    ((lent c.args.records.now c.args.texts.now c.args.log)) (not b)) c.check_text.ensures)) ∙ c.if-c-ne0.false))
+is-text c = not-false _ (own-passed c.format_for-f.result (lent c.args.records.now c.args.texts.now c.args.log) _
+    ((sym (c.check-c.ensures.number ∙ ap (λ (b : Bool). checked catalogue c.format_for-f.result
+    (lent c.args.records.now c.args.texts.now c.args.log) (not b)) c.check_text.ensures)) ∙ c.if-c-ne0.false))
 
 pub check-c-requires : goal.check-c-requires
 check-c-requires c = fit_for _ c.format_for-f.ensures
 
 pub returns-then-c-ne0 : goal.returns-then-c-ne0
 returns-then-c-ne0 c =
-    call_refused (lending (goal.at.returns-then-c-ne0 c).After-check-c) _ (recorded (goal.at.returns-then-c-ne0 c).After-check-c)
-    c.format_for-f.ensures (number (goal.at.returns-then-c-ne0 c).After-check-c) c.if-c-ne0.true c.says.ensures
+    let here = goal.at.returns-then-c-ne0 c in
+    call_refused (lending here.After-check-c) _ (recorded here.After-check-c)
+    c.format_for-f.ensures (number here.After-check-c) c.if-c-ne0.true c.says.ensures
 
 pub returns-then-buf-eq0 : goal.returns-then-buf-eq0
 returns-then-buf-eq0 c =
-    call_dropped (lending (goal.at.returns-then-buf-eq0 c).After-check-c) _ (recorded (goal.at.returns-then-buf-eq0 c).After-check-c)
-    c.format_for-f.ensures (number (goal.at.returns-then-buf-eq0 c).After-check-c) c.if-c-ne0.false
+    let here = goal.at.returns-then-buf-eq0 c in
+    call_dropped (lending here.After-check-c) _ (recorded here.After-check-c)
+    c.format_for-f.ensures (number here.After-check-c) c.if-c-ne0.false
     (c.check-c.ensures.ready c.if-c-ne0.false) (delete_none c.args.idx _ catalogue c.args.buf.now c.if-buf-eq0.true)
     (c.says-then-buf-eq0.ensures ∙ ap (says 0) c.drop_redo.ensures)
 
@@ -57,19 +59,22 @@ pub is_single-requires : goal.is_single-requires
 is_single-requires c = is-text (goal.at.is_single-requires c).Else-c-ne0
 
 pub record-requires : goal.record-requires
-record-requires c = record {
-  fit = fit_for _ c.format_for-f.ensures;
-  ready = c.check-c.ensures.ready c.if-c-ne0.false;
-  last_at = (λ e. newest_last catalogue (format (goal.at.record-requires c).After-check-c) _ _ (c.check-c.ensures.newest c.if-c-ne0.false));
-  numbered = a_delete c.args.idx c.args.buf.now;
-  value = is-text (goal.at.record-requires c).Else-c-ne0;
-}
+record-requires c =
+    let here = goal.at.record-requires c in
+    record {
+      fit = fit_for _ c.format_for-f.ensures;
+      ready = c.check-c.ensures.ready c.if-c-ne0.false;
+      last_at = (λ e. newest_last catalogue (format here.After-check-c) _ _ (c.check-c.ensures.newest c.if-c-ne0.false));
+      numbered = a_delete c.args.idx c.args.buf.now;
+      ok = is-text here.Else-c-ne0;
+    }
 
 pub returns : goal.returns
 returns c =
+    let here = goal.at.returns c in
     let s = c.args.buf.now in
-    let u = (value_of catalogue (format (goal.at.returns c).After-check-c) (lending (goal.at.returns c).After-check-c)).undo in
-    call_recorded (lending (goal.at.returns c).After-check-c) _ (recorded (goal.at.returns c).After-check-c) c.format_for-f.ensures
-    (number (goal.at.returns c).After-check-c) c.if-c-ne0.false
+    let u = (value_of catalogue (format here.After-check-c) (lending here.After-check-c)).undo in
+    call_recorded (lending here.After-check-c) _ (recorded here.After-check-c) c.format_for-f.ensures
+    (number here.After-check-c) c.if-c-ne0.false
     (ap (λ (b : Bool). note b (delete c.args.idx s) u) c.is_single.ensures
     ∙ delete_some c.args.idx u catalogue s (omega (arith, c.if-buf-eq0.false))) c.record.ensures

@@ -31,21 +31,21 @@ abbrev recorded : After-check-c → List Change → List Change
 recorded c = record_insert catalogue c.args.idx c.args.ch
 
 number : (c : After-check-c)
-    → checked catalogue ((c.format_for-f.result)) ((lent c.args.records.now c.args.texts.now c.args.log))
+    → checked catalogue c.format_for-f.result (lending c)
     (not (is_char catalogue c.args.ch)) ≡ c.check-c.result.number
-number c = sym (c.check-c.ensures.number ∙ ap (λ (b : Bool). checked catalogue ((c.format_for-f.result))
-    ((lent c.args.records.now c.args.texts.now c.args.log)) (not b)) c.check_char.ensures)
+number c = sym (c.check-c.ensures.number ∙ ap (λ (b : Bool). checked catalogue c.format_for-f.result
+    (lending c) (not b)) c.check_char.ensures)
 
 is-char : (c : Else-c-ne0) → is_char catalogue c.args.ch ≡ true
-is-char c = not-false _ (own-passed ((c.format_for-f.result)) ((lent c.args.records.now c.args.texts.now c.args.log)) _
-    ((sym (c.check-c.ensures.number ∙ ap (λ (b : Bool). checked catalogue ((c.format_for-f.result))
-    ((lent c.args.records.now c.args.texts.now c.args.log)) (not b)) c.check_char.ensures)) ∙ c.if-c-ne0.false))
+is-char c = not-false _ (own-passed c.format_for-f.result (lent c.args.records.now c.args.texts.now c.args.log) _
+    ((sym (c.check-c.ensures.number ∙ ap (λ (b : Bool). checked catalogue c.format_for-f.result
+    (lent c.args.records.now c.args.texts.now c.args.log) (not b)) c.check_char.ensures)) ∙ c.if-c-ne0.false))
 
 -- the character's bytes
 typed : (c : After-encode_at-n) → take c.encode_at-n.result c.encode_at-n.new.out ≡ encode c.args.ch
-typed c = typed-bytes _ ((not-false _ (own-passed ((c.format_for-f.result)) ((lent c.args.records.now c.args.texts.now c.args.log)) _
-    ((sym (c.check-c.ensures.number ∙ ap (λ (b : Bool). checked catalogue ((c.format_for-f.result))
-    ((lent c.args.records.now c.args.texts.now c.args.log)) (not b)) c.check_char.ensures)) ∙ c.if-c-ne0.false)))) _ c.encode_at-n.new.out
+typed c = typed-bytes _ (not-false _ (own-passed c.format_for-f.result (lent c.args.records.now c.args.texts.now c.args.log) _
+    ((sym (c.check-c.ensures.number ∙ ap (λ (b : Bool). checked catalogue c.format_for-f.result
+    (lent c.args.records.now c.args.texts.now c.args.log) (not b)) c.check_char.ensures)) ∙ c.if-c-ne0.false))) _ c.encode_at-n.new.out
     c.encode_at-n.result (omega arith) c.encode_at-n.ensures
 
 pub check-c-requires : goal.check-c-requires
@@ -53,8 +53,9 @@ check-c-requires c = fit_for _ c.format_for-f.ensures
 
 pub returns-then-c-ne0 : goal.returns-then-c-ne0
 returns-then-c-ne0 c =
-    call_refused (lending (goal.at.returns-then-c-ne0 c).After-check-c) _ (recorded (goal.at.returns-then-c-ne0 c).After-check-c)
-    c.format_for-f.ensures (number (goal.at.returns-then-c-ne0 c).After-check-c) c.if-c-ne0.true c.says.ensures
+    let here = goal.at.returns-then-c-ne0 c in
+    call_refused (lending here.After-check-c) _ (recorded here.After-check-c)
+    c.format_for-f.ensures (number here.After-check-c) c.if-c-ne0.true c.says.ensures
 
 pub slice_bounds-buf-end : goal.slice_bounds-buf-end
 slice_bounds-buf-end c =
@@ -68,17 +69,20 @@ slice_bounds-s-end c = sym
     c.encode_at-n.ensures))
 
 pub record-requires : goal.record-requires
-record-requires c = record {
-  fit = fit_for _ c.format_for-f.ensures;
-  ready = c.check-c.ensures.ready c.if-c-ne0.false;
-  last_at = (λ e. newest_last catalogue (format (goal.at.record-requires c).After-check-c) _ _ (c.check-c.ensures.newest c.if-c-ne0.false));
-  numbered = an_insert c.args.idx _;
-  value = ap (is_text catalogue) (typed (goal.at.record-requires c).After-encode_at-n) ∙ typed-text _
-      (is-char (goal.at.record-requires c).Else-c-ne0);
-}
+record-requires c =
+    let here = goal.at.record-requires c in
+    record {
+      fit = fit_for _ c.format_for-f.ensures;
+      ready = c.check-c.ensures.ready c.if-c-ne0.false;
+      last_at = (λ e. newest_last catalogue (format here.After-check-c) _ _ (c.check-c.ensures.newest c.if-c-ne0.false));
+      numbered = an_insert c.args.idx _;
+      ok = ap (is_text catalogue) (typed here.After-encode_at-n) ∙ typed-text _
+          (is-char here.Else-c-ne0);
+    }
 
 pub returns : goal.returns
 returns c =
-    call_recorded (lending (goal.at.returns c).After-check-c) _ (recorded (goal.at.returns c).After-check-c) c.format_for-f.ensures
-    (number (goal.at.returns c).After-check-c) c.if-c-ne0.false
-    (insert-is c.args.idx c.args.ch _ _ _ c.is_alnum.ensures (typed (goal.at.returns c).After-encode_at-n)) c.record.ensures
+    let here = goal.at.returns c in
+    call_recorded (lending here.After-check-c) _ (recorded here.After-check-c) c.format_for-f.ensures
+    (number here.After-check-c) c.if-c-ne0.false
+    (insert-is c.args.idx c.args.ch _ _ _ c.is_alnum.ensures (typed here.After-encode_at-n)) c.record.ensures

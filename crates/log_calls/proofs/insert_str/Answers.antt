@@ -28,28 +28,30 @@ abbrev recorded : After-check-c → List Change → List Change
 recorded c = record_insert_str c.args.idx c.args.buf.now
 
 number : (c : After-check-c)
-    → checked catalogue ((c.format_for-f.result)) ((lent c.args.records.now c.args.texts.now c.args.log))
+    → checked catalogue c.format_for-f.result (lending c)
     (not (is_text catalogue c.args.buf.now)) ≡ c.check-c.result.number
-number c = sym (c.check-c.ensures.number ∙ ap (λ (b : Bool). checked catalogue ((c.format_for-f.result))
-    ((lent c.args.records.now c.args.texts.now c.args.log)) (not b)) c.check_text.ensures)
+number c = sym (c.check-c.ensures.number ∙ ap (λ (b : Bool). checked catalogue c.format_for-f.result
+    (lending c) (not b)) c.check_text.ensures)
 
 is-text : (c : Else-c-ne0) → is_text catalogue c.args.buf.now ≡ true
-is-text c = not-false _ (own-passed ((c.format_for-f.result)) ((lent c.args.records.now c.args.texts.now c.args.log)) _
-    ((sym (c.check-c.ensures.number ∙ ap (λ (b : Bool). checked catalogue ((c.format_for-f.result))
-    ((lent c.args.records.now c.args.texts.now c.args.log)) (not b)) c.check_text.ensures)) ∙ c.if-c-ne0.false))
+is-text c = not-false _ (own-passed c.format_for-f.result (lent c.args.records.now c.args.texts.now c.args.log) _
+    ((sym (c.check-c.ensures.number ∙ ap (λ (b : Bool). checked catalogue c.format_for-f.result
+    (lent c.args.records.now c.args.texts.now c.args.log) (not b)) c.check_text.ensures)) ∙ c.if-c-ne0.false))
 
 pub check-c-requires : goal.check-c-requires
 check-c-requires c = fit_for _ c.format_for-f.ensures
 
 pub returns-then-c-ne0 : goal.returns-then-c-ne0
 returns-then-c-ne0 c =
-    call_refused (lending (goal.at.returns-then-c-ne0 c).After-check-c) _ (recorded (goal.at.returns-then-c-ne0 c).After-check-c)
-    c.format_for-f.ensures (number (goal.at.returns-then-c-ne0 c).After-check-c) c.if-c-ne0.true c.says.ensures
+    let here = goal.at.returns-then-c-ne0 c in
+    call_refused (lending here.After-check-c) _ (recorded here.After-check-c)
+    c.format_for-f.ensures (number here.After-check-c) c.if-c-ne0.true c.says.ensures
 
 pub returns-then-buf-eq0 : goal.returns-then-buf-eq0
 returns-then-buf-eq0 c =
-    call_dropped (lending (goal.at.returns-then-buf-eq0 c).After-check-c) _ (recorded (goal.at.returns-then-buf-eq0 c).After-check-c)
-    c.format_for-f.ensures (number (goal.at.returns-then-buf-eq0 c).After-check-c) c.if-c-ne0.false
+    let here = goal.at.returns-then-buf-eq0 c in
+    call_dropped (lending here.After-check-c) _ (recorded here.After-check-c)
+    c.format_for-f.ensures (number here.After-check-c) c.if-c-ne0.false
     (c.check-c.ensures.ready c.if-c-ne0.false) (insert_none c.args.idx _ c.args.buf.now c.if-buf-eq0.true)
     (c.says-then-buf-eq0.ensures ∙ ap (says 0) c.drop_redo.ensures)
 
@@ -59,11 +61,12 @@ record-requires c = record {
   ready = c.check-c.ensures.ready c.if-c-ne0.false;
   last_at = (λ e. never _ false e refl);
   numbered = an_insert c.args.idx c.args.buf.now;
-  value = is-text (goal.at.record-requires c).Else-c-ne0;
+  ok = is-text (goal.at.record-requires c).Else-c-ne0;
 }
 
 pub returns : goal.returns
 returns c =
-    call_recorded (lending (goal.at.returns c).After-check-c) _ (recorded (goal.at.returns c).After-check-c) c.format_for-f.ensures
-    (number (goal.at.returns c).After-check-c) c.if-c-ne0.false
+    let here = goal.at.returns c in
+    call_recorded (lending here.After-check-c) _ (recorded here.After-check-c) c.format_for-f.ensures
+    (number here.After-check-c) c.if-c-ne0.false
     (insert_some c.args.idx _ c.args.buf.now (omega (arith, c.if-buf-eq0.false))) c.record.ensures

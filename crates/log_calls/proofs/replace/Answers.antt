@@ -27,11 +27,11 @@ recorded c = record_replace c.args.idx c.args.old.now c.args.new.now
 abbrev foreign : After-check-c → Bool
 foreign c = not (is_text catalogue c.args.old.now) || not (is_text catalogue c.args.new.now)
 
-number : (c : After-check-c) → checked catalogue ((c.format_for-f.result)) ((lent c.args.records.now c.args.texts.now c.args.log))
-    ((not (is_text catalogue c.args.old.now) || not (is_text catalogue c.args.new.now))) ≡ c.check-c.result.number
+number : (c : After-check-c) → checked catalogue c.format_for-f.result (lending c)
+    (foreign c) ≡ c.check-c.result.number
 number c = sym
     (c.check-c.ensures.number
-    ∙ ap₂ (λ (a b : Bool). checked catalogue ((c.format_for-f.result)) ((lent c.args.records.now c.args.texts.now c.args.log))
+    ∙ ap₂ (λ (a b : Bool). checked catalogue c.format_for-f.result (lending c)
     (not a || not b)) c.check_text.ensures
     c.check_text-2.ensures)
 
@@ -40,27 +40,30 @@ check-c-requires c = fit_for _ c.format_for-f.ensures
 
 pub returns-then-c-ne0 : goal.returns-then-c-ne0
 returns-then-c-ne0 c =
-    call_refused (lending (goal.at.returns-then-c-ne0 c).After-check-c) _ (recorded (goal.at.returns-then-c-ne0 c).After-check-c)
-    c.format_for-f.ensures (number (goal.at.returns-then-c-ne0 c).After-check-c)
+    let here = goal.at.returns-then-c-ne0 c in
+    call_refused (lending here.After-check-c) _ (recorded here.After-check-c)
+    c.format_for-f.ensures (number here.After-check-c)
     c.if-c-ne0.true c.says.ensures
 
 pub record-requires : goal.record-requires
 record-requires c =
+    let here = goal.at.record-requires c in
     let a = c.args in
     record {
       fit = fit_for _ c.format_for-f.ensures;
       ready = c.check-c.ensures.ready c.if-c-ne0.false;
-      last_at = (λ e. newest_last catalogue (format (goal.at.record-requires c).After-check-c) _ _
+      last_at = (λ e. newest_last catalogue (format here.After-check-c) _ _
           (c.check-c.ensures.newest c.if-c-ne0.false));
       numbered = a_replace a.idx a.old.now a.new.now;
-      value = neither (is_text catalogue a.old.now) (is_text catalogue a.new.now)
-          (own-passed (format (goal.at.record-requires c).After-check-c) (lending (goal.at.record-requires c).After-check-c)
-          (foreign (goal.at.record-requires c).After-check-c) (number (goal.at.record-requires c).After-check-c ∙ c.if-c-ne0.false));
+      ok = neither (is_text catalogue a.old.now) (is_text catalogue a.new.now)
+          (own-passed (format here.After-check-c) (lending here.After-check-c)
+          (foreign here.After-check-c) (number here.After-check-c ∙ c.if-c-ne0.false));
     }
 
 pub returns : goal.returns
 returns c =
+    let here = goal.at.returns c in
     let a = c.args in
-    call_recorded (lending (goal.at.returns c).After-check-c) _ (recorded (goal.at.returns c).After-check-c) c.format_for-f.ensures
-    (number (goal.at.returns c).After-check-c) c.if-c-ne0.false
+    call_recorded (lending here.After-check-c) _ (recorded here.After-check-c) c.format_for-f.ensures
+    (number here.After-check-c) c.if-c-ne0.false
     (replace-is a.idx a.old.now a.new.now _) c.record.ensures

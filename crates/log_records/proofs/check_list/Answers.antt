@@ -60,22 +60,24 @@ pub overflow_add-next : goal.overflow_add-next
 overflow_add-next c = omega (arith, (stands (goal.at.overflow_add-next c).Else-r-eq0).1)
 
 pub pass-newest-requires : goal.pass-newest-requires
-pass-newest-requires c = (
-  omega (
-    arith,
-    c.loop-at.invariant.count,
-    (stands (goal.at.pass-newest-requires c).Else-r-eq0).0,
-    (stands (goal.at.pass-newest-requires c).Else-r-eq0).1,
-  ),
-  c.loop-at.invariant.begins,
-)
+pass-newest-requires c =
+    let here = goal.at.pass-newest-requires c in (
+      omega (
+        arith,
+        c.loop-at.invariant.count,
+        (stands here.Else-r-eq0).0,
+        (stands here.Else-r-eq0).1,
+      ),
+      c.loop-at.invariant.begins,
+    )
 
 pub loop-at-smaller-then-r-le2 : goal.loop-at-smaller-then-r-le2
 loop-at-smaller-then-r-le2 c =
+    let here = goal.at.loop-at-smaller-then-r-le2 c in
     omega (
       arith,
-      (stands (goal.at.loop-at-smaller-then-r-le2 c).Else-r-eq0).0,
-      (stands (goal.at.loop-at-smaller-then-r-le2 c).Else-r-eq0).1,
+      (stands here.Else-r-eq0).0,
+      (stands here.Else-r-eq0).1,
     )
 
 pub loop-at-preserved-then-r-le2 : goal.loop-at-preserved-then-r-le2
@@ -101,15 +103,16 @@ returns-then-not-are_texts_at c =
     }
 
 pub pass-newest-requires-in-loop-at : goal.pass-newest-requires-in-loop-at
-pass-newest-requires-in-loop-at c = (
-  omega (
-    arith,
-    c.loop-at.invariant.count,
-    (stands (goal.at.pass-newest-requires-in-loop-at c).Else-r-eq0).0,
-    (stands (goal.at.pass-newest-requires-in-loop-at c).Else-r-eq0).1,
-  ),
-  c.loop-at.invariant.begins,
-)
+pass-newest-requires-in-loop-at c =
+    let here = goal.at.pass-newest-requires-in-loop-at c in (
+      omega (
+        arith,
+        c.loop-at.invariant.count,
+        (stands here.Else-r-eq0).0,
+        (stands here.Else-r-eq0).1,
+      ),
+      c.loop-at.invariant.begins,
+    )
 
 pub overflow_add-t : goal.overflow_add-t
 overflow_add-t c = omega (arith, texts-in (goal.at.overflow_add-t c).Else-not-are_texts_at)
@@ -119,7 +122,8 @@ overflow_add-t-in-loop-at c = omega (arith, texts-in (goal.at.overflow_add-t-in-
 
 pub loop-at-smaller : goal.loop-at-smaller
 loop-at-smaller c =
-    omega (arith, (stands (goal.at.loop-at-smaller c).Else-r-eq0).0, (stands (goal.at.loop-at-smaller c).Else-r-eq0).1)
+    let here = goal.at.loop-at-smaller c in
+    omega (arith, (stands here.Else-r-eq0).0, (stands here.Else-r-eq0).1)
 
 pub loop-at-preserved : goal.loop-at-preserved
 loop-at-preserved c = looks_on catalogue c.args.f c.args.records.now c.args.texts.now c.loop-at.newest c.loop-at.at c.loop-at.t

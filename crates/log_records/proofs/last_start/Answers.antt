@@ -24,7 +24,8 @@ overflow_add-at c = omega (arith, (passed (goal.at.overflow_add-at c).After-read
 
 pub loop-at-smaller : goal.loop-at-smaller
 loop-at-smaller c =
-    omega (arith, (passed (goal.at.loop-at-smaller c).After-read_record-r).0, (passed (goal.at.loop-at-smaller c).After-read_record-r).1)
+    let here = goal.at.loop-at-smaller c in
+    omega (arith, (passed here.After-read_record-r).0, (passed here.After-read_record-r).1)
 
 pub loop-at-preserved : goal.loop-at-preserved
 loop-at-preserved c =

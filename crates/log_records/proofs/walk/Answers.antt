@@ -44,7 +44,8 @@ overflow_add-count c = omega (arith, c.loop-at.invariant.1, c.loop-at-test.true)
 
 pub loop-at-smaller : goal.loop-at-smaller
 loop-at-smaller c =
-    omega (arith, (passed (goal.at.loop-at-smaller c).After-read_record-r).0, (passed (goal.at.loop-at-smaller c).After-read_record-r).1)
+    let here = goal.at.loop-at-smaller c in
+    omega (arith, (passed here.After-read_record-r).0, (passed here.After-read_record-r).1)
 
 pub loop-at-preserved : goal.loop-at-preserved
 loop-at-preserved c =

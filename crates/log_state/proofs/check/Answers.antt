@@ -46,12 +46,13 @@ returns-then-not-seen c =
 
 pub returns : goal.returns
 returns c =
+    let here = goal.at.returns c in
     let fine = sym c.over_sizes.ensures ∙ c.if-over_sizes.false in
     let sound = not-false _ c.if-not-seen.false in
     let whole = not-true _ (sym c.look-seen.ensures.sound ∙ sound) in
     record {
-      number = says-passed c.args.f (lending (goal.at.returns c).Start) c.args.foreign fine c.if-foreign.false whole;
-      ready = λ e. ready c.args.f (lending (goal.at.returns c).Start) (λ i. omega (arith, c.type_inv.records i))
+      number = says-passed c.args.f (lending here.Start) c.args.foreign fine c.if-foreign.false whole;
+      ready = λ e. ready c.args.f (lending here.Start) (λ i. omega (arith, c.type_inv.records i))
           c.requires fine whole;
       newest = λ e. c.look-seen.ensures.newest sound;
     }

@@ -1,6 +1,6 @@
 use mathlib.Core.Path.{refl, sym, ◌∙◌}
 use native.Mathlib.Omega.{arith}
-use Rattle.lists.proofs.Parts.{get_d_any}
+use Rattle.lists.proofs.Parts.{get_or_any}
 use Rattle.motion_lines.proofs.Lines.{end_last, end_here, end_on}
 use Rattle.motion_lines.proofs.end_of_line.Goals as goal
 
@@ -12,7 +12,7 @@ returns-then-s-i-eq10 c = (
   sym
       (c.loop-i.invariant.2
       ∙ end_here c.args.s.now c.loop-i.i c.loop-i-test.true
-      (get_d_any c.args.s.now c.loop-i.i 256 0 c.loop-i-test.true ∙ c.if-s-i-eq10.true)),
+      (get_or_any c.args.s.now c.loop-i.i 256 0 c.loop-i-test.true ∙ c.if-s-i-eq10.true)),
   c.loop-i.invariant.0,
   c.loop-i.invariant.1,
 )
@@ -23,7 +23,7 @@ loop-i-preserved c = (
   omega (arith, c.loop-i-test.true),
   c.loop-i.invariant.2
       ∙ end_on c.args.s.now c.loop-i.i c.loop-i-test.true
-      (λ x. c.if-s-i-eq10.false (get_d_any c.args.s.now c.loop-i.i 0 256 c.loop-i-test.true ∙ x)),
+      (λ x. c.if-s-i-eq10.false (get_or_any c.args.s.now c.loop-i.i 0 256 c.loop-i-test.true ∙ x)),
 )
 
 pub returns : goal.returns

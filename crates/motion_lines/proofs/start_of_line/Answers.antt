@@ -1,7 +1,7 @@
 use Prim.Native.Nat.{◌-◌}
 use mathlib.Core.Path.{refl, sym, ◌∙◌}
 use native.Mathlib.Omega.{arith}
-use Rattle.lists.proofs.Parts.{get_d_any}
+use Rattle.lists.proofs.Parts.{get_or_any}
 use Rattle.motion_lines.proofs.Lines.{start_first, start_here, start_back}
 use Rattle.motion_lines.proofs.start_of_line.Goals as goal
 
@@ -13,7 +13,7 @@ returns-then-s-i-eq10 c = (
   sym
       (c.loop-i.invariant.1
       ∙ start_here c.args.s.now c.loop-i.i c.loop-i-test.true
-      (get_d_any c.args.s.now (c.loop-i.i - 1) 256 0 (omega arith) ∙ c.if-s-i-eq10.true)),
+      (get_or_any c.args.s.now (c.loop-i.i - 1) 256 0 (omega arith) ∙ c.if-s-i-eq10.true)),
   c.loop-i.invariant.0,
 )
 
@@ -22,7 +22,7 @@ loop-i-preserved c = (
   omega (arith, c.loop-i.invariant.0),
   c.loop-i.invariant.1
       ∙ start_back c.args.s.now c.loop-i.i c.loop-i-test.true
-      (λ x. c.if-s-i-eq10.false (get_d_any c.args.s.now (c.loop-i.i - 1) 0 256 (omega arith) ∙ x)),
+      (λ x. c.if-s-i-eq10.false (get_or_any c.args.s.now (c.loop-i.i - 1) 0 256 (omega arith) ∙ x)),
 )
 
 pub returns : goal.returns

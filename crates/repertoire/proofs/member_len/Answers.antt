@@ -1,5 +1,5 @@
 use mathlib.Core.Path.{sym, ap, ◌∙◌}
-use Rattle.lists.proofs.Parts.{get_d_any}
+use Rattle.lists.proofs.Parts.{get_or_any}
 use Rattle.utf8.specs.Answer.{as_first}
 use Rattle.utf8.proofs.Forms.{first-end}
 use Rattle.repertoire.specs.Repertoire.{catalogue}
@@ -15,7 +15,7 @@ pub returns-then-is_plain : goal.returns-then-is_plain
 returns-then-is_plain c = let a = c.args in
     sym
     (one_at catalogue plain plain-one a.s.now a.at
-    (ap plain (get_d_any a.s.now a.at 256 0 c.if-s-at.false) ∙ sym c.is_plain.ensures ∙ c.if-is_plain.true))
+    (ap plain (get_or_any a.s.now a.at 256 0 c.if-s-at.false) ∙ sym c.is_plain.ensures ∙ c.if-is_plain.true))
 
 pub returns-then-in_repertoire : goal.returns-then-in_repertoire
 returns-then-in_repertoire c = member_in catalogue _ _ _ (sym c.decode_at-d.ensures ∙ ap as_first c.in-Char.is)

@@ -14,9 +14,9 @@ abbrev text : At-loop-end → List ℕ
 text l = l.args.s.now
 
 here : (k : After-next_cluster-k) →
-    ClusterAt catalogue ((k.args.s.now)) k.loop-end.end (first_cluster catalogue (drop k.loop-end.end ((k.args.s.now))))
+    ClusterAt catalogue (k.args.s.now) k.loop-end.end (first_cluster catalogue (drop k.loop-end.end (k.args.s.now)))
     k.next_cluster-k.result
-here k = cluster_told catalogue ((k.args.s.now)) k.loop-end.end k.next_cluster-k.result k.loop-end-test.true k.loop-end.invariant.whole
+here k = cluster_told catalogue (k.args.s.now) k.loop-end.end k.next_cluster-k.result k.loop-end-test.true k.loop-end.invariant.whole
     (k.next_cluster-k.ensures.known, k.next_cluster-k.ensures.within)
 
 pub loop-end-init : goal.loop-end-init
@@ -40,24 +40,26 @@ slice_bounds-width-end c = omega (arith, (here (goal.at.slice_bounds-width-end c
 
 pub width-n-requires : goal.width-n-requires
 width-n-requires c =
+    let here = goal.at.width-n-requires c in
     let n = c.next_cluster-k.result.len in (
       omega arith,
       omega (
         arith,
-        length-take (c.loop-end.end + n - c.loop-end.end) (drop c.loop-end.end (text (goal.at.width-n-requires c).At-loop-end)),
-        length-drop c.loop-end.end (text (goal.at.width-n-requires c).At-loop-end),
+        length-take (c.loop-end.end + n - c.loop-end.end) (drop c.loop-end.end (text here.At-loop-end)),
+        length-drop c.loop-end.end (text here.At-loop-end),
         c.requires.1,
       ),
     )
 
 pub overflow_add-columns : goal.overflow_add-columns
 overflow_add-columns c =
+    let here = goal.at.overflow_add-columns c in
     let n = c.next_cluster-k.result.len in
     omega (
       arith,
       c.width-n.ensures.1,
-      length-take (c.loop-end.end + n - c.loop-end.end) (drop c.loop-end.end (text (goal.at.overflow_add-columns c).At-loop-end)),
-      length-drop c.loop-end.end (text (goal.at.overflow_add-columns c).At-loop-end),
+      length-take (c.loop-end.end + n - c.loop-end.end) (drop c.loop-end.end (text here.At-loop-end)),
+      length-drop c.loop-end.end (text here.At-loop-end),
       c.requires.1,
       c.loop-end.invariant.narrow,
     )
@@ -91,6 +93,7 @@ loop-end-preserved c =
 
 pub returns : goal.returns
 returns c =
+    let here = goal.at.returns c in
     let a = c.args in
-    scan-stops catalogue (text (goal.at.returns c).At-loop-end) a.at c.loop-end.end c.loop-end.columns c.loop-end.invariant
-    (stops_there catalogue (text (goal.at.returns c).At-loop-end) c.loop-end.end c.loop-end.columns c.loop-end-test.false)
+    scan-stops catalogue (text here.At-loop-end) a.at c.loop-end.end c.loop-end.columns c.loop-end.invariant
+    (stops_there catalogue (text here.At-loop-end) c.loop-end.end c.loop-end.columns c.loop-end-test.false)

@@ -16,8 +16,8 @@ text s = s.args.s.now
 
 -- the cluster that stands there
 here : (k : After-next_cluster-k) →
-    ClusterAt catalogue ((k.args.s.now)) k.args.at (first_cluster catalogue (drop k.args.at ((k.args.s.now)))) k.next_cluster-k.result
-here k = cluster_told catalogue ((k.args.s.now)) k.args.at k.next_cluster-k.result k.requires.0 k.requires.2.whole
+    ClusterAt catalogue (k.args.s.now) k.args.at (first_cluster catalogue (drop k.args.at (k.args.s.now))) k.next_cluster-k.result
+here k = cluster_told catalogue (k.args.s.now) k.args.at k.next_cluster-k.result k.requires.0 k.requires.2.whole
     (k.next_cluster-k.ensures.known, k.next_cluster-k.ensures.within)
 
 pub overflow_add-end : goal.overflow_add-end

@@ -1,4 +1,3 @@
--- What `encode_at` writes lies within the text.
 use Rattle.std.proofs.Common.{arith}
 use Rattle.test_clusters.proofs.Fits.{fits}
 use Rattle.test_clusters.proofs.text_of.Goals as goal

@@ -22,6 +22,6 @@ returns c =
     let kind = (c.undo_at-p.ensures n.0 n.1 n.2).0 ∙ sym (ap (λ (r : Record). r.kind)
     (at-start c.requires.ready c.requires.last_start n.2).carries.numbers) in
     let w = newest-ended c.requires.ready n.2 c.undo_at-p.result c.undo_at-p.new.text c.undo_at-p.ensures c.undo_at-p.auto.text
-    c.requires.n_bound.0 (λ e. c.requires.fact (sym kind ∙ e))
+    c.requires.n_bound.0 (λ e. c.requires.not_end (sym kind ∙ e))
     c.answer.ensures in
     record { outcome = edited w; still = still w }

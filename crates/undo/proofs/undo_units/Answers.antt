@@ -17,7 +17,7 @@ undo_newest-requires c =
       ready = c.requires.ready;
       n_bound = (leb-true _ _ few.0, ltb-true _ _ few.1);
       last_start = c.requires.last_start;
-      fact = λ e. c.if-r-ne2.true (ap (λ (x : Record). x.kind) r ∙ e);
+      not_end = λ e. c.if-r-ne2.true (ap (λ (x : Record). x.kind) r ∙ e);
     }
 
 pub slice_bounds-write_sizes-end : goal.slice_bounds-write_sizes-end

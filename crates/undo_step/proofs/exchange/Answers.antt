@@ -46,24 +46,26 @@ returns-then-not-is_boundary-2 c =
 
 pub returns-then-text-left : goal.returns-then-text-left
 returns-then-text-left c =
+    let here = goal.at.returns-then-text-left c in
     let a = c.args in
     let h = c.if-len-end.false in
     stopped (length a.text.now) a.place a.out a.put.now (take a.len a.text.now) 9 a.text.now
     (too_long (length a.text.now) a.place a.out a.put.now (take a.len a.text.now)
-    (omega (arith, h, used (goal.at.returns-then-text-left c).Start))
-    (sym (c.is_boundary.ensures.text (is-valid (goal.at.returns-then-text-left c).Start)) ∙ c.if-not-is_boundary.false)
-    (sym (c.is_boundary-2.ensures.text (is-valid (goal.at.returns-then-text-left c).Start)) ∙ c.if-not-is_boundary-2.false)
-    (omega (arith, h, used (goal.at.returns-then-text-left c).Start, c.if-text-left.true)))
+    (omega (arith, h, used here.Start))
+    (sym (c.is_boundary.ensures.text (is-valid here.Start)) ∙ c.if-not-is_boundary.false)
+    (sym (c.is_boundary-2.ensures.text (is-valid here.Start)) ∙ c.if-not-is_boundary-2.false)
+    (omega (arith, h, used here.Start, c.if-text-left.true)))
 
 pub returns : goal.returns
 returns c =
+    let here = goal.at.returns c in
     let a = c.args in
     let h = c.if-len-end.false in
     exchanged (length a.text.now) a.place a.out a.put.now (take a.len a.text.now) a.len a.text.now c.cut_bytes.new.s
-    _ (used (goal.at.returns c).Start)
+    _ (used here.Start)
     (record {
-      ends = omega (arith, h, used (goal.at.returns c).Start);
-      first = sym (c.is_boundary.ensures.text (is-valid (goal.at.returns c).Start)) ∙ c.if-not-is_boundary.false;
-      last = sym (c.is_boundary-2.ensures.text (is-valid (goal.at.returns c).Start)) ∙ c.if-not-is_boundary-2.false;
-      room = omega (arith, h, used (goal.at.returns c).Start, c.if-text-left.false, c.requires.len_in_bounds.0);
+      ends = omega (arith, h, used here.Start);
+      first = sym (c.is_boundary.ensures.text (is-valid here.Start)) ∙ c.if-not-is_boundary.false;
+      last = sym (c.is_boundary-2.ensures.text (is-valid here.Start)) ∙ c.if-not-is_boundary-2.false;
+      room = omega (arith, h, used here.Start, c.if-text-left.false, c.requires.len_in_bounds.0);
     }) c.cut_bytes.ensures c.insert_bytes.ensures

@@ -53,11 +53,12 @@ exchange-number-requires c = record {
 
 pub returns-then-number-ne0 : goal.returns-then-number-ne0
 returns-then-number-ne0 c =
+    let here = goal.at.returns-then-number-ne0 c in
     let a = c.args in
     λ F x h. stops_at a.r a.texts.now a.t a.s a.text.now c.requires.number_value.0 c.requires.number_value.1 c.if-back.out c.if-back.from
     c.if-back.to
-    c.exchange-number.result _ (inside (goal.at.returns-then-number-ne0 c).Joined-back) c.exchange-number.ensures a.back F x h
-    c.if-r-le2.false (takes-and-puts (goal.at.returns-then-number-ne0 c).Joined-back) c.if-number-ne0.true
+    c.exchange-number.result _ (inside here.Joined-back) c.exchange-number.ensures a.back F x h
+    c.if-r-le2.false (takes-and-puts here.Joined-back) c.if-number-ne0.true
 
 pub overflow_sub-result : goal.overflow_sub-result
 overflow_sub-result c =
@@ -80,8 +81,9 @@ overflow_add-result-2 c =
 
 pub returns : goal.returns
 returns c =
+    let here = goal.at.returns c in
     let a = c.args in
     λ F x h. moves a.r a.texts.now a.t a.s a.text.now c.requires.number_value.0 c.requires.number_value.1 c.if-back.out c.if-back.from
     c.if-back.to c.exchange-number.result
-    _ (inside (goal.at.returns c).Joined-back) c.exchange-number.ensures c.if-number-ne0.false a.back F x h c.if-r-le2.false
-    (takes-and-puts (goal.at.returns c).Joined-back)
+    _ (inside here.Joined-back) c.exchange-number.ensures c.if-number-ne0.false a.back F x h c.if-r-le2.false
+    (takes-and-puts here.Joined-back)

@@ -19,15 +19,15 @@ abbrev lending : Start → Lent
 lending s = lent s.args.records.now s.args.texts.now s.args.self
 
 abbrev out : Start → Outcome groups.Log
-out s = end_out s.args.f (sizes_of ((lent s.args.records.now s.args.texts.now s.args.self)))
-    (value_of catalogue s.args.f ((lent s.args.records.now s.args.texts.now s.args.self)))
+out s = end_out s.args.f (sizes_of (lending s))
+    (value_of catalogue s.args.f (lending s))
 
 -- the Begins that are dropped
 gone : (c : After-least-empty) → (c.least-empty.result ≤ c.args.newest.begins) ×
     (c.least-empty.result ≤ c.args.self.level) ×
-    Dropped c.args.f ((lent c.args.records.now c.args.texts.now c.args.self)) c.least-empty.result
+    Dropped c.args.f (lent c.args.records.now c.args.texts.now c.args.self) c.least-empty.result
     (c.args.self.level - c.least-empty.result)
-gone c = dropped c.args.f ((lent c.args.records.now c.args.texts.now c.args.self)) c.requires.ready c.args.newest c.least-empty.result
+gone c = dropped c.args.f (lent c.args.records.now c.args.texts.now c.args.self) c.requires.ready c.args.newest c.least-empty.result
     c.requires.newest_at c.least-empty.ensures
 
 pub overflow_sub-ends : goal.overflow_sub-ends
@@ -48,43 +48,49 @@ end_of-kept-requires c =
     }
 
 pub overflow_sub-records : goal.overflow_sub-records
-overflow_sub-records c = omega (
-  arith,
-  stays_within c.args.f (lending (goal.at.overflow_sub-records c).Start) c.requires.ready c.least-empty.result _
-      (gone (goal.at.overflow_sub-records c).After-least-empty).2 c.end_of-kept.result c.end_of-kept.ensures,
-  c.requires.ready.hold.room,
-)
+overflow_sub-records c =
+    let here = goal.at.overflow_sub-records c in
+    omega (
+      arith,
+      stays_within c.args.f (lending here.Start) c.requires.ready c.least-empty.result _
+          (gone here.After-least-empty).2 c.end_of-kept.result c.end_of-kept.ensures,
+      c.requires.ready.hold.room,
+    )
 
 pub returns-then-records-kept : goal.returns-then-records-kept
 returns-then-records-kept c =
-    answered_as c.args.f (lending (goal.at.returns-then-records-kept c).Start) (out (goal.at.returns-then-records-kept c).Start) _ _ _ _
+    let here = goal.at.returns-then-records-kept c in
+    answered_as c.args.f (lending here.Start) (out here.Start) _ _ _ _
     c.says.ensures
-    (end_full c.args.f (lending (goal.at.returns-then-records-kept c).Start) c.requires.ready c.least-empty.result _
-    (gone (goal.at.returns-then-records-kept c).After-least-empty).2 c.end_of-kept.result
+    (end_full c.args.f (lending here.Start) c.requires.ready c.least-empty.result _
+    (gone here.After-least-empty).2 c.end_of-kept.result
     c.end_of-kept.ensures c.if-records-kept.true)
 
 pub fill-requires : goal.fill-requires
 fill-requires c =
-    room c.args.f (lending (goal.at.fill-requires c).Start) c.requires.ready c.least-empty.result _
-    (gone (goal.at.fill-requires c).After-least-empty).2 c.end_of-kept.result
+    let here = goal.at.fill-requires c in
+    room c.args.f (lending here.Start) c.requires.ready c.least-empty.result _
+    (gone here.After-least-empty).2 c.end_of-kept.result
     c.end_of-kept.ensures c.if-records-kept.false
 
 pub returns-then-ends-eq0 : goal.returns-then-ends-eq0
 returns-then-ends-eq0 c =
+    let here = goal.at.returns-then-ends-eq0 c in
     let k = c.args.self.level - c.least-empty.result in
-    ended_as c.args.f (lending (goal.at.returns-then-ends-eq0 c).Start) (out (goal.at.returns-then-ends-eq0 c).Start) _ _ _ _ _
+    ended_as c.args.f (lending here.Start) (out here.Start) _ _ _ _ _
     (c.says-then-ends-eq0.ensures ∙ ap (says 1) c.only_undo-log.ensures)
     c.fill.ensures
-    (end_takes c.args.f (lending (goal.at.returns-then-ends-eq0 c).Start) c.requires.ready c.least-empty.result k
-    (gone (goal.at.returns-then-ends-eq0 c).After-least-empty).2 c.end_of-kept.result
+    (end_takes c.args.f (lending here.Start) c.requires.ready c.least-empty.result k
+    (gone here.After-least-empty).2 c.end_of-kept.result
     c.end_of-kept.ensures c.if-records-kept.false 1 (sym (ap (λ (b : Bool). cond b 0 1) (le-ltb 0 k (omega (arith, c.if-ends-eq0.true))))))
 
 pub returns : goal.returns
 returns c =
+    let here = goal.at.returns c in
     let k = c.args.self.level - c.least-empty.result in
-    ended_as c.args.f (lending (goal.at.returns c).Start) (out (goal.at.returns c).Start) _ _ _ _ _
+    ended_as c.args.f (lending here.Start) (out here.Start) _ _ _ _ _
     (c.says-2.ensures ∙ ap (says 0) c.only_undo-log.ensures)
     c.fill.ensures
-    (end_takes c.args.f (lending (goal.at.returns c).Start) c.requires.ready c.least-empty.result k
-    (gone (goal.at.returns c).After-least-empty).2 c.end_of-kept.result
+    (end_takes c.args.f (lending here.Start) c.requires.ready c.least-empty.result k
+    (gone here.After-least-empty).2 c.end_of-kept.result
     c.end_of-kept.ensures c.if-records-kept.false 0 (sym (ap (λ (b : Bool). cond b 0 1) (lt-ltb 0 k (omega (arith, c.if-ends-eq0.false))))))

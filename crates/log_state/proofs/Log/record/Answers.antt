@@ -20,7 +20,7 @@ returns-then-space-old c =
     let valueOf1 = value_of catalogue a.f l in
     let editOf1 = edit_of a.kind a.place a.old.now a.new.now in
     answered_as a.f l (record_out a.f (sizes_of l) (note a.joins editOf1 valueOf1.undo) valueOf1) _ _ _ _ c.says.ensures
-    (full_texts a.f l c.requires.ready a.joins a.kind a.place a.old.now a.new.now editOf1 c.requires.numbered c.requires.value
+    (full_texts a.f l c.requires.ready a.joins a.kind a.place a.old.now a.new.now editOf1 c.requires.numbered c.requires.ok
     (omega (arith, c.if-space-old.true, c.requires.ready.hold.space)))
 
 pub returns-then-space-old-2 : goal.returns-then-space-old-2
@@ -30,7 +30,7 @@ returns-then-space-old-2 c =
     let valueOf1 = value_of catalogue a.f l in
     let editOf1 = edit_of a.kind a.place a.old.now a.new.now in
     answered_as a.f l (record_out a.f (sizes_of l) (note a.joins editOf1 valueOf1.undo) valueOf1) _ _ _ _ c.says-then-space-old-2.ensures
-    (full_texts a.f l c.requires.ready a.joins a.kind a.place a.old.now a.new.now editOf1 c.requires.numbered c.requires.value
+    (full_texts a.f l c.requires.ready a.joins a.kind a.place a.old.now a.new.now editOf1 c.requires.numbered c.requires.ok
     (omega (arith, c.if-space-old-2.true, c.if-space-old.false, c.requires.ready.hold.space)))
 
 pub slice_bounds-tail_for-end-2 : goal.slice_bounds-tail_for-end-2
@@ -45,7 +45,7 @@ note-n-requires c =
     record {
       fit = c.requires.fit;
       in_range = in_range a.f (lent a.records.now a.texts.now a.self) c.requires.ready a.joins a.kind a.place a.old.now a.new.now
-          (edit_of a.kind a.place a.old.now a.new.now) c.requires.numbered c.requires.value c.tail_for-tail.result c.tail_for-tail.ensures
+          (edit_of a.kind a.place a.old.now a.new.now) c.requires.numbered c.requires.ok c.tail_for-tail.result c.tail_for-tail.ensures
           (omega (arith, c.if-space-old.false, c.if-space-old-2.false, c.requires.ready.hold.space))
           (omega (arith, c.requires.ready.fit.lengths))
           (top_max _ c.requires.fit.width.most);
@@ -58,7 +58,7 @@ returns-then-records-t c =
     let valueOf1 = value_of catalogue a.f l in
     let editOf1 = edit_of a.kind a.place a.old.now a.new.now in
     answered_as a.f l (record_out a.f (sizes_of l) (note a.joins editOf1 valueOf1.undo) valueOf1) _ _ _ _ c.says-then-records-t.ensures
-    (full_records a.f l c.requires.ready a.joins a.kind a.place a.old.now a.new.now editOf1 c.requires.numbered c.requires.value
+    (full_records a.f l c.requires.ready a.joins a.kind a.place a.old.now a.new.now editOf1 c.requires.numbered c.requires.ok
     c.tail_for-tail.result c.tail_for-tail.ensures c.note-n.result c.note-n.ensures c.if-records-t.true)
 
 pub top_of-requires : goal.top_of-requires
@@ -71,7 +71,7 @@ returns-then-top_of-t c =
     let valueOf1 = value_of catalogue a.f l in
     let editOf1 = edit_of a.kind a.place a.old.now a.new.now in
     answered_as a.f l (record_out a.f (sizes_of l) (note a.joins editOf1 valueOf1.undo) valueOf1) _ _ _ _ c.says-then-top_of-t.ensures
-    (full_place a.f l c.requires.ready a.joins a.kind a.place a.old.now a.new.now editOf1 c.requires.numbered c.requires.value
+    (full_place a.f l c.requires.ready a.joins a.kind a.place a.old.now a.new.now editOf1 c.requires.numbered c.requires.ok
     c.tail_for-tail.result c.tail_for-tail.ensures c.note-n.result c.note-n.ensures
     (omega (arith, c.top_of.ensures, c.if-top_of-t.true)))
 
@@ -82,17 +82,17 @@ write_noted-requires c =
     let l = lent a.records.now a.texts.now a.self in
     record {
       fit = c.requires.fit;
-      le_kind = kind_fits a.f l c.requires.ready a.joins a.kind a.place a.old.now a.new.now editOf1 c.requires.numbered c.requires.value
+      le_kind = kind_fits a.f l c.requires.ready a.joins a.kind a.place a.old.now a.new.now editOf1 c.requires.numbered c.requires.ok
           c.tail_for-tail.result c.tail_for-tail.ensures c.note-n.result c.note-n.ensures;
       kind_bound = (
         size_fits a.f l c.requires.ready a.joins a.kind a.place a.old.now a.new.now editOf1 c.requires.numbered
-            c.requires.value c.tail_for-tail.result c.tail_for-tail.ensures c.note-n.result
+            c.requires.ok c.tail_for-tail.result c.tail_for-tail.ensures c.note-n.result
             c.note-n.ensures,
         c.if-records-t.false,
       );
       at_le_used = (
         at-fits a.f l c.requires.ready a.joins a.kind a.place a.old.now a.new.now editOf1 c.requires.numbered
-            c.requires.value c.tail_for-tail.result c.tail_for-tail.ensures c.note-n.result
+            c.requires.ok c.tail_for-tail.result c.tail_for-tail.ensures c.note-n.result
             c.note-n.ensures,
         (omega (arith, c.if-space-old.false, c.if-space-old-2.false, c.requires.ready.hold.space)),
       );
@@ -106,7 +106,7 @@ returns c =
     let editOf1 = edit_of a.kind a.place a.old.now a.new.now in
     answered_as a.f l (record_out a.f (sizes_of l) (note a.joins editOf1 valueOf1.undo) valueOf1) _ _ _ _
     (c.says-2.ensures ∙ ap (says 0) c.only_undo.ensures)
-    (takes a.f l c.requires.ready a.joins a.kind a.place a.old.now a.new.now editOf1 c.requires.numbered c.requires.value
+    (takes a.f l c.requires.ready a.joins a.kind a.place a.old.now a.new.now editOf1 c.requires.numbered c.requires.ok
     c.tail_for-tail.result c.tail_for-tail.ensures c.note-n.result c.note-n.ensures
     c.write_noted.new.records c.write_noted.new.texts
     (omega (arith, c.if-space-old.false, c.if-space-old-2.false, c.requires.ready.hold.space)) c.if-records-t.false
