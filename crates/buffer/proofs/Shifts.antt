@@ -1,65 +1,29 @@
--- Bytes shifted: a turn of the loop that moves them up, one of the loop that closes a gap, and an insertion and a copy as writes into the tail.
+-- Bytes shifted: a move up, a gap closed, bytes filled in, and an insertion and a copy as writes into the tail.
 -- Assumes nothing.
-use mathlib.Core.Path.{◌≡◌, sym, ap, ◌∙◌}
+use mathlib.Core.Path.{◌≡◌, sym, ap, ap₂, ◌∙◌}
 use mathlib.Core.List.{List, [], ◌∷◌, ◌++◌, append_assoc, append-nil}
-use Prim.Native.Nat.{ℕ, suc, ◌+◌, ◌-◌, ◌<◌, ◌≤◌}
+use Prim.Native.Nat.{ℕ, ◌+◌, ◌-◌, ◌≤◌}
 use native.Mathlib.Omega.{arith}
-use native.Mathlib.Numerals.{add-one}
-use lib.ListN.{length, get_or, set, take, drop, length-take, length-drop}
-use lib.ListN.{length-append, take-append-drop, replicate, length-replicate, replicate-append-replicate, drop_of_length-le, get_or-append}
-use lib.Seq.{slice, slice-cons, slice_empty, take-suc, append_snoc, set_at, get_or-take, get_or-drop, length-take-le, take_all, paste}
-use lib.Seq.{paste-suc}
-use lib.Seq.{take_at, drop_at, take-take, drop-drop, take-paste, length_paste_head, get_or-append-add, sets, sets-eq}
+use borrow.Rule.Slice.PartMut.{put_mid}
+use lib.ListN.{length, take, drop, length-take, length-drop}
+use lib.ListN.{length-append, take-append-drop, replicate, length-replicate, drop_of_length-le}
+use lib.Seq.{length-take-le, take_all, paste, take_at, drop_at, take-take, drop-drop, take-paste, sets, sets-eq}
+use Rattle.std.proofs.lemmas.List.Edits.{paste_all}
+use Rattle.std.proofs.lemmas.Slice.{put_mid-paste}
 use Rattle.lists.proofs.Parts.{drop-take}
-use Rattle.lists.proofs.Stores.{sets-append}
 use Rattle.buffer.specs.Edit.{shifted, inserted, cut, written}
 
--- a turn of the loop that moves bytes up
-pub shift_step : (d : List ℕ) (n used i m : ℕ) → m ≡ i + 1 → m ≤ used → used + n ≤ length d
-    → set (shifted d n used m) (i + n) (get_or (shifted d n used m) i 0) ≡ shifted d n used i
+-- the first used bytes copied n places up
+pub shift_law : (d : List ℕ) (n used : ℕ) → paste d n (drop 0 d) (used - 0) ≡ shifted d n used 0
 unfolding shifted
-shift_step d n used i m e h k =
-    let X : List ℕ = slice m used d ++ drop (used + n) d in
-    let y : ℕ = get_or d (i + n) 0 in
-    let e1 : m + n ≡ suc (i + n) = omega arith in
-    let e2 : m ≡ suc i = omega arith in
-    let len : length (take (i + n) d) ≡ i + n = length-take-le (i + n) d (omega arith) in
-    let len2 : length (take (m + n) d) ≡ m + n = length-take-le (m + n) d (omega arith) in
-    let whole : take (m + n) d ++ X ≡ take (i + n) d ++ (y ∷ X) =
-    ap (λ (q : ℕ). take q d ++ X) e1 ∙ ap (λ (l : List ℕ). l ++ X) (take-suc d (i + n) 0 (omega arith)) ∙ append_snoc (take (i + n) d) y X in
-    let read : get_or (take (m + n) d ++ X) i 0 ≡ get_or d i 0 =
-    get_or-append (take (m + n) d) X 0 i (omega arith) ∙ get_or-take (m + n) d i 0 (omega arith) in
-    let cons : slice i used d ≡ get_or d i 0 ∷ slice m used d =
-    slice-cons i used d 0 (omega arith) (omega arith) ∙ ap (λ (q : ℕ). get_or d i 0 ∷ slice q used d) (sym e2) in
-    ap (λ (v : ℕ). set (take (m + n) d ++ X) (i + n) v) read
-    ∙ ap (λ (l : List ℕ). set l (i + n) (get_or d i 0)) whole
-    ∙ set_at (take (i + n) d) y X (get_or d i 0) (i + n) len
-    ∙ ap (λ (l : List ℕ). take (i + n) d ++ (l ++ drop (used + n) d)) (sym cons)
+shift_law d n used =
+    let z : used - 0 ≡ used = omega arith in
+    let none : 0 + n ≡ n = omega arith in
+    let e : n + used ≡ used + n = omega arith in
+    rw z (append_assoc (take n d) (take used d) (drop (n + used) d))
+    ∙ ap₂ (λ (i j : ℕ). take i d ++ (take used d ++ drop j d)) (sym none) e
 
--- before the first turn nothing has moved
-pub shift_none : (d : List ℕ) (n used : ℕ) → d ≡ shifted d n used used
-unfolding shifted
-shift_none d n used =
-    sym (ap (λ (l : List ℕ). take (used + n) d ++ (l ++ drop (used + n) d)) (slice_empty used d) ∙ take-append-drop (used + n) d)
-
--- a turn of the loop that closes a gap: reading ahead of what is written
-pub cut_step : (d : List ℕ) (at up j : ℕ) → at ≤ up → up + j < length d
-    → set (paste d at (drop up d) j) (at + j) (get_or (paste d at (drop up d) j) (up + j) 0) ≡ paste d at (drop up d) (j + 1)
-cut_step d at up j h k =
-    let P : List ℕ = take at d ++ take j (drop up d) in
-    let more : j < length (drop up d) = simp length-drop (omega arith) in
-    let len : length P ≡ at + j = length_paste_head d at (drop up d) j (omega arith) (omega arith) in
-    let place : up + j ≡ length P + (up - at) = omega arith in
-    let read : get_or (P ++ drop (at + j) d) (up + j) 0 ≡ get_or (drop up d) j 0 =
-    ap (λ (q : ℕ). get_or (P ++ drop (at + j) d) q 0) place
-    ∙ get_or-append-add P (drop (at + j) d) (up - at) 0
-    ∙ get_or-drop (at + j) d (up - at) 0
-    ∙ ap (λ (q : ℕ). get_or d q 0) (omega arith)
-    ∙ sym (get_or-drop up d j 0) in
-    ap (λ (v : ℕ). set (paste d at (drop up d) j) (at + j) v) read
-    ∙ paste-suc d at (drop up d) j 0 (omega arith) more
-    ∙ ap (λ (q : ℕ). paste d at (drop up d) q) (sym (add-one j))
-
+-- the bytes behind a gap copied to where it begins
 pub cut_law : (d : List ℕ) (used a b : ℕ) → a ≤ b → b ≤ used → used ≤ length d
     → take (used - (b - a)) (paste d a (drop b d) (used - b)) ≡ cut (take used d) a b
 unfolding cut
@@ -110,11 +74,18 @@ back_law l x y used at h k p =
     ∙ ap (λ (q : List ℕ). take (used + length x) (take at l ++ q)) (simp append_assoc)
     ∙ insert_law l used at x R h (omega arith)
 
--- a turn of the loop that fills
-pub fill_more : (l : List ℕ) (at j b : ℕ) → set (sets l at (replicate j b)) (at + j) b ≡ sets l at (replicate (j + 1) b)
-fill_more l at j b =
-    sym (ap (λ (x : List ℕ). sets l at x) (sym (replicate-append-replicate j 1 b)) ∙
-    sym (sets-append l at (replicate j b) (b ∷ [])) ∙ rw (length-replicate j b))
+-- n bytes b over the part from at on
+pub fill_law : (l y : List ℕ) (at n b : ℕ) → at + n ≤ length l → y ≡ replicate (length (take (at + n - at) (drop at l))) b
+    → put_mid at (at + n - at) l y ≡ sets l at (replicate n b)
+fill_law l y at n b h e =
+    let x : List ℕ = replicate n b in
+    let k : n ≡ at + n - at = omega arith in
+    let len : n ≡ length x = sym (length-replicate n b) in
+    let part : length (take (at + n - at) (drop at l)) ≡ n = length-take-le (at + n - at) (drop at l) (simp length-drop (omega arith)) ∙ sym k in
+    put_mid-paste at (at + n - at) l y x n (e ∙ ap (λ (i : ℕ). replicate i b) part) k len
+    ∙ paste_all l at x n len
+    ∙ sym (sets-eq x l at (omega arith) ∙ append_assoc (take at l) x (drop (at + length x) l) ∙
+    ap (λ (i : ℕ). take at l ++ (x ++ drop (at + i) l)) (sym len))
 
 -- nothing put in, and nothing cut out
 pub insert_none : (s x : List ℕ) (used at : ℕ) → length x ≡ 0 → take (used + length x) s ≡ inserted (take used s) at x

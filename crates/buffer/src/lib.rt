@@ -5,16 +5,12 @@ ghost use Rattle.std.specs.Prelude.{◌≡◌, ◌++◌, ◌+◌, ◌-◌, ◌*�
 ghost use Rattle.std.proofs.lemmas.List.Edits.{sets};
 ghost use Rattle.buffer.specs.Edit.{shifted, inserted, cut, written, copies};
 
-// Moves tail[..used] up by n places, from its end downward.
+// Moves tail[..used] up by n places.
 fn shift_up(tail: &mut [u8], used: usize, n: usize)
     requires { used + n ≤ length tail.old }
     ensures { tail.new ≡ shifted tail.old n used 0 }
 {
-    let mut i = used;
-    while 0 < i {
-        i -= 1;
-        tail[i + n] = tail[i];
-    }
+    tail.copy_within(..used, n);
 }
 
 // Writes src over the front of tail.
@@ -22,11 +18,7 @@ fn write_front(tail: &mut [u8], src: &[u8])
     requires { length src.now ≤ length tail.old }
     ensures { tail.new ≡ src.now ++ drop (length src.now) tail.old }
 {
-    let mut j = 0;
-    while j < src.len() {
-        tail[j] = src[j];
-        j += 1;
-    }
+    tail[..src.len()].copy_from_slice(src);
 }
 
 // Moves tail[..used] up by src.len() and writes src in front.
@@ -54,12 +46,8 @@ fn write_copies(tail: &mut [u8], src: &[u8], n: usize)
     requires { length src.now * n ≤ length tail.old }
     ensures { tail.new ≡ copies n src.now ++ drop (length src.now * n) tail.old }
 {
-    let mut at = 0;
-    let mut left = n;
-    while 0 < left {
-        write_front(&mut tail[at..], src);
-        at += src.len();
-        left -= 1;
+    for i in 0..n {
+        write_front(&mut tail[src.len() * i..], src);
     }
 }
 
@@ -88,12 +76,7 @@ pub fn cut_bytes(s: &mut [u8], used: usize, from: usize, to: usize)
     if from == to {
         return;
     }
-    let n = used - to;
-    let mut j = 0;
-    while j < n {
-        s[from + j] = s[to + j];
-        j += 1;
-    }
+    s.copy_within(to..used, from);
 }
 
 // Count bytes b from a place on.
@@ -101,11 +84,7 @@ pub fn fill(s: &mut [u8], at: usize, count: usize, b: u8)
     requires { at + count ≤ length s.old }
     ensures { s.new ≡ sets s.old at (replicate count b) }
 {
-    let mut j: usize = 0;
-    while j < count {
-        s[at + j] = b;
-        j += 1;
-    }
+    s[at..at + count].fill(b);
 }
 
 // The bytes of src from a place on.

@@ -2,14 +2,16 @@
 #![tactic(auto)]
 
 ghost use Rattle.std.specs.Prelude.{not, eqb};
+ghost use Rattle.keymap.specs.Codes.{codes};
 ghost use Rattle.repertoire.specs.Repertoire.{catalogue};
 ghost use Rattle.edit.specs.Calls.{lent};
 ghost use Rattle.calls.specs.CallContracts.{Meets, buffers};
-ghost use Rattle.calls.specs.Calls.{codes, delete_range, replace, update, insert, yank, yank_pop, transpose_chars, edit_word};
+ghost use Rattle.calls.specs.Calls.{delete_range, replace, update, insert, yank, yank_pop, transpose_chars, edit_word};
 ghost use Rattle.calls.specs.Calls.{transpose_words, indent, edit};
 
 use checks::Line;
 use edit::EditAnswer;
+use keymap::MovementCodes;
 use log_state::Log;
 
 #[unsafe(no_mangle)]
@@ -174,19 +176,13 @@ pub extern "C" fn tlf_line_indent(
         (lent text.old records.old texts.old line log)
         result (buffers text.new records.new texts.new) }
 {
-    edit_indent::indent(
-        text,
-        records,
-        texts,
-        line,
-        log,
+    let codes = MovementCodes {
         mvt,
         n,
         at,
         word,
         search,
         ch,
-        amount,
-        dedent != 0,
-    )
+    };
+    edit_indent::indent(text, records, texts, line, log, codes, amount, dedent != 0)
 }

@@ -1,15 +1,17 @@
-// The entries for C and Rust callers that cut text out by a movement: each is the call of the same name in `kills` or
-// `deletions`.
+// The entries for C and Rust callers that cut text out by a movement: each is the call of the same name in
+// `edit_kill`.
 #![tactic(auto)]
 
+ghost use Rattle.keymap.specs.Codes.{codes};
 ghost use Rattle.repertoire.specs.Repertoire.{catalogue};
 ghost use Rattle.edit.specs.Calls.{lent};
 ghost use Rattle.calls.specs.CallContracts.{Meets, buffers};
-ghost use Rattle.calls.specs.Calls.{codes, kill, kill_line, kill_buffer, discard_line, discard_buffer, backspace, delete_prev_word};
+ghost use Rattle.calls.specs.Calls.{kill, kill_line, kill_buffer, discard_line, discard_buffer, backspace, delete_prev_word};
 ghost use Rattle.calls.specs.Calls.{delete_word, delete_to, delete, edit};
 
 use checks::Line;
 use edit::EditAnswer;
+use keymap::MovementCodes;
 use log_state::Log;
 
 #[unsafe(no_mangle)]
@@ -29,9 +31,15 @@ pub extern "C" fn tlf_line_kill(
     ensures { Meets catalogue (edit (kill (codes mvt n at word search ch))) (lent text.old records.old texts.old line log)
         result (buffers text.new records.new texts.new) }
 {
-    edit_kill::kill(
-        text, records, texts, line, log, mvt, n, at, word, search, ch,
-    )
+    let codes = MovementCodes {
+        mvt,
+        n,
+        at,
+        word,
+        search,
+        ch,
+    };
+    edit_kill::kill(text, records, texts, line, log, codes)
 }
 
 #[unsafe(no_mangle)]

@@ -1,18 +1,20 @@
-// The entries for C and Rust callers that move the cursor, ask, or copy: each is the call of the same name in `movement` or `copies`.
+// The entries for C and Rust callers that move the cursor, ask, or copy: each is the call of the same name in `motion_calls`.
 #![tactic(auto)]
 
 ghost use Rattle.std.specs.Prelude.{ℕ, List};
+ghost use Rattle.keymap.specs.Codes.{codes};
 ghost use Rattle.repertoire.specs.Repertoire.{catalogue};
 ghost use Rattle.log_state.specs.declared.Log.{Log};
 ghost use Rattle.edit.specs.Calls.{lent};
 ghost use Rattle.calls.specs.CallContracts.{Meets, buffers};
-ghost use Rattle.calls.specs.Calls.{codes, next_pos, copy, is_cursor_at_end, is_end_of_input, set_pos, move_forward, move_backward};
+ghost use Rattle.calls.specs.Calls.{next_pos, copy, is_cursor_at_end, is_end_of_input, set_pos, move_forward, move_backward};
 ghost use Rattle.calls.specs.Calls.{move_buffer_start};
 ghost use Rattle.calls.specs.Calls.{move_buffer_end, move_home, move_end, move_to_prev_word, move_to_next_word, move_to_line_up};
 ghost use Rattle.calls.specs.Calls.{move_to_line_down, move_to};
 ghost use Rattle.calls.specs.Calls.{move};
 
 use checks::{Line, LineAnswer};
+use keymap::MovementCodes;
 
 #[unsafe(no_mangle)]
 pub extern "C" fn tlf_line_next_pos(text: &[u8], line: Line, n: u16) -> LineAnswer
@@ -175,5 +177,13 @@ pub extern "C" fn tlf_line_copy(
     ensures { (records texts : List ℕ) (log : Log) → Meets catalogue (move (copy (codes mvt n at word search ch))) (lent text.now records texts line log)
         result (buffers text.now records texts) }
 {
-    motion_calls::copy(text, line, mvt, n, at, word, search, ch)
+    let codes = MovementCodes {
+        mvt,
+        n,
+        at,
+        word,
+        search,
+        ch,
+    };
+    motion_calls::copy(text, line, codes)
 }

@@ -3,6 +3,7 @@
 -- the log's. What a call takes goes with it, fit or unfit, in the order of the entries for C.
 use Rattle.std.specs.Prelude.{ℕ, Bool, List}
 use Rattle.repertoire.specs.Repertoire.{Repertoire}
+use Rattle.keymap.specs.declared.MovementCodes.{MovementCodes}
 use Rattle.checks.specs.declared.Line.{Line}
 use Rattle.checks.specs.Outcome.{Outcome, refused, answered}
 use Rattle.motion_calls.specs.Moves as moves
@@ -25,18 +26,6 @@ use Rattle.undo.specs.Undo.{undo_call}
 use Rattle.undo_redo.specs.Redo.{redo_call}
 use Rattle.undo_cancel.specs.Cancel.{cancel_call}
 
--- a movement by its numbers
-pub record Codes : Type 0 where
-  pub mvt : ℕ
-  pub n : ℕ
-  pub at : ℕ
-  pub word : ℕ
-  pub search : ℕ
-  pub ch : ℕ
-
-abbrev pub codes : ℕ → ℕ → ℕ → ℕ → ℕ → ℕ → Codes
-codes mvt n at word search ch = record { mvt = mvt; n = n; at = at; word = word; search = search; ch = ch }
-
 pub data EditCall : Type 0 where
   update : List ℕ → ℕ → EditCall
   insert : ℕ → ℕ → EditCall
@@ -49,12 +38,12 @@ pub data EditCall : Type 0 where
   edit_word transpose_words : ℕ → EditCall
   replace : ℕ → ℕ → List ℕ → EditCall
   delete_range : ℕ → ℕ → EditCall
-  kill : Codes → EditCall
-  indent : Codes → ℕ → Bool → EditCall
+  kill : MovementCodes → EditCall
+  indent : MovementCodes → ℕ → Bool → EditCall
 
 pub data MoveCall : Type 0 where
   next_pos : ℕ → MoveCall
-  copy : Codes → MoveCall
+  copy : MovementCodes → MoveCall
   is_cursor_at_end is_end_of_input : MoveCall
   set_pos move_forward move_backward : ℕ → MoveCall
   move_buffer_start move_buffer_end move_home move_end : MoveCall
@@ -78,7 +67,7 @@ pub data Asked : Type 0 where
 module _ (R : Repertoire) (t : List ℕ) (line : Line) where
   abbrev pub move_outcome : MoveCall → Outcome Line
   move_outcome (next_pos n) = moves.next_pos_call R t line n
-  move_outcome (copy m) = copy_call R t line m.mvt m.n m.at m.word m.search m.ch
+  move_outcome (copy m) = copy_call R t line m
   move_outcome is_cursor_at_end = moves.is_cursor_at_end R t line
   move_outcome is_end_of_input = moves.is_end_of_input R t line
   move_outcome (set_pos pos) = moves.set_pos R t line pos
@@ -122,8 +111,8 @@ module _ (R : Repertoire) (F : Format) (l : Lent) where
   edit_outcome (transpose_words n) = transpose_words_call R F l n
   edit_outcome (replace a b s) = replace_call R F l a b s
   edit_outcome (delete_range a b) = delete_range_call R F l a b
-  edit_outcome (kill m) = kill_call R F l m.mvt m.n m.at m.word m.search m.ch
-  edit_outcome (indent m amount dedent) = indent_call R F l amount dedent m.mvt m.n m.at m.word m.search m.ch
+  edit_outcome (kill m) = kill_call R F l m
+  edit_outcome (indent m amount dedent) = indent_call R F l amount dedent m
 
   -- what a movement leaves is the cursor
   abbrev pub moved_by : Outcome Line → Outcome State

@@ -3,3 +3,4 @@ pub mod Outcomes
 pub mod Lowest
 pub mod LowerNumbers
 pub mod Texts
+pub mod Refusals

@@ -1,8 +1,6 @@
 -- What a call that is lent a text to read comes to, with the line as its state, and its answer: a number of document 01, places, and the line
 -- afterwards.
-use Rattle.std.specs.Prelude.{ℕ, zero, suc}
-use Rattle.motion.specs.declared.Found.{Found}
-use Rattle.motion.specs.declared.Found.TheVariants.{At, Nothing}
+use Rattle.std.specs.Prelude.{ℕ, zero, suc, Option, None, Some}
 use Rattle.checks.specs.declared.Line.{Line}
 use Rattle.checks.specs.declared.LineAnswer.{LineAnswer}
 use Rattle.checks.specs.declared.ValueAnswer.{ValueAnswer}
@@ -21,14 +19,14 @@ abbrev pub with_cursor : Line → ℕ → Line
 with_cursor line p = record { len = line.len; cursor = p }
 
 -- the cursor goes to the place found; 1 where there is none
-abbrev pub moved_to : Line → Found → Outcome Line
-moved_to line (At p) = answered 0 0 0 (with_cursor line p)
-moved_to line Nothing = answered 1 0 0 line
+abbrev pub moved_to : Line → Option ℕ → Outcome Line
+moved_to line (Some p) = answered 0 0 0 (with_cursor line p)
+moved_to line None = answered 1 0 0 line
 
 -- the place found is answered
-abbrev pub place_of : Line → Found → Outcome Line
-place_of line (At p) = answered 0 p 0 line
-place_of line Nothing = answered 1 0 0 line
+abbrev pub place_of : Line → Option ℕ → Outcome Line
+place_of line (Some p) = answered 0 p 0 line
+place_of line None = answered 1 0 0 line
 
 -- the answer of a call that answers one number v: v where no check refuses, 0 beside the number of one that does
 abbrev pub value_answer : ℕ → ℕ → ValueAnswer

@@ -6,11 +6,37 @@ ghost use Rattle.formats.specs.Formats.{format_for};
 ghost use Rattle.repertoire.specs.Repertoire.{catalogue};
 ghost use Rattle.checks.specs.Checks.{refusal as Checks·refusal, lower as Checks·lower, both, line_tests, own_tests, text_tests};
 ghost use Rattle.checks.specs.Answers.{says as Answers·says, line_answer, moved_to, place_of};
+ghost use Rattle.checks.specs.Refused.{number_of, refused_by};
 
 use formats::{Format, format_for};
-use motion::Found;
 use repertoire::check_text;
 use utf8::is_boundary;
+
+// Why a call is refused or stopped: the numbers of document 01, and behind them those of the orders.
+#[derive(Clone, Copy)]
+pub enum Refused {
+    Sizes = 2,
+    Code = 3,
+    Foreign = 4,
+    Place = 5,
+    Split = 6,
+    Prompt = 7,
+    Damaged = 8,
+    Full = 9,
+    LogFull = 10,
+    RingFull = 11,
+    Misfit = 12,
+    Unbound = 13,
+    PageFull = 14,
+}
+
+impl From<Refused> for u32 {
+    ghost from_gives = { λ r n. n ≡ number_of r };
+
+    fn from(why: Refused) -> u32 {
+        why as u32
+    }
+}
 
 // A text's used length, and the cursor.
 #[repr(C)]
@@ -20,6 +46,7 @@ pub struct Line {
     pub cursor: usize,
 }
 
+// The number is 0 (done), 1 (nothing to be done, or nothing found) or that of a Refused: a plain number, since C reads it.
 #[repr(C)]
 #[derive(Clone, Copy)]
 pub struct LineAnswer {
@@ -29,7 +56,7 @@ pub struct LineAnswer {
     pub line: Line,
 }
 
-// The answer of a call that answers one number beside its own; 0 in `value` where it refuses.
+// The answer of a call that answers one number beside its own; 0 in `value` where it refuses. C reads it.
 #[repr(C)]
 #[derive(Clone, Copy)]
 pub struct ValueAnswer {
@@ -37,57 +64,74 @@ pub struct ValueAnswer {
     pub value: usize,
 }
 
-// The number of the first check that a lent text, its cursor and the call's own tests meet, 0 where they pass. `code` says
-// that a number names nothing, `foreign` that a character is outside the repertoire, `place` that a place is unfit.
-pub fn refusal_in(f: Format, text: &[u8], line: Line, code: bool, foreign: bool, place: bool) -> u32
-    ensures { result ≡ Checks·refusal (both (line_tests catalogue f text.now line) (own_tests code foreign place)) }
+// The first check that a lent text, its cursor and the call's own tests meet, and which therefore refuses. `code` says that a
+// number names nothing, `foreign` that a character is outside the repertoire, `place` that a place is unfit.
+pub fn refusal_in(
+    f: Format,
+    text: &[u8],
+    line: Line,
+    code: bool,
+    foreign: bool,
+    place: bool,
+) -> Result<(), Refused>
+    ensures { refused_by result ≡ Checks·refusal (both (line_tests catalogue f text.now line) (own_tests code foreign place)) }
 {
-    let len = line.len;
-    if f.text < text.len() {
-        return 2;
-    }
-    if text.len() < len {
-        return 2;
+    if f.text < text.len() || text.len() < line.len {
+        return Err(Refused::Sizes);
     }
     if code {
-        return 3;
+        return Err(Refused::Code);
     }
-    let lent = &text[..len];
-    if !check_text(lent) {
-        return 4;
+    let lent = &text[..line.len];
+    if !check_text(lent) || foreign {
+        return Err(Refused::Foreign);
     }
-    if foreign {
-        return 4;
+    if line.len < line.cursor || place {
+        return Err(Refused::Place);
     }
-    let cursor = line.cursor;
-    if len < cursor {
-        return 5;
+    if !is_boundary(lent, line.cursor) {
+        return Err(Refused::Split);
     }
-    if place {
-        return 5;
-    }
-    if is_boundary(lent, cursor) { 0 } else { 6 }
+    Ok(())
 }
 
 // The same in the format that the text's buffer brings.
-pub fn refusal(text: &[u8], line: Line, code: bool, foreign: bool, place: bool) -> u32
-    ensures { result ≡ Checks·refusal (both (line_tests catalogue (format_for (length text.now)) text.now line) (own_tests code foreign place)) }
+pub fn refusal(
+    text: &[u8],
+    line: Line,
+    code: bool,
+    foreign: bool,
+    place: bool,
+) -> Result<(), Refused>
+    ensures { refused_by result ≡ Checks·refusal (both (line_tests catalogue (format_for (length text.now)) text.now line) (own_tests code foreign place)) }
 {
     refusal_in(format_for(text.len()), text, line, code, foreign, place)
 }
 
-// The number of the first check that a text lent without a cursor meets, 0 where they pass.
-pub fn text_refusal(text: &[u8]) -> u32
-    ensures { result ≡ Checks·refusal (text_tests catalogue (format_for (length text.now)) text.now) }
+// The first check that a text lent without a cursor meets.
+pub fn text_refusal(text: &[u8]) -> Result<(), Refused>
+    ensures { refused_by result ≡ Checks·refusal (text_tests catalogue (format_for (length text.now)) text.now) }
 {
-    let f = format_for(text.len());
-    if f.text < text.len() {
-        return 2;
+    if format_for(text.len()).text < text.len() {
+        return Err(Refused::Sizes);
     }
-    if check_text(text) { 0 } else { 4 }
+    if !check_text(text) {
+        return Err(Refused::Foreign);
+    }
+    Ok(())
 }
 
-// The lower of two numbers, where 0 is none.
+// The number of a call whose checks came to this: that of the refusal, 0 where they pass.
+pub fn number<T: Drop>(checked: Result<T, Refused>) -> u32
+    ensures { result ≡ refused_by checked }
+{
+    match checked {
+        Ok(_) => 0,
+        Err(why) => why.into(),
+    }
+}
+
+// The lower of two numbers, where 0 is none. Numbers, and no Refused: a Refused has no order, and the lower number decides.
 pub fn lower(a: u32, b: u32) -> u32
     ensures { result ≡ Checks·lower a b }
 {
@@ -113,32 +157,32 @@ pub fn says(number: u32, line: Line) -> LineAnswer
 }
 
 // The cursor goes to the place found; 1 where there is none.
-pub fn moved_to(line: Line, f: Found) -> LineAnswer
+pub fn moved_to(line: Line, f: Option<usize>) -> LineAnswer
     ensures { result ≡ line_answer line (moved_to line f) }
 {
     match f {
-        Found::At(p) => says(
+        Some(p) => says(
             0,
             Line {
                 len: line.len,
                 cursor: p,
             },
         ),
-        Found::Nothing => says(1, line),
+        None => says(1, line),
     }
 }
 
 // The place found is answered; 1 where there is none.
-pub fn place_of(line: Line, f: Found) -> LineAnswer
+pub fn place_of(line: Line, f: Option<usize>) -> LineAnswer
     ensures { result ≡ line_answer line (place_of line f) }
 {
     match f {
-        Found::At(p) => LineAnswer {
+        Some(p) => LineAnswer {
             number: 0,
             from: p,
             to: 0,
             line,
         },
-        Found::Nothing => says(1, line),
+        None => says(1, line),
     }
 }

@@ -1,5 +1,5 @@
 -- The scan for the first cluster: what is known of it so far, and the characters that still join. Assumes nothing.
-use mathlib.Core.Path.{◌≡◌, sym, ap, ◌∙◌}
+use mathlib.Core.Path.{◌≡◌, refl, sym, ap, ◌∙◌}
 use mathlib.Core.Bool.{true, false}
 use mathlib.Core.List.{List, [], ◌∷◌}
 use Prim.Native.Nat.{ℕ, ◌+◌}
@@ -31,6 +31,10 @@ module _ (R : Repertoire) (s : List ℕ) where
   pub record Scanned (i p : ℕ) (k : Cluster) : Type 0 where
     pub sized : k.len ≡ i
     pub known : facts R (first_cluster R s) ≡ extended_by R k (run_of R p (chars (drop i s)))
+
+  -- the scan is at the end of the cluster that it has
+  pub scan_at : (i p : ℕ) (k : Cluster) → Scanned i p k → Scanned k.len p k
+  scan_at i p k z = record { sized = refl; known = z.known ∙ ap (λ (n : ℕ). extended_by R k (run_of R p (chars (drop n s)))) (sym z.sized) }
 
   pub scan-start : (c n : ℕ) (k : Cluster) → first s ≡ char c n → k ≡ single R c n → Scanned n c k
   scan-start c n k e q =

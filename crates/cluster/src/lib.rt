@@ -8,7 +8,7 @@ ghost use Rattle.cluster.specs.Clusters.{joined, first_cluster, last_cluster};
 ghost use Rattle.cluster.specs.Facts.{facts, single, extended};
 
 use repertoire::{is_alnum, is_control, is_mark, is_white};
-use utf8::{Decoded, decode_at, prev_char};
+use utf8::{Char, decode_at, prev_char};
 
 // A cluster as the word rules see it.
 #[derive(Clone, Copy)]
@@ -51,18 +51,19 @@ impl Cluster {
     {
         Cluster {
             len: self.len + len,
-            alnum: self.alnum & is_alnum(cp),
-            white: self.white | is_white(cp),
+            alnum: self.alnum && is_alnum(cp),
+            white: self.white || is_white(cp),
             underscore: false,
         }
     }
 }
 
 // Is there no break between p and the c that follows it?
+#[tactic(auto, unfolding(crate::specs::Clusters::joined))]
 pub fn joins(p: u32, c: u32) -> bool
     ensures { result ≡ joined catalogue p c }
 {
-    if (p == 0x0D) & (c == 0x0A) {
+    if p == 0x0D && c == 0x0A {
         return true;
     }
     if is_control(p) {
@@ -79,23 +80,16 @@ pub fn next_cluster(s: &[u8]) -> Cluster
     ensures known { result ≡ facts catalogue (first_cluster catalogue s.now) }
     ensures within { result.len ≤ length s.now }
 {
-    let d = decode_at(s, 0);
-    let Decoded::Char { cp, len } = d else {
+    let Some(Char { cp, len }) = decode_at(s, 0) else {
         return Cluster::empty();
     };
     let mut p = cp;
-    let mut i = len;
     let mut k = Cluster::of(cp, len);
-    while i < s.len() {
-        let e = decode_at(s, i);
-        let Decoded::Char { cp, len } = e else {
-            return k;
-        };
+    while let Some(Char { cp, len }) = decode_at(s, k.len) {
         if !joins(p, cp) {
             return k;
         }
         p = cp;
-        i += len;
         k = k.with(cp, len);
     }
     k
@@ -112,16 +106,15 @@ pub fn prev_cluster(s: &[u8]) -> Cluster
         return Cluster::empty();
     }
     let mut j = prev_char(s, n);
-    let d = decode_at(s, j);
-    let Decoded::Char { cp, len } = d else {
+    let Some(Char { cp, len }) = decode_at(s, j) else {
         return Cluster::empty();
     };
     let mut c = cp;
     let mut k = Cluster::of(cp, len);
+    // A turn goes back over a character: no index is counted, and std has no iterator over those of a text from its end.
     while 0 < j {
         let i = prev_char(s, j);
-        let e = decode_at(s, i);
-        let Decoded::Char { cp, len } = e else {
+        let Some(Char { cp, len }) = decode_at(s, i) else {
             return k;
         };
         if !joins(cp, c) {

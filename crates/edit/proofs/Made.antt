@@ -5,6 +5,7 @@ use mathlib.Core.Path.{◌≡◌, refl, sym, ap, ap₂, subst, ◌∙◌}
 use mathlib.Core.Bool.{Bool, true, false, cond, not, ◌&&◌}
 use mathlib.Core.List.{List, [], ◌∷◌}
 use lib.Dec.{ltb, eqb}
+use denote.Enum.Bare.{sameb}
 use lib.ListN.{length, take, drop, length-drop}
 use lib.Seq.{length-take-le}
 use borrow.Author.Tests.{lt-ltb, le-ltb, eq-eqb, ne_eqb, eqb-true}
@@ -21,7 +22,10 @@ use Rattle.log_model.specs.Recording.{note}
 use Rattle.log_model.specs.Groups as groups
 use Rattle.log_model.specs.UndoBytes.{fits}
 use mathlib.Core.Logic.{◌⊎◌, inl, inr, ⊎_elim}
-use Rattle.log_records.specs.Records.{kind_number}
+use Rattle.log_records.specs.declared.EditKind.{EditKind}
+use Rattle.log_records.specs.declared.EditKind.TheVariants.{Replace}
+use Rattle.log_records.specs.contracts.EditKind.{the_type}
+use Rattle.log_records.specs.Records.{edit_kind}
 use Rattle.log_state.specs.Outcomes.{record_out}
 use Rattle.log_state.specs.declared.Log.{Log}
 use Rattle.log_state.specs.declared.LogAnswer.{LogAnswer}
@@ -61,15 +65,19 @@ module _ (F : Format) (l : log.Lent) (u : List Change) (g : groups.Log) (a : Log
   was_refused h = ⊎_elim (λ w. absurd (h w.0)) (λ w. w.1) ways
 
 -- ---- a change of nothing
-pub blank-is : (x : Edit) (k a b m : ℕ) → kind_number x ≡ k → a ≤ b → length (old x) ≡ b - a → length (new x) ≡ m → ((not (eqb k 5) && eqb a b) && eqb m 0) ≡ blank x
+pub blank-is : (x : Edit) (k : EditKind) (a b m : ℕ) → edit_kind x ≡ k → a ≤ b → length (old x) ≡ b - a → length (new x) ≡ m → ((not (sameb the_type k Replace) && eqb a b) && eqb m 0) ≡ blank x
 blank-is (insert p []) k a b m e h f g = rw (sym e, eq-eqb a b (omega arith), eq-eqb m 0 (omega arith))
 blank-is (insert p (c ∷ s)) k a b m e h f g = rw (sym e, eq-eqb a b (omega arith), ne_eqb m 0 (λ z. omega arith))
 blank-is (delete p []) k a b m e h f g = rw (sym e, eq-eqb a b (omega arith), eq-eqb m 0 (omega arith))
 blank-is (delete p (c ∷ s)) k a b m e h f g = rw (sym e, ne_eqb a b (λ z. omega arith))
 blank-is (replace p o n) k a b m e h f g = rw (sym e)
 
+-- as the code tests it
+pub blank-by : (x y : Bool) {a b : Bool} → a ≡ b → ((b && x) && y) ≡ ((a && x) && y)
+blank-by x y e = ap (λ (c : Bool). (c && x) && y) (sym e)
+
 -- ---- the change x in the text of l
-module _ (F : Format) (l : Lent) (h : Ready F l) (j : Bool) (x : Edit) (k a b : ℕ) (n : List ℕ) (p : ℕ)
+module _ (F : Format) (l : Lent) (h : Ready F l) (j : Bool) (x : Edit) (k : EditKind) (a b : ℕ) (n : List ℕ) (p : ℕ)
     (d : log.Numbered x k a (part (text_of l) a b) n) (h₁ : a ≤ b) (h₂ : b ≤ l.line.len) where
   abbrev u : List Change
   u = (log.value_of catalogue F (log_lent l)).undo
@@ -80,7 +88,7 @@ module _ (F : Format) (l : Lent) (h : Ready F l) (j : Bool) (x : Edit) (k a b : 
   cut-size : length (old x) ≡ b - a
   cut-size = ap length d.old ∙ length-take-le (b - a) (drop a (text_of l)) (simp length-drop (omega (arith, length-kept F l h)))
 
-  pub is-blank : ((not (eqb k 5) && eqb a b) && eqb (length n) 0) ≡ blank x
+  pub is-blank : ((not (sameb the_type k Replace) && eqb a b) && eqb (length n) 0) ≡ blank x
   is-blank = blank-is x k a b (length n) d.kind h₁ cut-size (ap length d.new)
 
   is-splice : changed x (text_of l) ≡ splice (text_of l) a b n
@@ -109,7 +117,7 @@ module _ (F : Format) (l : Lent) (h : Ready F l) (j : Bool) (x : Edit) (k a b : 
     unrecorded e =
         let q = took F (log_lent l) u (log.value_of catalogue F (log_lent l)) _ l.records l.texts (recorded.only_dropped F (log_lent l) h.log u refl) refl in
         let m = is-blank ∙ e in
-        let z : changed x (text_of l) ≡ text_of l = is-splice ∙ nothing-cut (and_both (not (eqb k 5) && eqb a b) (eqb (length n) 0) m) in
+        let z : changed x (text_of l) ≡ text_of l = is-splice ∙ nothing-cut (and_both (not (sameb the_type k Replace) && eqb a b) (eqb (length n) 0) m) in
         let t : take (length (text_of l)) l.text ≡ text_of l = ap (λ (i : ℕ). take i l.text) (length-kept F l h) in
         rw (no_nine, e, q.room, z)
         (record {
@@ -117,9 +125,9 @@ module _ (F : Format) (l : Lent) (h : Ready F l) (j : Bool) (x : Edit) (k a b : 
           bytes = record { text = t; log = q.bytes };
         })
       where
-        nothing-cut : ((not (eqb k 5) && eqb a b) ≡ true) × (eqb (length n) 0 ≡ true) → splice (text_of l) a b n ≡ text_of l
+        nothing-cut : ((not (sameb the_type k Replace) && eqb a b) ≡ true) × (eqb (length n) 0 ≡ true) → splice (text_of l) a b n ≡ text_of l
         nothing-cut m =
-            let e : a ≡ b = eqb-true a b (and_both (not (eqb k 5)) (eqb a b) m.0).1 in
+            let e : a ≡ b = eqb-true a b (and_both (not (sameb the_type k Replace)) (eqb a b) m.0).1 in
             ap₂ (λ (i : ℕ) (s : List ℕ). splice (text_of l) a i s) (sym e) (none_left n (eqb-true (length n) 0 m.1)) ∙ splice_none (text_of l) a
 
     module _ (some : blank x ≡ false) (r : LogAnswer) (rb tb : List ℕ)
@@ -152,7 +160,7 @@ module _ (F : Format) (l : Lent) (h : Ready F l) (j : Bool) (x : Edit) (k a b : 
           (i ∙ ap (λ (s : List ℕ). inserted s a n) c ∙ cut-put (text_of l) a b n (omega (arith, length-kept F l h)))
 
 -- ---- the bytes that are cut, as they are lent from the buffer
-module _ (F : Format) (l : Lent) (j : Bool) (k a : ℕ) (n s s' : List ℕ) (e : s ≡ s') where
+module _ (F : Format) (l : Lent) (j : Bool) (k : EditKind) (a : ℕ) (n s s' : List ℕ) (e : s ≡ s') where
   pub numbered_as : log.Numbered (log.edit_of k a s n) k a s n → log.Numbered (log.edit_of k a s' n) k a s' n
   numbered_as d = subst (λ (x : List ℕ). log.Numbered (log.edit_of k a x n) k a x n) e d
 

@@ -14,6 +14,7 @@ use Rattle.repertoire.specs.Repertoire.{Repertoire}
 use Rattle.repertoire.specs.Text.{is_text}
 use Rattle.repertoire.proofs.Text.{text-cut}
 use Rattle.log_model.specs.Change.{insert}
+use Rattle.log_records.specs.declared.EditKind.TheVariants.{Insert}
 use Rattle.log_state.specs.Calls.{Numbered}
 
 -- nothing lies between a place and itself
@@ -21,7 +22,7 @@ pub part_none : (t : List ℕ) (a : ℕ) → part t a a ≡ []
 part_none t a = let e : a - a ≡ 0 = omega arith in ap (λ (n : ℕ). take n (drop a t)) e
 
 -- so that a text put in is a change of nothing there
-pub an_insert : (t : List ℕ) (p : ℕ) (s : List ℕ) → Numbered (insert p s) 3 p (part t p p) s
+pub an_insert : (t : List ℕ) (p : ℕ) (s : List ℕ) → Numbered (insert p s) Insert p (part t p p) s
 an_insert t p s = record { kind = refl; place = refl; old = sym (part_none t p); new = refl }
 
 -- a text is what lies before a part, the part, and what lies behind it

@@ -6,6 +6,8 @@ use mathlib.Core.Bool.{Bool, true, false, ◌&&◌}
 use mathlib.Core.List.{List, [], ◌∷◌}
 use lib.Dec.{eqb}
 use lib.ListN.{length}
+use Rattle.std.specs.Prelude.{Option, Some, None, IfSome}
+use Rattle.std.proofs.lemmas.Option.{IfSome_then}
 use Rattle.lists.proofs.Bools.{by_test, never}
 use Rattle.lists.specs.Lists.{part}
 use Rattle.utf8.specs.Chars.{In}
@@ -23,11 +25,13 @@ use Rattle.formats.specs.declared.Format.{Format}
 use Rattle.log_model.specs.Layout.{ok_change, AllGood}
 use Rattle.log_model.specs.Recording.{is_single, note, record_insert, record_replace}
 use Rattle.log_model.specs.UndoBytes.{undo_records, undo_texts}
-use Rattle.log_records.specs.Records.{kind_number}
-use Rattle.log_recording.specs.Tails.{tail_of, noted}
+use Rattle.log_records.specs.declared.EditKind.TheVariants.{Delete}
+use Rattle.log_records.specs.declared.EditRecord.{EditRecord}
+use Rattle.log_records.specs.Records.{edit_record}
+use Rattle.log_recording.specs.Tails.{tail_of, same_kind, joined, noted_at, noted}
 use Rattle.log_recording.specs.declared.Tail.{Tail}
-use Rattle.log_recording.proofs.Numbers.{tail-records, tail-texts, tail-place}
-use Rattle.log_recording.proofs.Put.{put, put-records, put-texts, put-good}
+use Rattle.log_recording.proofs.Numbers.{tail-records, tail_bounded}
+use Rattle.log_recording.proofs.Put.{put, put-records, put-len, put-texts, put-good}
 use Rattle.edit.specs.Plan.{PlannedChange, typed, pasted, cutting, swapping, Suits, splice, made, recorded, blank, noted_or}
 use Rattle.edit.proofs.Parts.{part-text}
 use Rattle.edit.proofs.Once.{noted-insert, noted-delete}
@@ -123,39 +127,51 @@ module _ (R : Repertoire) where
   ok_at (swapping a b s) t v h = rw (part-text R t a b h.0 v, h.1)
 
 -- ---- what noting a change makes of a list
-module _ (F : Format) (j : Bool) (k p o n : ℕ) (t : Tail) where
-  pub noted_grows : t.records ≤ (noted F j k p o n t).tail.records
-  unfolding noted
-  noted_grows =
-      by_test _ (j && eqb t.kind k)
-      (λ e. by_test _ (eqb (t.place + t.new) p) (λ f. rw (e, f) (omega arith))
-      (λ f. by_test _ (eqb k 4 && eqb t.place (p + o)) (λ g. rw (e, f, g) (omega arith)) (λ g. rw (e, f, g) (omega arith))))
-      (λ e. rw e (omega arith))
+module _ (F : Format) (x : EditRecord) (t : Tail) where
+  joined_grows : (y : EditRecord) → t.records ≤ (joined F y x t).records
+  unfolding joined
+  joined_grows y =
+      by_test _ (eqb (y.place + y.new) x.place) (λ f. rw f (omega arith))
+      (λ f. by_test _ (same_kind x.kind Delete && eqb y.place (x.place + x.old)) (λ g. rw (f, g) (omega arith)) (λ g. rw (f, g) (omega arith)))
 
-  pub noted-place : (m : ℕ) → t.place < m → p < m → (noted F j k p o n t).tail.place < m
+  pub noted_grows : (j : Bool) → t.records ≤ (noted F j x t).records
   unfolding noted
-  noted-place m a b =
-      by_test _ (j && eqb t.kind k)
-      (λ e. by_test _ (eqb (t.place + t.new) p) (λ f. rw (e, f) a)
-      (λ f. by_test _ (eqb k 4 && eqb t.place (p + o)) (λ g. rw (e, f, g) b) (λ g. rw (e, f, g) b)))
-      (λ e. rw e b)
+  noted_grows j = go t.newest
+    where
+      go : (y : Option EditRecord) → t.records ≤ (noted_at F j x t y).records
+      go None = omega arith
+      go (Some y) = by_test _ (j && same_kind y.kind x.kind) (λ e. rw e (joined_grows y)) (λ e. rw e (omega arith))
+
+  joined_place : (y : EditRecord) (m : ℕ) → y.place < m → x.place < m → (joined F y x t).edit.place < m
+  unfolding joined
+  joined_place y m a b =
+      by_test _ (eqb (y.place + y.new) x.place) (λ f. rw f a)
+      (λ f. by_test _ (same_kind x.kind Delete && eqb y.place (x.place + x.old)) (λ g. rw (f, g) b) (λ g. rw (f, g) b))
+
+  pub noted-place : (j : Bool) (m : ℕ) → IfSome t.newest (λ y. y.place < m) → x.place < m → (noted F j x t).edit.place < m
+  unfolding noted
+  noted-place j m a b = go t.newest a
+    where
+      go : (y : Option EditRecord) → IfSome y (λ z. z.place < m) → (noted_at F j x t y).edit.place < m
+      go None c = b
+      go (Some y) c = by_test _ (j && same_kind y.kind x.kind) (λ e. rw e (joined_place y m c b)) (λ e. rw e b)
 
 module _ (F : Format) (j : Bool) (x : Edit) (u : List Change) where
   abbrev after : List Change
   after = note j x u
 
   note-records : length (undo_records F u) ≤ length (undo_records F after)
-  note-records = omega (arith, noted_grows F j (kind_number x) (place x) (length (old x)) (length (new x)) (tail_of F u), tail-records F u, put-records F x u after _ (put F j x u))
+  note-records = omega (arith, noted_grows F (edit_record x) (tail_of F u) j, tail-records F u, put-records F x u after _ (put F j x u))
 
   note-texts : length (undo_texts after) ≡ length (undo_texts u) + length (old x) + length (new x)
-  note-texts = sym (tail-texts F after) ∙ ap (λ (t : Tail). t.texts) (sym (put F j x u).tail) ∙ put-texts F x u after _ (put F j x u)
+  note-texts = sym (put-len F x u after _ (put F j x u)) ∙ put-texts F x u after _ (put F j x u)
 
-  note-good : (R : Repertoire) → AllGood R F.width u → ok_change R (edit x) ≡ true → 0 < top F.width → place x < top F.width
+  note-good : (R : Repertoire) → AllGood R F.width u → ok_change R (edit x) ≡ true → place x < top F.width
       → length (undo_texts after) < top F.width → AllGood R F.width after
-  note-good R g o w p t =
+  note-good R g o p t =
       put-good F x u after _ (put F j x u) R g o
-      (noted-place F j (kind_number x) (place x) (length (old x)) (length (new x)) (tail_of F u) (top F.width) (tail-place F R u g w) p)
-      (omega (arith, tail-texts F after, ap (λ (t : Tail). t.texts) (put F j x u).tail))
+      (noted-place F (edit_record x) (tail_of F u) j (top F.width) (IfSome_then (tail_of F u).newest (tail_bounded F R u g) (λ y k. k.place)) p)
+      (omega (arith, put-len F x u after _ (put F j x u)))
 
 -- a change of nothing has no text
 pub blank-texts : (x : Edit) → blank x ≡ true → (old x ≡ []) × (new x ≡ [])
@@ -175,7 +191,7 @@ module _ (F : Format) (j : Bool) (x : Edit) (u : List Change) where
   pub more_texts : length (undo_texts (noted_or j x u)) ≡ length (undo_texts u) + (length (old x) + length (new x))
   more_texts = by_test _ (blank x) (λ e. rw (e, blank_none x e) (omega arith)) (λ e. rw e (note-texts F j x u ∙ omega arith))
 
-  pub more_good : (R : Repertoire) → AllGood R F.width u → ok_change R (edit x) ≡ true → 0 < top F.width → place x < top F.width
+  pub more_good : (R : Repertoire) → AllGood R F.width u → ok_change R (edit x) ≡ true → place x < top F.width
       → length (undo_texts (noted_or j x u)) < top F.width → AllGood R F.width (noted_or j x u)
-  more_good R g o w p t =
-      by_test (AllGood R F.width (noted_or j x u)) (blank x) (λ e. rw e g) (λ e. rw e (note-good F j x u R g o w p (rw e at t)))
+  more_good R g o p t =
+      by_test (AllGood R F.width (noted_or j x u)) (blank x) (λ e. rw e g) (λ e. rw e (note-good F j x u R g o p (rw e at t)))

@@ -66,7 +66,7 @@ module _ (R : Repertoire) where
           let a = i.0 in
           let b = i.1 in
           subst (AllGood R F.width) (sym e)
-          (more_good F (joins_at R x t) (edit_at x t) u R g (ok_at R x t v h) (omega arith) (omega (arith, place_at x t))
+          (more_good F (joins_at R x t) (edit_at x t) u R g (ok_at R x t v h) (omega (arith, place_at x t))
           (omega (arith, ap (λ (y : List Change). length (undo_texts y)) e)))
 
       pub good-after : (xs : List PlannedChange) (t : List ℕ) (u : List Change) → AllSuit R xs t → is_text R t ≡ true → length t ≤ C → too_long C xs t ≡ false

@@ -14,7 +14,9 @@ use Rattle.log_state.specs.Logs.{log_tests}
 use Rattle.log_state.specs.Calls as log
 use Rattle.edit.specs.declared.EditAnswer.{EditAnswer}
 use Rattle.edit.specs.declared.Own.{Own}
-use Rattle.edit.specs.Plan.{State, Plan, edited}
+use Rattle.edit.specs.declared.Checked.{Checked}
+use Rattle.log_records.specs.Walks.{LastAt}
+use Rattle.edit.specs.Plan.{State, Plan, edited, nothing}
 
 -- the three buffers that an edit is lent, the line and the log's state
 pub record Lent : Type 0 where
@@ -94,6 +96,10 @@ module _ (R : Repertoire) (F : Format) (l : Lent) where
   abbrev pub edit_call : Tests → Plan → Outcome State
   edit_call own p = called (checked own) (edited R F (sizes_of l) (length l.text) p (state_of R F l))
 
+  -- a call with a code that names nothing
+  abbrev pub unnamed : Outcome State
+  unnamed = edit_call (with_code true no_tests) (nothing l.line.cursor)
+
 -- ---- what holds where the checks pass
 pub record Ready (F : Format) (l : Lent) : Type 0 where
   pub limit : length l.text ≤ F.text
@@ -102,3 +108,9 @@ pub record Ready (F : Format) (l : Lent) : Type 0 where
   pub within : l.line.cursor ≤ l.line.len
   pub at-boundary : boundary (text_of l) l.line.cursor ≡ true
   pub log : log.Ready F (log_lent l)
+
+-- in the format F the checks pass what is lent as c: the line, the log, and where the newest record of its undo list begins
+pub record Passes (F : Format) (l : Lent) (c : Checked) : Type 0 where
+  pub same : c ≡ record { format = F; line = l.line; log = l.log; last = c.last }
+  pub ready : Ready F l
+  pub last : LastAt catalogue F (take l.log.undo.records l.records) c.last

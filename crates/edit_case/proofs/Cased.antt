@@ -7,6 +7,7 @@ use mathlib.Core.List.{List, [], ◌∷◌, ◌++◌, append_assoc, append-nil}
 use lib.ListN.{length, take, drop, length-append, length-drop, drop_of_length-le}
 use lib.Seq.{sets, length-sets, sets-eq, length-take-le, drop-drop}
 use borrow.Author.Tests.{le-leb}
+use Rattle.std.specs.Prelude.{Option, Some, is_some, leb}
 use Rattle.lists.proofs.Bools.{by_less}
 use Rattle.lists.proofs.Parts.{part-tail}
 use Rattle.lists.proofs.Stores.{take-sets}
@@ -26,14 +27,27 @@ use Rattle.edit_case.specs.declared.WordAction.TheVariants.{Capitalize, Lowercas
 use Rattle.edit_case.specs.EditWord.{in_case, Written, WrittenAt}
 
 -- ---- written into a buffer
-pub case_back : (k : Case) (out s : List ℕ) (at : ℕ) (after : List ℕ) (count : ℕ) → at + length s ≤ length out → CasedInto (take (length out - at) (drop at out)) k s after count
-    → WrittenAt (cased catalogue k s) out at (take at out ++ (after ++ drop (length out - at) (drop at out))) count
+room-at : (out s : List ℕ) (at : ℕ) → at + length s ≤ length out → leb (length s) (length (take (length out - at) (drop at out))) ≡ true
+room-at out s at h =
+    let n : length (take (length out - at) (drop at out)) ≡ length out - at = ap length (part-tail out at) ∙ length-drop at out in
+    le-leb (length s) (length (take (length out - at) (drop at out))) (omega arith)
+
+pub case_some :
+    (k : Case) (out s : List ℕ) (at : ℕ) (after : List ℕ) (r : Option ℕ) → at + length s ≤ length out →
+    CasedInto (take (length out - at) (drop at out)) k s after r → is_some r ≡ true
+case_some k out s at after r h q = ap is_some q.counted ∙ rw (room-at out s at h)
+
+pub case_back :
+    (k : Case) (out s : List ℕ) (at : ℕ) (after : List ℕ) (r : Option ℕ) (count : ℕ) → at + length s ≤ length out →
+    CasedInto (take (length out - at) (drop at out)) k s after r → r ≡ Some count →
+    WrittenAt (cased catalogue k s) out at (take at out ++ (after ++ drop (length out - at) (drop at out))) count
 unfolding cased_into
-case_back k out s at after count h q =
+case_back k out s at after r count h q u =
     let x = cased catalogue k s in
     let d : take (length out - at) (drop at out) ≡ drop at out = part-tail out at in
-    let n : length (take (length out - at) (drop at out)) ≡ length out - at = ap length d ∙ length-drop at out in
-    let all : cased_into (length (take (length out - at) (drop at out))) k s ≡ x = rw (le-leb (length s) (length (take (length out - at) (drop at out))) (omega arith)) in
+    let room = room-at out s at h in
+    let all : cased_into (length (take (length out - at) (drop at out))) k s ≡ x = rw room in
+    let told : r ≡ Some (length x) = rw room at q.counted in
     let l = cased-le k s in
     let is : after ≡ sets (drop at out) 0 x = q.bytes ∙ ap₂ (λ (a b : List ℕ). sets a 0 b) d all in
     let none : drop (length out - at) (drop at out) ≡ [] = drop_of_length-le (drop at out) {i = length out - at} (simp length-drop (omega arith)) in
@@ -44,7 +58,7 @@ case_back k out s at after count h q =
           ∙ ap (λ (a : List ℕ). take at out ++ (x ++ a)) (drop-drop (0 + length x) at out
           ∙ ap (λ (i : ℕ). drop i out) (let z : at + (0 + length x) ≡ at + length x = omega arith in z))
           ∙ sym (sets-eq x out at (omega arith) ∙ append_assoc (take at out) x (drop (at + length x) out));
-      counted = q.counted ∙ ap length all;
+      counted = cc;
     }
 
 -- to the front of a buffer

@@ -1,5 +1,5 @@
 -- The first word from the cursor on in another case: line_buffer.rs, edit_word.
-use Rattle.std.specs.Prelude.{ℕ, ◌+◌, ◌≡◌, true, false, List, [], ◌∷◌, ◌++◌, length, take, drop, get_or}
+use Rattle.std.specs.Prelude.{ℕ, ◌+◌, ◌≡◌, true, false, List, [], ◌∷◌, ◌++◌, length, take, drop, get_or, Option, None, Some}
 use Rattle.std.proofs.lemmas.List.Edits.{sets}
 use Rattle.lists.specs.Lists.{part}
 use Rattle.repertoire.specs.Repertoire.{Repertoire}
@@ -7,8 +7,6 @@ use Rattle.repertoire.specs.Case.{cased}
 use Rattle.repertoire.specs.declared.Case.TheVariants.{Upper, Lower}
 use Rattle.cluster.specs.Clusters.{first_size}
 use Rattle.motion.specs.Trim.{skip_whitespace}
-use Rattle.motion.specs.declared.Found.{Found}
-use Rattle.motion.specs.declared.Found.TheVariants.{At, Nothing}
 use Rattle.motion_words.specs.Places.{words_on}
 use Rattle.checks.specs.Checks.{own_tests}
 use Rattle.checks.specs.Outcome.{Outcome}
@@ -17,8 +15,6 @@ use Rattle.edit.specs.Plan.{State, pasted, cutting, Plan, nothing}
 use Rattle.edit.specs.Calls.{Lent, text_of, edit_call}
 use Rattle.edit_case.specs.declared.WordAction.{WordAction}
 use Rattle.edit_case.specs.declared.WordAction.TheVariants.{Capitalize, Lowercase, Uppercase}
-use Rattle.edit_case.specs.declared.ActionCode.{ActionCode}
-use Rattle.edit_case.specs.declared.ActionCode.TheVariants as code
 
 abbrev pub in_case : Repertoire → WordAction → List ℕ → List ℕ
 in_case R Capitalize s = cased R Upper (take (first_size R s) s) ++ cased R Lower (drop (first_size R s) s)
@@ -46,27 +42,24 @@ case_plan R t w a b =
     }
 
 -- from an alphanumeric cluster to the end of its word
-abbrev pub cased_from : Repertoire → List ℕ → WordAction → ℕ → Found → Plan
-cased_from R t w pos (At a) = case_plan R t w a (words_on R t 1 a)
-cased_from R t w pos Nothing = nothing pos
+abbrev pub cased_from : Repertoire → List ℕ → WordAction → ℕ → Option ℕ → Plan
+cased_from R t w pos (Some a) = case_plan R t w a (words_on R t 1 a)
+cased_from R t w pos None = nothing pos
 
 abbrev pub edit_word_plan : Repertoire → List ℕ → WordAction → ℕ → Plan
 edit_word_plan R t w pos = cased_from R t w pos (skip_whitespace R t pos)
 
 -- 0 Capitalize, 1 Lowercase, 2 Uppercase
-unfoldable pub action_list : List ActionCode
-action_list = code.Is Capitalize ∷ code.Is Lowercase ∷ code.Is Uppercase ∷ []
+unfoldable pub action_list : List (Option WordAction)
+action_list = Some Capitalize ∷ Some Lowercase ∷ Some Uppercase ∷ []
 
-abbrev pub action_of : ℕ → ActionCode
-action_of k = get_or action_list k code.Unknown
-
-abbrev pub action_is : WordAction → ActionCode
-action_is w = code.Is w
+abbrev pub action_of : ℕ → Option WordAction
+action_of k = get_or action_list k None
 
 module _ (R : Repertoire) (F : Format) (l : Lent) where
-  abbrev pub edit_word_by : ActionCode → Outcome State
-  edit_word_by (code.Is w) = edit_call R F l (own_tests false false false) (edit_word_plan R (text_of l) w l.line.cursor)
-  edit_word_by code.Unknown = edit_call R F l (own_tests true false false) (nothing l.line.cursor)
+  abbrev pub edit_word_by : Option WordAction → Outcome State
+  edit_word_by (Some w) = edit_call R F l (own_tests false false false) (edit_word_plan R (text_of l) w l.line.cursor)
+  edit_word_by None = edit_call R F l (own_tests true false false) (nothing l.line.cursor)
 
   abbrev pub edit_word_call : ℕ → Outcome State
   edit_word_call action = edit_word_by (action_of action)

@@ -2,7 +2,8 @@
 // away by a number of document 01.
 #![tactic(auto)]
 
-ghost use Rattle.std.specs.Prelude.{◌≡◌, true, false, ◌+◌, ◌≤◌, length, take};
+ghost use Rattle.std.specs.Prelude.{◌≡◌, Some, true, false, ◌+◌, ◌≤◌, length, take};
+ghost use Rattle.std.specs.Result.{result_ok};
 ghost use Rattle.utf8.specs.Chars.{In};
 ghost use Rattle.repertoire.specs.Repertoire.{catalogue};
 ghost use Rattle.repertoire.specs.Case.{cased};
@@ -11,15 +12,16 @@ ghost use Rattle.log_records.specs.Walks.{LastAt};
 ghost use Rattle.edit.specs.Calls.{lent, Ready, Answers, Makes};
 ghost use Rattle.motion_words.specs.Places.{words_on};
 ghost use Rattle.edit_case.specs.declared.WordAction.TheVariants.{Capitalize};
-ghost use Rattle.edit_case.specs.EditWord.{in_case, Written, WrittenAt, case_plan, action_of, action_is, edit_word_plan, edit_word_by};
+ghost use Rattle.edit_case.specs.EditWord.{in_case, Written, WrittenAt, case_plan, action_of, edit_word_plan, edit_word_by};
 ghost use Rattle.edit_case.specs.EditWord.{edit_word_call};
 
 use checks::Line;
 use cluster::next_cluster;
-use edit::{EditAnswer, Own, check, cut_and_put, refusal, says};
-use formats::{Format, TEXT_MAX, format_for};
+use edit::{Checked, EditAnswer, Own, admit, cut_and_put, refused, says, unnamed};
+use formats::{TEXT_MAX, format_for};
+use keymap::UnknownCode;
 use log_state::Log;
-use motion::{Found, skip_whitespace};
+use motion::skip_whitespace;
 use motion_words::words_on;
 use repertoire::{Case, change_case};
 
@@ -30,22 +32,18 @@ pub enum WordAction {
     Uppercase,
 }
 
-// What a code names.
-#[derive(Clone, Copy)]
-pub enum ActionCode {
-    Is(WordAction),
-    Unknown,
-}
+impl TryFrom<u32> for WordAction {
+    type Error = UnknownCode;
 
-impl WordAction {
-    pub fn from_code(code: u32) -> ActionCode
-        ensures { result ≡ action_of code }
-    {
+    ghost try_from_gives = { λ code r. result_ok r ≡ action_of code };
+
+    #[tactic(auto, unfolding(crate::specs::EditWord::action_list))]
+    fn try_from(code: u32) -> Result<Self, UnknownCode> {
         match code {
-            0 => ActionCode::Is(WordAction::Capitalize),
-            1 => ActionCode::Is(WordAction::Lowercase),
-            2 => ActionCode::Is(WordAction::Uppercase),
-            _ => ActionCode::Unknown,
+            0 => Ok(WordAction::Capitalize),
+            1 => Ok(WordAction::Lowercase),
+            2 => Ok(WordAction::Uppercase),
+            _ => Err(UnknownCode),
         }
     }
 }
@@ -55,7 +53,7 @@ fn case_at(s: &[u8], case: Case, out: &mut [u8], at: usize) -> usize
     requires { at + length s.now ≤ length out.old }
     ensures { WrittenAt (cased catalogue case s.now) out.old at out.new result }
 {
-    change_case(s, case, &mut out[at..])
+    change_case(s, case, &mut out[at..]).unwrap()
 }
 
 // The first cluster in upper case and the rest in lower case, written to the front of out.
@@ -86,36 +84,30 @@ fn write_case(s: &[u8], action: WordAction, out: &mut [u8]) -> usize
 
 // The word from a place on put in another case.
 fn case_from(
-    f: Format,
+    checked: Checked,
     text: &mut [u8],
     records: &mut [u8],
     texts: &mut [u8],
-    line: Line,
-    log: Log,
-    last: usize,
     action: WordAction,
     from: usize,
 ) -> EditAnswer
-    requires ready { Ready f (lent text.old records.old texts.old line log) }
-    requires last_at { LastAt catalogue f (take log.undo.records records.old) last }
-    requires in_text { In (take line.len text.old) from from }
-    ensures { Makes f (lent text.old records.old texts.old line log)
-        (case_plan catalogue (take line.len text.old) action from (words_on catalogue (take line.len text.old) 1 from))
+    requires ready { Ready checked.format (lent text.old records.old texts.old checked.line checked.log) }
+    requires last_at { LastAt catalogue checked.format (take checked.log.undo.records records.old) checked.last }
+    requires in_text { In (take checked.line.len text.old) from from }
+    ensures { Makes checked.format (lent text.old records.old texts.old checked.line checked.log)
+        (case_plan catalogue (take checked.line.len text.old) action from (words_on catalogue (take checked.line.len text.old) 1 from))
         result text.new records.new texts.new }
 {
-    let len = line.len;
+    let len = checked.line.len;
     let to = words_on(&text[..len], from, 1);
     let mut word = [0u8; TEXT_MAX];
     let n = write_case(&text[from..to], action, &mut word);
     let behind = from + n;
     cut_and_put(
-        f,
+        checked,
         text,
         records,
         texts,
-        line,
-        log,
-        last,
         from,
         to,
         from,
@@ -127,27 +119,24 @@ fn case_from(
 
 // edit_word by its action, on what the check passes.
 pub fn edit_word_checked(
-    f: Format,
+    checked: Checked,
     text: &mut [u8],
     records: &mut [u8],
     texts: &mut [u8],
-    line: Line,
-    log: Log,
-    last: usize,
     action: WordAction,
 ) -> EditAnswer
-    requires ready { Ready f (lent text.old records.old texts.old line log) }
-    requires last_at { LastAt catalogue f (take log.undo.records records.old) last }
-    ensures { Makes f (lent text.old records.old texts.old line log)
-        (edit_word_plan catalogue (take line.len text.old) action line.cursor)
+    requires ready { Ready checked.format (lent text.old records.old texts.old checked.line checked.log) }
+    requires last_at { LastAt catalogue checked.format (take checked.log.undo.records records.old) checked.last }
+    ensures { Makes checked.format (lent text.old records.old texts.old checked.line checked.log)
+        (edit_word_plan catalogue (take checked.line.len text.old) action checked.line.cursor)
         result text.new records.new texts.new }
 {
-    let len = line.len;
-    let cursor = line.cursor;
+    let len = checked.line.len;
+    let cursor = checked.line.cursor;
     let found = skip_whitespace(&text[..len], cursor);
     match found {
-        Found::At(p) => case_from(f, text, records, texts, line, log, last, action, p),
-        Found::Nothing => says(1, line, log),
+        Some(p) => case_from(checked, text, records, texts, action, p),
+        None => says(1, checked.line, checked.log),
     }
 }
 
@@ -160,16 +149,15 @@ fn edit_word_by(
     log: Log,
     action: WordAction,
 ) -> EditAnswer
-    ensures { Answers (lent text.old records.old texts.old line log) (λ F l. edit_word_by catalogue F l (action_is action))
+    ensures { Answers (lent text.old records.old texts.old line log) (λ F l. edit_word_by catalogue F l (Some action))
         result text.new records.new texts.new }
 {
     let f = format_for(text.len());
-    let c = check(f, text, records, texts, line, log, Own::none());
-    if c.number != 0 {
-        return says(c.number, line, log);
-    }
-    let newest = c.newest;
-    edit_word_checked(f, text, records, texts, line, log, newest.last, action)
+    let checked = match admit(f, text, records, texts, line, log, Own::NONE) {
+        Ok(checked) => checked,
+        Err(why) => return refused(why, line, log),
+    };
+    edit_word_checked(checked, text, records, texts, action)
 }
 
 // Wrong answers ruled out: the capital of U+00DF left as it is; a word that has its case already left unrecorded.
@@ -184,17 +172,8 @@ pub fn edit_word(
     ensures { Answers (lent text.old records.old texts.old line log) (λ F l. edit_word_call catalogue F l action)
         result text.new records.new texts.new }
 {
-    let code = WordAction::from_code(action);
-    let ActionCode::Is(a) = code else {
-        let own = Own {
-            sizes: false,
-            code: true,
-            foreign: false,
-            place: false,
-            split: false,
-        };
-        let f = format_for(text.len());
-        return says(refusal(f, text, records, texts, line, log, own), line, log);
+    let Ok(action) = WordAction::try_from(action) else {
+        return unnamed(text, records, texts, line, log);
     };
-    edit_word_by(text, records, texts, line, log, a)
+    edit_word_by(text, records, texts, line, log, action)
 }

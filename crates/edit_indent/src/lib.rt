@@ -17,11 +17,11 @@ ghost use Rattle.utf8.specs.Chars.{In};
 ghost use Rattle.log_model.specs.UndoBytes.{fits};
 ghost use Rattle.edit.specs.Plan.{AllSuit, too_long, list_after};
 
-use checks::{Line, refusal_in};
-use edit::{EditAnswer, Own, cut_out, put_in, refusal, says};
+use checks::{Line, Refused, refusal_in};
+use edit::{Checked, EditAnswer, Own, admit, cut_out, put_in, refused, says, unnamed};
 use edit_indent_plans::{count_cuts, count_lines, deleting, has_room, splits, touched};
 use formats::{Format, format_for};
-use keymap::{Movement, MovementCode, RepeatCount};
+use keymap::{Movement, MovementCodes};
 use log_state::Log;
 use motion_lines::end_of_line;
 use motion_ranges::is_foreign;
@@ -43,35 +43,34 @@ fn piece(m: usize) -> usize
 
 // The lines of a part indented by m, one after the other. A turn puts a piece in, or goes to the next line.
 fn indent_lines(
-    f: Format,
+    checked: Checked,
     text: &mut [u8],
     records: &mut [u8],
     texts: &mut [u8],
-    line: Line,
-    log: Log,
     m: usize,
     from: usize,
     to: usize,
 ) -> EditAnswer
     requires m_bound { m ≤ 256 }
-    requires ready { Ready f (lent text.old records.old texts.old line log) }
-    requires from_le_to { (from ≤ to) × (to ≤ line.len) }
-    requires all_suit { AllSuit catalogue (indent_lines m from (split_lines (part (take line.len text.old) from to))) (take line.len text.old) }
-    requires text_value { too_long (length text.old) (indent_lines m from (split_lines (part (take line.len text.old) from to))) (take line.len text.old) ≡ false }
-    requires log_value { fits f (sizes_of (lent text.old records.old texts.old line log))
-        (list_after catalogue (indent_lines m from (split_lines (part (take line.len text.old) from to))) (take line.len text.old)
-        (state_of catalogue f (lent text.old records.old texts.old line log)).log.undo) ≡ true }
-    ensures { Makes f (lent text.old records.old texts.old line log)
-        (indent_plan catalogue m false line.cursor from (split_lines (part (take line.len text.old) from to)))
+    requires ready { Ready checked.format (lent text.old records.old texts.old checked.line checked.log) }
+    requires from_le_to { (from ≤ to) × (to ≤ checked.line.len) }
+    requires all_suit { AllSuit catalogue (indent_lines m from (split_lines (part (take checked.line.len text.old) from to))) (take checked.line.len text.old) }
+    requires text_value { too_long (length text.old) (indent_lines m from (split_lines (part (take checked.line.len text.old) from to))) (take checked.line.len text.old) ≡ false }
+    requires log_value { fits checked.format (sizes_of (lent text.old records.old texts.old checked.line checked.log))
+        (list_after catalogue (indent_lines m from (split_lines (part (take checked.line.len text.old) from to))) (take checked.line.len text.old)
+        (state_of catalogue checked.format (lent text.old records.old texts.old checked.line checked.log)).log.undo) ≡ true }
+    ensures { Makes checked.format (lent text.old records.old texts.old checked.line checked.log)
+        (indent_plan catalogue m false checked.line.cursor from (split_lines (part (take checked.line.len text.old) from to)))
         result text.new records.new texts.new }
 {
     let spaces = [0x20u8; 32];
-    let mut line_now = line;
-    let mut log_now = log;
-    let mut cursor = indented(from, m, line.cursor);
+    let mut line_now = checked.line;
+    let mut log_now = checked.log;
+    let mut cursor = indented(from, m, checked.line.cursor);
     let mut at = from;
     let mut end = to;
     let mut left = m;
+    // A turn changes the text that the next one reads: no iterator can hold it.
     loop {
         if left == 0 {
             let e = end_of_line(&text[..end], at + m);
@@ -86,12 +85,14 @@ fn indent_lines(
         }
         let n = piece(left);
         let a = put_in(
-            f,
+            Checked {
+                line: line_now,
+                log: log_now,
+                ..checked
+            },
             text,
             records,
             texts,
-            line_now,
-            log_now,
             at,
             &spaces[..n],
             at,
@@ -105,31 +106,36 @@ fn indent_lines(
 
 // Checks 9 and 10 of indenting the lines of a part, and then the lines themselves.
 pub fn indent_range(
-    f: Format,
+    checked: Checked,
     text: &mut [u8],
     records: &mut [u8],
     texts: &mut [u8],
-    line: Line,
-    log: Log,
     m: usize,
     from: usize,
     to: usize,
 ) -> EditAnswer
     requires m_bound { m ≤ 256 }
-    requires ready { Ready f (lent text.old records.old texts.old line log) }
-    requires in_text { In (take line.len text.old) from to }
-    ensures { Makes f (lent text.old records.old texts.old line log)
-        (indent_plan catalogue m false line.cursor from (split_lines (part (take line.len text.old) from to)))
+    requires ready { Ready checked.format (lent text.old records.old texts.old checked.line checked.log) }
+    requires in_text { In (take checked.line.len text.old) from to }
+    ensures { Makes checked.format (lent text.old records.old texts.old checked.line checked.log)
+        (indent_plan catalogue m false checked.line.cursor from (split_lines (part (take checked.line.len text.old) from to)))
         result text.new records.new texts.new }
 {
     let k = count_lines(&text[from..to]);
-    if text.len() - line.len < k * m {
-        return says(9, line, log);
+    if text.len() - checked.line.len < k * m {
+        return refused(Refused::Full, checked.line, checked.log);
     }
-    if !has_room(f, records, texts, log, k * ((m + 31) / 32), k * m) {
-        return says(10, line, log);
+    if !has_room(
+        checked.format,
+        records,
+        texts,
+        checked.log,
+        k * ((m + 31) / 32),
+        k * m,
+    ) {
+        return refused(Refused::LogFull, checked.line, checked.log);
     }
-    indent_lines(f, text, records, texts, line, log, m, from, to)
+    indent_lines(checked, text, records, texts, m, from, to)
 }
 
 // Where a cursor goes as d bytes are cut from the line that begins at a place.
@@ -144,36 +150,47 @@ fn dedented(at: usize, d: usize, pos: usize) -> usize
 
 // The lines of a part dedented by m, one after the other.
 fn dedent_lines(
-    f: Format,
+    checked: Checked,
     text: &mut [u8],
     records: &mut [u8],
     texts: &mut [u8],
-    line: Line,
-    log: Log,
     m: usize,
     from: usize,
     to: usize,
 ) -> EditAnswer
-    requires ready { Ready f (lent text.old records.old texts.old line log) }
-    requires from_le_to { (from ≤ to) × (to ≤ line.len) }
-    requires all_suit { AllSuit catalogue (dedent_lines catalogue m from (split_lines (part (take line.len text.old) from to))) (take line.len text.old) }
-    requires text_value { too_long (length text.old) (dedent_lines catalogue m from (split_lines (part (take line.len text.old) from to))) (take line.len text.old) ≡ false }
-    requires log_value { fits f (sizes_of (lent text.old records.old texts.old line log))
-        (list_after catalogue (dedent_lines catalogue m from (split_lines (part (take line.len text.old) from to))) (take line.len text.old)
-        (state_of catalogue f (lent text.old records.old texts.old line log)).log.undo) ≡ true }
-    ensures { Makes f (lent text.old records.old texts.old line log)
-        (indent_plan catalogue m true line.cursor from (split_lines (part (take line.len text.old) from to)))
+    requires ready { Ready checked.format (lent text.old records.old texts.old checked.line checked.log) }
+    requires from_le_to { (from ≤ to) × (to ≤ checked.line.len) }
+    requires all_suit { AllSuit catalogue (dedent_lines catalogue m from (split_lines (part (take checked.line.len text.old) from to))) (take checked.line.len text.old) }
+    requires text_value { too_long (length text.old) (dedent_lines catalogue m from (split_lines (part (take checked.line.len text.old) from to))) (take checked.line.len text.old) ≡ false }
+    requires log_value { fits checked.format (sizes_of (lent text.old records.old texts.old checked.line checked.log))
+        (list_after catalogue (dedent_lines catalogue m from (split_lines (part (take checked.line.len text.old) from to))) (take checked.line.len text.old)
+        (state_of catalogue checked.format (lent text.old records.old texts.old checked.line checked.log)).log.undo) ≡ true }
+    ensures { Makes checked.format (lent text.old records.old texts.old checked.line checked.log)
+        (indent_plan catalogue m true checked.line.cursor from (split_lines (part (take checked.line.len text.old) from to)))
         result text.new records.new texts.new }
 {
-    let mut line_now = line;
-    let mut log_now = log;
-    let mut cursor = line.cursor;
+    let mut line_now = checked.line;
+    let mut log_now = checked.log;
+    let mut cursor = checked.line.cursor;
     let mut at = from;
     let mut end = to;
+    // A turn changes the text that the next one reads: no iterator can hold it.
     loop {
         let e = end_of_line(&text[..end], at);
         let d = deleting(&text[at..e], m);
-        let a = cut_out(f, text, records, texts, line_now, log_now, 0, at, at + d);
+        let a = cut_out(
+            Checked {
+                line: line_now,
+                log: log_now,
+                last: 0,
+                ..checked
+            },
+            text,
+            records,
+            texts,
+            at,
+            at + d,
+        );
         line_now = a.line;
         log_now = a.log;
         cursor = dedented(at, d, cursor);
@@ -188,28 +205,33 @@ fn dedent_lines(
 
 // Checks 9 and 10 of dedenting the lines of a part, and then the lines themselves.
 pub fn dedent_range(
-    f: Format,
+    checked: Checked,
     text: &mut [u8],
     records: &mut [u8],
     texts: &mut [u8],
-    line: Line,
-    log: Log,
     m: usize,
     from: usize,
     to: usize,
 ) -> EditAnswer
-    requires ready { Ready f (lent text.old records.old texts.old line log) }
-    requires in_text { In (take line.len text.old) from to }
-    requires not_split { Touched·splits catalogue m (split_lines (part (take line.len text.old) from to)) ≡ false }
-    ensures { Makes f (lent text.old records.old texts.old line log)
-        (indent_plan catalogue m true line.cursor from (split_lines (part (take line.len text.old) from to)))
+    requires ready { Ready checked.format (lent text.old records.old texts.old checked.line checked.log) }
+    requires in_text { In (take checked.line.len text.old) from to }
+    requires not_split { Touched·splits catalogue m (split_lines (part (take checked.line.len text.old) from to)) ≡ false }
+    ensures { Makes checked.format (lent text.old records.old texts.old checked.line checked.log)
+        (indent_plan catalogue m true checked.line.cursor from (split_lines (part (take checked.line.len text.old) from to)))
         result text.new records.new texts.new }
 {
     let n = count_cuts(&text[from..to], m);
-    if !has_room(f, records, texts, log, n.records, n.bytes) {
-        return says(10, line, log);
+    if !has_room(
+        checked.format,
+        records,
+        texts,
+        checked.log,
+        n.records,
+        n.bytes,
+    ) {
+        return refused(Refused::LogFull, checked.line, checked.log);
     }
-    dedent_lines(f, text, records, texts, line, log, m, from, to)
+    dedent_lines(checked, text, records, texts, m, from, to)
 }
 
 // Check 6: does a cut of the dedent end inside a character? It is asked of a text and a cursor that pass the checks before it.
@@ -221,7 +243,7 @@ fn is_split(f: Format, text: &[u8], line: Line, m: Movement, amount: usize, dede
     if !dedent {
         return false;
     }
-    if refusal_in(f, text, line, false, false, false) != 0 {
+    if refusal_in(f, text, line, false, false, false).is_err() {
         return false;
     }
     let len = line.len;
@@ -250,22 +272,20 @@ fn indent_movement(
         result text.new records.new texts.new }
 {
     let own = Own {
-        sizes: false,
-        code: false,
         foreign: is_foreign(m),
-        place: false,
         split: is_split(f, text, line, m, amount, dedent),
+        ..Own::NONE
     };
-    let k = refusal(f, text, records, texts, line, log, own);
-    if k != 0 {
-        return says(k, line, log);
-    }
+    let checked = match admit(f, text, records, texts, line, log, own) {
+        Ok(checked) => checked,
+        Err(why) => return refused(why, line, log),
+    };
     let len = line.len;
     let r = touched(&text[..len], line.cursor, m);
     if dedent {
-        return dedent_range(f, text, records, texts, line, log, amount, r.start, r.end);
+        return dedent_range(checked, text, records, texts, amount, r.start, r.end);
     }
-    indent_range(f, text, records, texts, line, log, amount, r.start, r.end)
+    indent_range(checked, text, records, texts, amount, r.start, r.end)
 }
 
 // Wrong answers ruled out: the lines ended at the next \n; a dedent that takes more than the white space.
@@ -275,39 +295,25 @@ pub fn indent(
     texts: &mut [u8],
     line: Line,
     log: Log,
-    mvt: u32,
-    n: RepeatCount,
-    at: u32,
-    word: u32,
-    search: u32,
-    ch: u32,
+    codes: MovementCodes,
     amount: u8,
     dedent: bool,
 ) -> EditAnswer
-    ensures { Answers (lent text.old records.old texts.old line log) (λ F l. indent_call catalogue F l amount dedent mvt n at word search ch)
+    ensures { Answers (lent text.old records.old texts.old line log) (λ F l. indent_call catalogue F l amount dedent codes)
         result text.new records.new texts.new }
 {
-    let f = format_for(text.len());
-    let code = Movement::from_codes(mvt, n, at, word, search, ch);
-    let MovementCode::Is(m) = code else {
-        let own = Own {
-            sizes: false,
-            code: true,
-            foreign: false,
-            place: false,
-            split: false,
-        };
-        return says(refusal(f, text, records, texts, line, log, own), line, log);
+    let Ok(m) = Movement::try_from(codes) else {
+        return unnamed(text, records, texts, line, log);
     };
     indent_movement(
-        f,
+        format_for(text.len()),
         text,
         records,
         texts,
         line,
         log,
         m,
-        amount as usize,
+        usize::from(amount),
         dedent,
     )
 }

@@ -8,3 +8,4 @@ pub mod Newlines
 pub mod White
 pub mod Spans
 pub mod Walks
+pub mod Cuts

@@ -2,12 +2,14 @@
 use mathlib.Core.Path.{◌≡◌, refl, sym, ap, ◌∙◌}
 use mathlib.Core.Bool.{true, false, cond}
 use mathlib.Core.List.{List, [], ◌∷◌}
-use Prim.Native.Nat.{ℕ, suc, ◌+◌, ◌-◌, ◌<◌, ◌≤◌}
+use Prim.Native.Nat.{ℕ, zero, suc, ◌+◌, ◌-◌, ◌<◌, ◌≤◌}
 use native.Mathlib.Omega.{arith}
 use native.Mathlib.Numerals.{add-one}
+use lib.Dec.{eqb}
 use lib.ListN.{length, get_or, take, drop, length-drop, drop_of_length-le}
 use lib.Seq.{drop-cons, drop-drop, get_or-drop, take_all}
-use borrow.Author.Tests.{eq-eqb, ne_eqb, eqb-true}
+use borrow.Author.Tests.{eq-eqb, ne_eqb, eqb-true, eqb-false}
+use Rattle.std.specs.List.{slice_split, onto_first}
 use Rattle.lists.specs.Lists.{any}
 use Rattle.lists.proofs.Bools.{by_test}
 use Rattle.utf8.specs.Chars.{valid, boundary}
@@ -66,15 +68,40 @@ module _ (s : List ℕ) where
       ∙ rw (ne_eqb (get_or s i 256) 0x0A e, add-one i)
       (by_test _ (any newline (drop (suc i) s)) (λ t. rw t (omega arith)) (λ t. rw t))
 
-  -- r is what the place becomes
-  pub last_here : (i last r : ℕ) → i < length s → get_or s i 256 ≡ 0x0A → r ≡ i → last_from i last ≡ last_from (i + 1) r
-  last_here i last r h e q = here i last h e ∙ ap (last_from (i + 1)) (sym q)
+  -- the last one stands k places further
+  last_further : (k i last : ℕ) → i + k < length s → get_or s (i + k) 256 ≡ 0x0A → any newline (drop (i + k + 1) s) ≡ false
+      → last_from i last ≡ i + k
+  last_further zero i last h e n =
+      let z : i + 0 ≡ i = omega arith in
+      let q : get_or s i 256 ≡ 0x0A = rw z at e in
+      let m : any newline (drop (i + 1) s) ≡ false = rw z at n in
+      here i last (omega arith) q ∙ rw m (omega arith)
+  last_further (suc k) i last h e n =
+      let z : i + suc k ≡ i + 1 + k = omega arith in
+      let q : get_or s (i + 1 + k) 256 ≡ 0x0A = rw z at e in
+      let m : any newline (drop (i + 1 + k + 1) s) ≡ false = rw z at n in
+      by_test _ (eqb (get_or s i 256) 0x0A)
+      (λ t. here i last (omega arith) (eqb-true _ _ t) ∙ last_further k (i + 1) i (omega arith) q m ∙ sym z)
+      (λ t. on i last (omega arith) (eqb-false _ _ t) ∙ last_further k (i + 1) last (omega arith) q m ∙ sym z)
 
-  pub last_on : (i last r : ℕ) → i < length s → (get_or s i 256 ≡ 0x0A → ⊥) → r ≡ last → last_from i last ≡ last_from (i + 1) r
-  last_on i last r h e q = on i last h e ∙ ap (last_from (i + 1)) (sym q)
+  pub last_at : (pos i : ℕ) → pos ≤ i → i < length s → get_or s i 256 ≡ 0x0A → any newline (drop (i + 1) s) ≡ false → i ≡ last_newline s pos
+  last_at pos i p h e n =
+      let z : pos + (i - pos) ≡ i = omega arith in
+      let q : get_or s (pos + (i - pos)) 256 ≡ 0x0A = rw z e in
+      let m : any newline (drop (pos + (i - pos) + 1) s) ≡ false = rw z n in
+      sym (last_all pos (omega arith) ∙ last_further (i - pos) pos (length s) (omega arith) q m ∙ z)
 
-  pub last_end : (i last : ℕ) → length s ≤ i → last_from i last ≡ last
-  last_end i last h = ap (λ (x : List ℕ). cond (any newline x) (i + before_last x) last) (drop_of_length-le s h)
+  pub last_none : (pos : ℕ) → pos ≤ length s → any newline (drop pos s) ≡ false → length s ≡ last_newline s pos
+  last_none pos h n = sym (last_all pos h ∙ rw n)
+
+  pub none_end : (i : ℕ) → length s ≤ i → any newline (drop i s) ≡ false
+  none_end i h = ap (any newline) (drop_of_length-le s h)
+
+  pub none_back : (i : ℕ) → i < length s → (get_or s i 256 ≡ 0x0A → ⊥) → any newline (drop (i + 1) s) ≡ false
+      → any newline (drop i s) ≡ false
+  none_back i h e n =
+      ap (any newline) (drop-cons s i 256 h)
+      ∙ rw (ne_eqb (get_or s i 256) 0x0A e) (ap (λ (k : ℕ). any newline (drop k s)) (sym (add-one i)) ∙ n)
 
   pub last_in : (pos : ℕ) → pos ≤ length s → (pos ≤ last_newline s pos) × (last_newline s pos ≤ length s)
   last_in pos h = let b = last_le (drop pos s) in omega (arith, length-drop pos s)
@@ -113,6 +140,18 @@ lines_some (b ∷ s) = by_test _ (newline b) (λ t. rw t (omega arith)) (λ t. r
     first_some b [] = omega arith
     first_some b (x ∷ xs) = omega arith
 
+-- they are what the library's `split` gives
+pub lines_split : (x : List ℕ) → split_lines x ≡ slice_split newline x
+unfolding split_lines
+lines_split [] = refl
+lines_split (b ∷ s) =
+    by_test _ (newline b) (λ t. rw t (ap (λ (l : List (List ℕ)). [] ∷ l) (lines_split s)))
+    (λ t. rw t (ap (on_first b) (lines_split s) ∙ onto (slice_split newline s)))
+  where
+    onto : (xs : List (List ℕ)) → on_first b xs ≡ onto_first b xs
+    onto [] = refl
+    onto (x ∷ xs) = refl
+
 -- the line that begins at i ends at e
 module _ (s : List ℕ) (i e : ℕ) (h : i ≤ length s) (q : e ≡ end_of_line s i) where
   width : e ≡ i + before_newline (drop i s)
@@ -136,25 +175,7 @@ module _ (s : List ℕ) (i e : ℕ) (h : i ≤ length s) (q : e ≡ end_of_line 
       ∙ ap (λ (y : List ℕ). take (before_newline (drop i s)) (drop i s) ∷ split_lines y) (drop-drop (suc (before_newline (drop i s))) i s ∙ ap (λ (n : ℕ). drop n s) d)
       ∙ ap (λ (n : ℕ). take n (drop i s) ∷ split_lines (drop (e + 1) s)) k
 
--- ---- how many: one more than there are \n
+-- ---- how many
 pub first-length : (b : ℕ) (xs : List (List ℕ)) → 0 < length xs → length (on_first b xs) ≡ length xs
 first-length b [] h = absurd (omega arith)
 first-length b (x ∷ xs) h = refl
-
-module _ (s : List ℕ) (i : ℕ) where
-  abbrev lines : ℕ → ℕ
-  lines k = length (split_lines (drop k s))
-
-  pub count-newline : i < length s → get_or s i 256 ≡ 0x0A → lines i ≡ suc (lines (i + 1))
-  unfolding split_lines
-  count-newline h e = ap (λ (x : List ℕ). length (split_lines x)) (drop-cons s i 256 h) ∙ rw (eq-eqb (get_or s i 256) 0x0A e, add-one i)
-
-  pub count_other : i < length s → (get_or s i 256 ≡ 0x0A → ⊥) → lines i ≡ lines (i + 1)
-  unfolding split_lines
-  count_other h e =
-      ap (λ (x : List ℕ). length (split_lines x)) (drop-cons s i 256 h)
-      ∙ rw (ne_eqb (get_or s i 256) 0x0A e, add-one i) (first-length (get_or s i 256) (split_lines (drop (suc i) s)) (lines_some (drop (suc i) s)))
-
-  pub count-end : length s ≤ i → lines i ≡ 1
-  unfolding split_lines
-  count-end h = ap (λ (x : List ℕ). length (split_lines x)) (drop_of_length-le s h)

@@ -1,7 +1,7 @@
 -- Checks 9 and 10 of indenting and dedenting, by counts. Assumes nothing.
 use mathlib.Core.Path.{◌≡◌, sym, ap, ap₂, subst, ◌∙◌}
 use mathlib.Core.Bool.{Bool, true, false, ◌&&◌}
-use mathlib.Core.List.{List, [], ◌∷◌}
+use mathlib.Core.List.{List}
 use Prim.Native.Nat.{ℕ, ◌+◌, ◌-◌, ◌*◌, ◌/◌, ◌<◌, ◌≤◌}
 use native.Mathlib.Nat.{mul-le-mul}
 use native.Mathlib.Omega.{arith}
@@ -9,7 +9,7 @@ use lib.Dec.{leb, ltb}
 use lib.ListN.{length, take, drop, length-append, length-drop, take-append-drop}
 use borrow.Author.Tests.{le-leb, lt-leb, lt-ltb, le-ltb}
 use Rattle.lists.specs.Lists.{part}
-use Rattle.lists.proofs.Bools.{by_less, by_test}
+use Rattle.lists.proofs.Bools.{by_less}
 use Rattle.utf8.specs.Chars.{valid, In}
 use Rattle.repertoire.specs.Repertoire.{catalogue}
 use Rattle.repertoire.proofs.Text.{text-valid}
@@ -25,8 +25,9 @@ use Rattle.edit.specs.Calls.{Lent, log_lent, text_of, sizes_of, state_of, says, 
 use Rattle.edit.proofs.Answers.{length-kept, nine, ten}
 use Rattle.edit.proofs.Parts.{raw_part}
 use Rattle.edit.proofs.Steps.{room-is}
-use Rattle.edit_indent_plans.specs.Touched.{split_lines, deleting, splits}
+use Rattle.edit_indent_plans.specs.Touched.{split_lines, splits}
 use Rattle.edit_indent_plans.specs.Counts.{cuts_in, bytes_in}
+use Rattle.edit_indent_plans.proofs.Cuts.{cuts_le}
 use Rattle.edit_indent_plans.specs.IndentPlans.{dedent_lines, change_size, changes_max}
 use Rattle.edit_indent_plans.proofs.Joined.{few_lines}
 use Rattle.edit_indent_plans.proofs.Suits.{front_length, by_lines, dedent_all, indent-all}
@@ -46,13 +47,6 @@ pub size_fits : {F : Format} {n : ℕ} → Fit F → n ≤ changes_max → chang
 size_fits {F} f h = let w : change_size F ≤ 9 = omega (arith, f.width) in mul-le-mul w h
 
 -- ---- counts
-cuts_le : (m : ℕ) (xs : List (List ℕ)) → cuts_in catalogue m xs ≤ length xs
-unfolding cuts_in
-cuts_le m [] = omega arith
-cuts_le m (x ∷ xs) =
-    let r = cuts_le m xs in
-    by_test _ (ltb 0 (deleting catalogue m x)) (λ z. rw z (omega arith)) (λ z. rw z (omega arith))
-
 part_short : (t : List ℕ) (a b : ℕ) → length (part t a b) ≤ length t
 part_short t a b = omega (arith, length-append (part t a b) (drop (b - a) (drop a t)), ap length (take-append-drop (b - a) (drop a t)), length-drop a t)
 
@@ -135,7 +129,7 @@ module _ (x : Part) where
 
   -- ---- dedenting: n cuts of b bytes
   pub cuts_few : {n : ℕ} → n ≡ cuts_in catalogue m raw → n ≤ changes_max
-  cuts_few e = omega (arith, ap (cuts_in catalogue m) raw_lines, cuts_le m lines, few)
+  cuts_few e = omega (arith, ap (cuts_in catalogue m) raw_lines, cuts_le catalogue m lines, few)
 
   pub dedent_tested : splits catalogue m lines ≡ false → {n b : ℕ} → n ≡ cuts_in catalogue m raw → b ≡ bytes_in catalogue m raw → {r : Bool} → r ≡ room_for n b → RoomTested x true r
   dedent_tested s {n} {b} e f =

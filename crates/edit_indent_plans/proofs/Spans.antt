@@ -3,44 +3,23 @@ use mathlib.Core.Path.{◌≡◌, refl, sym, ap, subst, ◌∙◌}
 use mathlib.Core.Bool.{true}
 use mathlib.Core.List.{List}
 use Prim.Native.Nat.{ℕ, ◌≤◌}
-use native.Mathlib.Nat.{add-zero}
 use native.Mathlib.Omega.{arith}
 use lib.ListN.{length}
+use Rattle.std.specs.Prelude.{Option, None, Some}
 use Rattle.utf8.specs.Chars.{valid, boundary, In}
 use Rattle.utf8.proofs.Boundary.{boundary-zero, boundary_end}
 use Rattle.repertoire.specs.Repertoire.{Repertoire}
 use Rattle.keymap.specs.declared.Movement.{Movement}
 use Rattle.keymap.specs.declared.Movement.TheVariants as m
-use Rattle.motion.specs.Steps.{or_stay}
-use Rattle.motion.specs.declared.Found.{Found}
-use Rattle.motion.specs.declared.Found.TheVariants as found
 use Rattle.motion_words.specs.Words.{prev_word_pos, next_word_pos}
 use Rattle.motion_words.proofs.Places.{next-word-place, prev_word-place}
-use Rattle.motion_lines.specs.Lines.{start_of_line, n_lines_up, n_lines_down}
-use Rattle.motion_lines.specs.declared.Range.{Range}
-use Rattle.motion_lines.specs.declared.Range.TheVariants.{Places, Nowhere}
+use Rattle.motion_lines.specs.Lines.{start_of_line, n_lines_up, n_lines_down, places}
 use Rattle.motion_lines.proofs.Places.{start_of_line-place, lines_up_place, lines_down_place}
 use Rattle.motion_ranges.specs.Ranges.{up_to, back_to}
 use Rattle.motion_ranges.proofs.Places.{up_in, back_in}
 use Rattle.motion_lines.specs.declared.Span.{Span}
 use Rattle.edit_indent_plans.specs.Touched.{span, or_cursor, span_of, last_newline, touched}
 use Rattle.edit_indent_plans.proofs.Newlines.{last_in, last_place}
-
--- ---- the span of a word, by the place that is found
-found_back : (pos : ℕ) (f : Found) → span (or_stay pos f) pos ≡ or_cursor pos (back_to pos 0 f)
-found_back pos (found.At p) = ap (λ (i : ℕ). span i pos) (sym (add-zero p))
-found_back pos found.Nothing = refl
-
-found_on : (pos : ℕ) (f : Found) → span pos (or_stay pos f) ≡ or_cursor pos (up_to pos 0 f)
-found_on pos (found.At p) = ap (span pos) (sym (add-zero p))
-found_on pos found.Nothing = refl
-
-module _ (pos r : ℕ) (f g : Found) (e : r ≡ or_stay pos f) (q : f ≡ g) where
-  pub word_back : span r pos ≡ or_cursor pos (back_to pos 0 g)
-  word_back = ap (λ (i : ℕ). span i pos) (e ∙ ap (or_stay pos) q) ∙ found_back pos g
-
-  pub word_on : span pos r ≡ or_cursor pos (up_to pos 0 g)
-  word_on = ap (span pos) (e ∙ ap (or_stay pos) q) ∙ found_on pos g
 
 -- ---- both places of a span lie in the text and are boundaries
 abbrev pub Inside : List ℕ → Span → Type 0
@@ -50,9 +29,9 @@ module _ (R : Repertoire) (s : List ℕ) (pos : ℕ) (v : valid s ≡ true) (k :
   here : Inside s (span pos pos)
   here = (omega arith, h, k, k)
 
-  places_in : (r : Range) → ((a b : ℕ) → r ≡ Places a b → In s a b) → Inside s (or_cursor pos r)
-  places_in (Places a b) g = g a b refl
-  places_in Nowhere g = here
+  places_in : (r : Option Span) → ((a b : ℕ) → r ≡ places a b → In s a b) → Inside s (or_cursor pos r)
+  places_in (Some x) g = g x.start x.end refl
+  places_in None g = here
 
   pub span_in : (mvt : Movement) → Inside s (span_of R s pos mvt)
   span_in m.WholeLine = here

@@ -1,24 +1,23 @@
 -- The lines of a part, one at a time: the line that begins at i ends at e, and d of its bytes are cut. Assumes nothing.
 use mathlib.Core.Path.{◌≡◌, refl, sym, ap, subst, ◌∙◌}
-use mathlib.Core.Bool.{Bool, true, false, cond, not, ◌||◌}
+use mathlib.Core.Bool.{Bool, true, false, not, ◌||◌}
 use mathlib.Core.List.{List, [], ◌∷◌}
-use Prim.Native.Nat.{ℕ, suc, ◌+◌, ◌-◌, ◌<◌, ◌≤◌}
+use Prim.Native.Nat.{ℕ, zero, suc, ◌+◌, ◌-◌, ◌<◌, ◌≤◌}
 use native.Mathlib.Omega.{arith}
 use native.Mathlib.Numerals.{add-one}
-use lib.Dec.{ltb}
 use lib.ListN.{length, get_or, take, drop, length-drop}
 use lib.Seq.{drop-drop, get_or-drop, take_all, length-take-le}
-use borrow.Author.Tests.{lt-ltb, le-ltb}
+use Rattle.std.specs.List.{list_any}
 use Rattle.lists.proofs.Bools.{by_less}
 use Rattle.utf8.specs.Utf8.{first, first_of, one as one_byte}
-use Rattle.utf8.specs.Chars.{valid_from, valid, boundary}
+use Rattle.utf8.specs.Chars.{valid_from, valid, boundary, no_tail}
 use Rattle.utf8.proofs.Append.{valid-cut}
+use Rattle.utf8.proofs.Boundary.{boundary_test}
 use Rattle.repertoire.specs.Repertoire.{Repertoire}
 use Rattle.motion_lines.specs.Lines.{end_of_line}
 use Rattle.motion_lines.proofs.Places.{newline-place}
 use Rattle.motion_lines.proofs.Lines.{end-le, end-newline}
 use Rattle.edit_indent_plans.specs.Touched.{split_lines, deleting, splits}
-use Rattle.edit_indent_plans.specs.Counts.{cuts_in, bytes_in}
 use Rattle.edit_indent_plans.proofs.Newlines.{line_last, line_more}
 
 pub newline-valid : valid (0x0A ∷ []) ≡ true
@@ -57,54 +56,43 @@ module _ (p : List ℕ) (i e : ℕ) (h : i ≤ length p) (q : e ≡ end_of_line 
       let j : i + suc (e - i) ≡ e + 1 = omega arith in
       ap valid (sym (drop-drop (suc (e - i)) i p ∙ ap (λ (k : ℕ). drop k p) j)) ∙ (newline-cut (drop i p) (e - i) v (there l)).1
 
-  module _ (R : Repertoire) (m d : ℕ) (f : d ≡ deleting R m (take (e - i) (drop i p))) where
-    -- ---- check 6
-    same_test : boundary (take (e - i) (drop i p)) (deleting R m (take (e - i) (drop i p))) ≡ boundary (take (e - i) (drop i p)) d
-    same_test = ap (boundary (take (e - i) (drop i p))) (sym f)
+-- ---- check 6
+module _ (R : Repertoire) (m : ℕ) where
+  -- does the cut of a line end inside a character?
+  abbrev pub inside : List ℕ → Bool
+  inside x = not (no_tail x (deleting R m x))
 
-    module _ (b : Bool) (g : b ≡ boundary (take (e - i) (drop i p)) d) where
-      first_test : (xs : List (List ℕ)) → splits R m (take (e - i) (drop i p) ∷ xs) ≡ not b || splits R m xs
+  module _ (p : List ℕ) where
+    -- the line that begins at i is the last one, or there is one more
+    module _ (i : ℕ) (h : i ≤ length p) (v : valid (drop i p) ≡ true) where
+      abbrev here : List ℕ
+      here = take (end_of_line p i - i) (drop i p)
+
+      same_test : boundary here (deleting R m here) ≡ no_tail here (deleting R m here)
+      same_test = boundary_test here (deleting R m here) (line-valid p i (end_of_line p i) h refl v)
+
+      at_last : end_of_line p i ≡ length p → splits R m (split_lines (drop i p)) ≡ list_any inside (split_lines (drop i p))
       unfolding splits
-      first_test xs = ap (λ (c : Bool). not c || splits R m xs) (same_test ∙ sym g)
+      at_last l = rw (line_last p i (end_of_line p i) h refl l) (ap (λ (b : Bool). not b || false) same_test)
 
-      pub splits_here : b ≡ false → splits R m (split_lines (drop i p)) ≡ true
-      splits_here z =
-          let w = line_in in
-          by_less _ e (length p)
-          (λ l. ap (splits R m) (line_more p i e h q l) ∙ first_test (split_lines (drop (e + 1) p)) ∙ rw z)
-          (λ l. ap (splits R m) (line_last p i e h q (omega arith)) ∙ first_test [] ∙ rw z)
-
-      pub splits_last : b ≡ true → e ≡ length p → splits R m (split_lines (drop i p)) ≡ false
+      at_more : end_of_line p i < length p
+          → splits R m (split_lines (drop (end_of_line p i + 1) p)) ≡ list_any inside (split_lines (drop (end_of_line p i + 1) p))
+          → splits R m (split_lines (drop i p)) ≡ list_any inside (split_lines (drop i p))
       unfolding splits
-      splits_last z l = ap (splits R m) (line_last p i e h q l) ∙ first_test [] ∙ rw z
+      at_more l r =
+          let rest = split_lines (drop (end_of_line p i + 1) p) in
+          rw (line_more p i (end_of_line p i) h refl l)
+          (ap (λ (b : Bool). not b || splits R m rest) same_test ∙ ap (λ (b : Bool). inside here || b) r)
 
-      pub splits_more : b ≡ true → e < length p → splits R m (split_lines (drop i p)) ≡ splits R m (split_lines (drop (e + 1) p))
-      splits_more z l = ap (splits R m) (line_more p i e h q l) ∙ first_test (split_lines (drop (e + 1) p)) ∙ rw z
+    walk : (n i : ℕ) → length p ≤ i + n → i ≤ length p → valid (drop i p) ≡ true
+        → splits R m (split_lines (drop i p)) ≡ list_any inside (split_lines (drop i p))
+    walk zero i k h v = let z = line_in p i (end_of_line p i) h refl in at_last i h v (omega arith)
+    walk (suc n) i k h v =
+        let z = line_in p i (end_of_line p i) h refl in
+        by_less _ (end_of_line p i) (length p)
+        (λ l. at_more i h v l
+        (walk n (end_of_line p i + 1) (omega arith) (omega arith) (rest-valid p i (end_of_line p i) h refl v l)))
+        (λ l. at_last i h v (omega arith))
 
-    -- ---- what is recorded
-    abbrev pub one : ℕ
-    one = cond (ltb 0 d) 1 0
-
-    pub one_some : 0 < d → one ≡ 1
-    one_some l = rw (lt-ltb 0 d l)
-
-    pub one_none : d ≤ 0 → one ≡ 0
-    one_none l = rw (le-ltb 0 d l)
-
-    pub cuts_last : e ≡ length p → (cuts_in R m (split_lines (drop i p)) ≡ one) × (bytes_in R m (split_lines (drop i p)) ≡ d)
-    unfolding cuts_in bytes_in
-    cuts_last l =
-        let s = line_last p i e h q l in
-        let a : cuts_in R m (split_lines (drop i p)) ≡ one + 0 = ap (cuts_in R m) s ∙ ap (λ (k : ℕ). cond (ltb 0 k) 1 0 + 0) (sym f) in
-        let b : bytes_in R m (split_lines (drop i p)) ≡ d + 0 = ap (bytes_in R m) s ∙ ap (λ (k : ℕ). k + 0) (sym f) in
-        (omega arith, omega arith)
-
-    pub cuts_more : e < length p
-        → (cuts_in R m (split_lines (drop i p)) ≡ one + cuts_in R m (split_lines (drop (e + 1) p)))
-        × (bytes_in R m (split_lines (drop i p)) ≡ d + bytes_in R m (split_lines (drop (e + 1) p)))
-    unfolding cuts_in bytes_in
-    cuts_more l =
-        let s = line_more p i e h q l in (
-          ap (cuts_in R m) s ∙ ap (λ (k : ℕ). cond (ltb 0 k) 1 0 + cuts_in R m (split_lines (drop (e + 1) p))) (sym f),
-          ap (bytes_in R m) s ∙ ap (λ (k : ℕ). k + bytes_in R m (split_lines (drop (e + 1) p))) (sym f),
-        )
+    pub splits_any : valid p ≡ true → splits R m (split_lines p) ≡ list_any inside (split_lines p)
+    splits_any v = walk (length p) 0 (omega arith) (omega arith) v

@@ -1,5 +1,5 @@
 -- The lines that a movement touches, and the white space that they begin with: line_buffer.rs, indent.
-use Rattle.std.specs.Prelude.{ℕ, suc, ◌+◌, Bool, false, cond, not, ◌||◌, List, [], ◌∷◌, ltb, length, drop}
+use Rattle.std.specs.Prelude.{ℕ, suc, ◌+◌, Bool, false, cond, not, ◌||◌, List, [], ◌∷◌, ltb, length, drop, Option, None, Some}
 use Rattle.lists.specs.Lists.{any}
 use Rattle.utf8.specs.Chars.{chars, boundary}
 use Rattle.utf8.specs.Encode.{size}
@@ -8,8 +8,6 @@ use Rattle.keymap.specs.declared.Movement.{Movement}
 use Rattle.keymap.specs.declared.Movement.TheVariants as m
 use Rattle.motion_words.specs.Words.{prev_word_pos, next_word_pos}
 use Rattle.motion_lines.specs.Lines.{newline, start_of_line, n_lines_up, n_lines_down}
-use Rattle.motion_lines.specs.declared.Range.{Range}
-use Rattle.motion_lines.specs.declared.Range.TheVariants.{Places, Nowhere}
 use Rattle.motion_ranges.specs.Ranges.{up_to, back_to}
 use Rattle.motion_lines.specs.declared.Span.{Span}
 
@@ -18,9 +16,9 @@ abbrev pub span : ℕ → ℕ → Span
 span a b = record { start = a; end = b }
 
 -- the span of a range, the cursor twice where it is nowhere
-abbrev pub or_cursor : ℕ → Range → Span
-or_cursor pos (Places a b) = span a b
-or_cursor pos Nowhere = span pos pos
+abbrev pub or_cursor : ℕ → Option Span → Span
+or_cursor pos (Some x) = x
+or_cursor pos None = span pos pos
 
 -- the span of a movement: for one that stays within a line it is the cursor
 abbrev pub span_of : Repertoire → List ℕ → ℕ → Movement → Span

@@ -5,8 +5,9 @@
 ghost use Rattle.std.specs.Prelude.{◌≡◌, ◌&&◌, true, ◌+◌, ◌*◌, ◌≤◌, leb, length};
 ghost use Rattle.formats.specs.Formats.{Fit};
 ghost use Rattle.edit_indent_plans.specs.IndentPlans.{change_size, changes_max};
-ghost use Rattle.utf8.specs.Chars.{valid, boundary};
+ghost use Rattle.utf8.specs.Chars.{valid};
 ghost use Rattle.repertoire.specs.Repertoire.{catalogue};
+ghost use Rattle.motion.specs.Steps.{IsPlace};
 ghost use Rattle.edit_indent_plans.specs.Touched.{or_cursor, span_of, last_newline, split_lines};
 ghost use Rattle.edit_indent_plans.specs.Touched.{touched as Touched·touched, deleting as Touched·deleting, splits as Touched·splits};
 ghost use Rattle.edit_indent_plans.specs.Counts.{cuts_in, bytes_in};
@@ -14,82 +15,57 @@ ghost use Rattle.edit_indent_plans.specs.Counts.{cuts_in, bytes_in};
 use formats::Format;
 use keymap::Movement;
 use log_state::Log;
-use motion::or_stay;
-use motion_lines::{Range, Span, end_of_line, n_lines_down, n_lines_up, start_of_line};
+use motion_lines::{Span, n_lines_down, n_lines_up, start_of_line};
 use motion_words::{next_word_pos, prev_word_pos};
 use repertoire::is_white;
-use utf8::{Decoded, decode_at, is_boundary};
+use utf8::{Char, decode_at, is_boundary};
 
 // At the last \n at or after a place, the text's end where there is none.
 fn last_newline(s: &[u8], pos: usize) -> usize
     requires { pos ≤ length s.now }
     ensures { result ≡ last_newline s.now pos }
 {
-    let mut last = s.len();
-    let mut i = pos;
-    while i < s.len() {
-        if s[i] == 0x0A {
-            last = i;
+    for i in (pos..s.len()).rev() {
+        if s[i] == b'\n' {
+            return i;
         }
-        i += 1;
     }
-    last
+    s.len()
 }
 
 // The span of a range, the cursor twice where it is nowhere.
-fn or_cursor(pos: usize, r: Range) -> Span
+fn or_cursor(pos: usize, r: Option<Span>) -> Span
     ensures { result ≡ or_cursor pos r }
 {
-    match r {
-        Range::Places(a, b) => Span { start: a, end: b },
-        Range::Nowhere => Span {
-            start: pos,
-            end: pos,
-        },
-    }
+    r.unwrap_or(Span {
+        start: pos,
+        end: pos,
+    })
 }
 
 // The span of a movement.
 fn span_of(s: &[u8], pos: usize, m: Movement) -> Span
-    requires { (valid s.now ≡ true) × (boundary s.now pos ≡ true) × (pos ≤ length s.now) }
+    requires { IsPlace s.now pos }
     ensures { result ≡ span_of catalogue s.now pos m }
 {
     match m {
-        Movement::WholeLine => Span {
-            start: pos,
-            end: pos,
-        },
-        Movement::BeginningOfLine => Span {
-            start: pos,
-            end: pos,
-        },
-        Movement::EndOfLine => Span {
+        Movement::WholeLine
+        | Movement::BeginningOfLine
+        | Movement::EndOfLine
+        | Movement::ViCharSearch(_, _)
+        | Movement::ViFirstPrint
+        | Movement::BackwardChar(_)
+        | Movement::ForwardChar(_) => Span {
             start: pos,
             end: pos,
         },
         Movement::BackwardWord(n, w) => Span {
-            start: or_stay(pos, prev_word_pos(s, pos, w, n)),
+            start: prev_word_pos(s, pos, w, n).unwrap_or(pos),
             end: pos,
         },
         Movement::ForwardWord(n, at, w) => Span {
             start: pos,
-            end: or_stay(pos, next_word_pos(s, pos, at, w, n)),
-        },
-        Movement::ViCharSearch(_, _) => Span {
-            start: pos,
-            end: pos,
-        },
-        Movement::ViFirstPrint => Span {
-            start: pos,
-            end: pos,
-        },
-        Movement::BackwardChar(_) => Span {
-            start: pos,
-            end: pos,
-        },
-        Movement::ForwardChar(_) => Span {
-            start: pos,
-            end: pos,
+            end: next_word_pos(s, pos, at, w, n).unwrap_or(pos),
         },
         Movement::LineUp(n) => or_cursor(pos, n_lines_up(s, pos, n)),
         Movement::LineDown(n) => or_cursor(pos, n_lines_down(s, pos, n)),
@@ -107,7 +83,7 @@ fn span_of(s: &[u8], pos: usize, m: Movement) -> Span
 
 // The lines that a movement touches: where they begin and end.
 pub fn touched(s: &[u8], pos: usize, m: Movement) -> Span
-    requires { (valid s.now ≡ true) × (boundary s.now pos ≡ true) × (pos ≤ length s.now) }
+    requires { IsPlace s.now pos }
     ensures { result ≡ Touched·touched catalogue s.now pos m }
 {
     let r = span_of(s, pos, m);
@@ -124,9 +100,9 @@ pub fn deleting(x: &[u8], m: usize) -> usize
     ensures { (result ≡ Touched·deleting catalogue m x.now) × (result ≤ length x.now) }
 {
     let mut i = 0;
+    // A turn passes a character, and stops where none stands: no index is counted, and std has no iterator over these.
     while i < m {
-        let d = decode_at(x, i);
-        let Decoded::Char { cp, len } = d else {
+        let Some(Char { cp, len }) = decode_at(x, i) else {
             return i;
         };
         if !is_white(cp) {
@@ -142,33 +118,15 @@ pub fn splits(p: &[u8], m: usize) -> bool
     requires { valid p.now ≡ true }
     ensures { result ≡ Touched·splits catalogue m (split_lines p.now) }
 {
-    let mut i = 0;
-    loop {
-        let e = end_of_line(p, i);
-        let d = deleting(&p[i..e], m);
-        if !is_boundary(&p[i..e], d) {
-            return true;
-        }
-        if e == p.len() {
-            return false;
-        }
-        i = e + 1;
-    }
+    p.split(|b| *b == b'\n')
+        .any(|line| !is_boundary(line, deleting(line, m)))
 }
 
 // How many lines a part has.
 pub fn count_lines(p: &[u8]) -> usize
     ensures { result ≡ length (split_lines p.now) }
 {
-    let mut n = 1;
-    let mut i = 0;
-    while i < p.len() {
-        if p[i] == 0x0A {
-            n += 1;
-        }
-        i += 1;
-    }
-    n
+    p.split(|b| *b == b'\n').count()
 }
 
 // What is recorded: how many records, and the bytes of their texts.
@@ -184,19 +142,14 @@ pub fn count_cuts(p: &[u8], m: usize) -> Counts
 {
     let mut records = 0;
     let mut bytes = 0;
-    let mut i = 0;
-    loop {
-        let e = end_of_line(p, i);
-        let d = deleting(&p[i..e], m);
+    for line in p.split(|b| *b == b'\n') {
+        let d = deleting(line, m);
         if 0 < d {
             records += 1;
         }
         bytes += d;
-        if e == p.len() {
-            return Counts { records, bytes };
-        }
-        i = e + 1;
     }
+    Counts { records, bytes }
 }
 
 // Is there room in the log for the records of n more insertions or cuts, with so many bytes of text?

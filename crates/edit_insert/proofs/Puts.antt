@@ -9,6 +9,7 @@ use Rattle.repertoire.specs.Repertoire.{catalogue}
 use Rattle.checks.specs.Outcome.{Outcome}
 use Rattle.formats.specs.declared.Format.{Format}
 use Rattle.log_model.specs.Change.{insert}
+use Rattle.log_records.specs.declared.EditKind.TheVariants.{Insert}
 use Rattle.edit.specs.declared.EditAnswer.{EditAnswer}
 use Rattle.edit.specs.Plan.{State, Plan, typed, pasted, once, edited, change_out}
 use Rattle.edit.specs.Calls.{Lent, text_of, sizes_of, state_of, says, Edited, Ready}
@@ -33,7 +34,7 @@ module _ (F : Format) (l : Lent) where
   copies_long h s n r i e =
       let w : length l.text - (l.line.len - (pos - pos)) < length (copies n s) = omega (arith, copies_length n s) in
       let p = pos + length (copies n s) in
-      let q = too_long F l h false (insert pos (copies n s)) 3 pos pos (copies n s) p (an_insert (text_of l) pos (copies n s)) (omega arith) h.within w in
+      let q = too_long F l h false (insert pos (copies n s)) Insert pos pos (copies n s) p (an_insert (text_of l) pos (copies n s)) (omega arith) h.within w in
       outcome_as F l (change_out F (sizes_of l) (length l.text) false (insert pos (copies n s)) p (state_of catalogue F l)) _ r l.text l.records l.texts
       (once-paste catalogue F (sizes_of l) (length l.text) p (state_of catalogue F l) pos (copies n s)) (edited_as F l _ r _ l.text l.records l.texts e q)
 

@@ -16,47 +16,43 @@ ghost use Rattle.edit.specs.Plan.{typed, pasted, once};
 ghost use Rattle.buffer.specs.Edit.{copies as Inserts·copies};
 
 use buffer::insert_copies;
-use checks::Line;
+use checks::{Line, Refused};
 use edit::{
-    EditAnswer, Own, change, check, cut_and_put, is_split, put_in, room_now, room_put, says,
+    Checked, EditAnswer, Own, admit, change, cut_and_put, is_split, put_in, refused, room_now,
+    room_put, says,
 };
-use formats::{Format, format_for};
+use formats::format_for;
 use keymap::RepeatCount;
+use log_records::EditKind;
 use log_state::Log;
 use repertoire::{check_char, check_text, is_alnum};
 use utf8::{encode_at, is_boundary};
 
-// A character typed at the cursor, which goes behind it; s are its bytes. The newest record begins at last.
+// A character typed at the cursor, which goes behind it; s are its bytes.
 pub fn type_char(
-    f: Format,
+    checked: Checked,
     text: &mut [u8],
     records: &mut [u8],
     texts: &mut [u8],
-    line: Line,
-    log: Log,
-    last: usize,
     ch: u32,
     s: &[u8],
 ) -> EditAnswer
-    requires ready { Ready f (lent text.old records.old texts.old line log) }
-    requires last_at { LastAt catalogue f (take log.undo.records records.old) last }
+    requires ready { Ready checked.format (lent text.old records.old texts.old checked.line checked.log) }
+    requires last_at { LastAt catalogue checked.format (take checked.log.undo.records records.old) checked.last }
     requires ch_value { is_char catalogue ch ≡ true }
     requires s_value { s.now ≡ encode ch }
-    ensures { Makes f (lent text.old records.old texts.old line log)
-        (once (typed line.cursor ch) (line.cursor + length (encode ch)))
+    ensures { Makes checked.format (lent text.old records.old texts.old checked.line checked.log)
+        (once (typed checked.line.cursor ch) (checked.line.cursor + length (encode ch)))
         result text.new records.new texts.new }
 {
-    let pos = line.cursor;
+    let pos = checked.line.cursor;
     change(
-        f,
+        checked,
         text,
         records,
         texts,
-        line,
-        log,
-        last,
         is_alnum(ch),
-        3,
+        EditKind::Insert,
         pos,
         pos,
         s,
@@ -64,51 +60,46 @@ pub fn type_char(
     )
 }
 
-// n copies of a text put in at the cursor, in place: 9 is answered before one is made, and 10 before a byte changes. The newest
-// record begins at last.
+// n copies of a text put in at the cursor, in place: 9 is answered before one is made, and 10 before a byte changes.
 pub fn put_copies(
-    f: Format,
+    checked: Checked,
     text: &mut [u8],
     records: &mut [u8],
     texts: &mut [u8],
-    line: Line,
-    log: Log,
-    last: usize,
     s: &[u8],
     n: usize,
 ) -> EditAnswer
-    requires ready { Ready f (lent text.old records.old texts.old line log) }
-    requires last_at { LastAt catalogue f (take log.undo.records records.old) last }
+    requires ready { Ready checked.format (lent text.old records.old texts.old checked.line checked.log) }
+    requires last_at { LastAt catalogue checked.format (take checked.log.undo.records records.old) checked.last }
     requires s_value { is_text catalogue s.now ≡ true }
     requires s_len_bound { (length s.now ≤ text_max) × (n ≤ 65535) }
-    ensures { Makes f (lent text.old records.old texts.old line log)
-        (once (pasted line.cursor (Inserts·copies n s.now)) (line.cursor + length (Inserts·copies n s.now)))
+    ensures { Makes checked.format (lent text.old records.old texts.old checked.line checked.log)
+        (once (pasted checked.line.cursor (Inserts·copies n s.now)) (checked.line.cursor + length (Inserts·copies n s.now)))
         result text.new records.new texts.new }
 {
-    let len = line.len;
-    let pos = line.cursor;
+    let len = checked.line.len;
+    let pos = checked.line.cursor;
     let size = s.len() * n;
     if text.len() - len < size {
-        return says(9, line, log);
+        return refused(Refused::Full, checked.line, checked.log);
     }
     let none = [0u8; 1];
     let end = pos + size;
     if size == 0 {
-        return put_in(f, text, records, texts, line, log, pos, &none[..0], end);
+        return put_in(checked, text, records, texts, pos, &none[..0], end);
     }
-    let now = room_now(f, records, texts, log, last);
-    let room = room_put(f, records, texts, now, pos, size);
-    if !room.fits {
-        return says(10, line, log);
+    let now = room_now(checked.format, records, texts, checked.log, checked.last);
+    if room_put(checked.format, records, texts, now, pos, size).is_none() {
+        return refused(Refused::LogFull, checked.line, checked.log);
     }
     insert_copies(text, len, pos, s, n);
-    let a = log.record(
-        f,
+    let a = checked.log.record(
+        checked.format,
         records,
         texts,
         0,
         false,
-        3,
+        EditKind::Insert,
         pos,
         &none[..0],
         &text[pos..end],
@@ -121,32 +112,29 @@ pub fn put_copies(
     says(0, made, noted)
 }
 
-// insert, where the checks have passed. The newest record begins at last.
+// insert, where the checks have passed.
 pub fn insert_checked(
-    f: Format,
+    checked: Checked,
     text: &mut [u8],
     records: &mut [u8],
     texts: &mut [u8],
-    line: Line,
-    log: Log,
-    last: usize,
     ch: u32,
     n: RepeatCount,
 ) -> EditAnswer
-    requires ready { Ready f (lent text.old records.old texts.old line log) }
-    requires last_at { LastAt catalogue f (take log.undo.records records.old) last }
+    requires ready { Ready checked.format (lent text.old records.old texts.old checked.line checked.log) }
+    requires last_at { LastAt catalogue checked.format (take checked.log.undo.records records.old) checked.last }
     requires ch_value { is_char catalogue ch ≡ true }
-    ensures { Makes f (lent text.old records.old texts.old line log)
-        (insert_plan line.cursor ch n)
+    ensures { Makes checked.format (lent text.old records.old texts.old checked.line checked.log)
+        (insert_plan checked.line.cursor ch n)
         result text.new records.new texts.new }
 {
     let mut buf = [0u8; 4];
-    let size = encode_at(&mut buf, 0, ch);
+    let size = encode_at(&mut buf, 0, ch).unwrap();
     let s = &buf[..size];
     if n == 1 {
-        return type_char(f, text, records, texts, line, log, last, ch, s);
+        return type_char(checked, text, records, texts, ch, s);
     }
-    put_copies(f, text, records, texts, line, log, last, s, n as usize)
+    put_copies(checked, text, records, texts, s, usize::from(n))
 }
 
 // Wrong answers ruled out: n = 0 that keeps the redo list; two characters merged as if they were typed.
@@ -163,45 +151,38 @@ pub fn insert(
         result text.new records.new texts.new }
 {
     let own = Own {
-        sizes: false,
-        code: false,
         foreign: !check_char(ch),
-        place: false,
-        split: false,
+        ..Own::NONE
     };
     let f = format_for(text.len());
-    let c = check(f, text, records, texts, line, log, own);
-    if c.number != 0 {
-        return says(c.number, line, log);
-    }
-    let newest = c.newest;
-    insert_checked(f, text, records, texts, line, log, newest.last, ch, n)
+    let checked = match admit(f, text, records, texts, line, log, own) {
+        Ok(checked) => checked,
+        Err(why) => return refused(why, line, log),
+    };
+    insert_checked(checked, text, records, texts, ch, n)
 }
 
-// yank, where the checks have passed. The newest record begins at last.
+// yank, where the checks have passed.
 pub fn yank_checked(
-    f: Format,
+    checked: Checked,
     text: &mut [u8],
     records: &mut [u8],
     texts: &mut [u8],
-    line: Line,
-    log: Log,
-    last: usize,
     buf: &[u8],
     n: RepeatCount,
 ) -> EditAnswer
-    requires ready { Ready f (lent text.old records.old texts.old line log) }
-    requires last_at { LastAt catalogue f (take log.undo.records records.old) last }
+    requires ready { Ready checked.format (lent text.old records.old texts.old checked.line checked.log) }
+    requires last_at { LastAt catalogue checked.format (take checked.log.undo.records records.old) checked.last }
     requires buf_value { is_text catalogue buf.now ≡ true }
     requires buf_in_bounds { length buf.now ≤ length text.old }
-    ensures { Makes f (lent text.old records.old texts.old line log)
-        (yank_plan line.cursor buf.now n)
+    ensures { Makes checked.format (lent text.old records.old texts.old checked.line checked.log)
+        (yank_plan checked.line.cursor buf.now n)
         result text.new records.new texts.new }
 {
     if buf.len() == 0 {
-        return says(1, line, log);
+        return says(1, checked.line, checked.log);
     }
-    put_copies(f, text, records, texts, line, log, last, buf, n as usize)
+    put_copies(checked, text, records, texts, buf, usize::from(n))
 }
 
 // Wrong answers ruled out: an empty text answered 0; 10 where n copies pass the text's room (9).
@@ -219,18 +200,15 @@ pub fn yank(
 {
     let own = Own {
         sizes: text.len() < buf.len(),
-        code: false,
         foreign: !check_text(buf),
-        place: false,
-        split: false,
+        ..Own::NONE
     };
     let f = format_for(text.len());
-    let c = check(f, text, records, texts, line, log, own);
-    if c.number != 0 {
-        return says(c.number, line, log);
-    }
-    let newest = c.newest;
-    yank_checked(f, text, records, texts, line, log, newest.last, buf, n)
+    let checked = match admit(f, text, records, texts, line, log, own) {
+        Ok(checked) => checked,
+        Err(why) => return refused(why, line, log),
+    };
+    yank_checked(checked, text, records, texts, buf, n)
 }
 
 // The place so many bytes before another, 0 where there are not so many.
@@ -253,39 +231,33 @@ fn empty_is(s: &[u8]) -> u32
     0
 }
 
-// yank_pop, where the checks have passed. The newest record begins at last.
+// yank_pop, where the checks have passed.
 pub fn yank_pop_checked(
-    f: Format,
+    checked: Checked,
     text: &mut [u8],
     records: &mut [u8],
     texts: &mut [u8],
-    line: Line,
-    log: Log,
-    last: usize,
     size: usize,
     buf: &[u8],
 ) -> EditAnswer
-    requires ready { Ready f (lent text.old records.old texts.old line log) }
-    requires last_at { LastAt catalogue f (take log.undo.records records.old) last }
+    requires ready { Ready checked.format (lent text.old records.old texts.old checked.line checked.log) }
+    requires last_at { LastAt catalogue checked.format (take checked.log.undo.records records.old) checked.last }
     requires buf_value { is_text catalogue buf.now ≡ true }
     requires buf_in_bounds { length buf.now ≤ length text.old }
-    requires size_le_cursor { size ≤ line.cursor }
-    requires size_value { boundary (take line.len text.old) (line.cursor - size) ≡ true }
-    ensures { Makes f (lent text.old records.old texts.old line log)
-        (yank_pop_plan line.cursor size buf.now)
+    requires size_le_cursor { size ≤ checked.line.cursor }
+    requires size_value { boundary (take checked.line.len text.old) (checked.line.cursor - size) ≡ true }
+    ensures { Makes checked.format (lent text.old records.old texts.old checked.line checked.log)
+        (yank_pop_plan checked.line.cursor size buf.now)
         result text.new records.new texts.new }
 {
-    let pos = line.cursor;
+    let pos = checked.line.cursor;
     let at = pos - size;
     let number = empty_is(buf);
     cut_and_put(
-        f,
+        checked,
         text,
         records,
         texts,
-        line,
-        log,
-        last,
         at,
         pos,
         at,
@@ -314,18 +286,17 @@ pub fn yank_pop(
     let split = is_split(text, len, at);
     let own = Own {
         sizes: text.len() < buf.len(),
-        code: false,
         foreign: !check_text(buf),
         place: pos < size,
         split,
+        ..Own::NONE
     };
     let f = format_for(text.len());
-    let c = check(f, text, records, texts, line, log, own);
-    if c.number != 0 {
-        return says(c.number, line, log);
-    }
-    let newest = c.newest;
-    yank_pop_checked(f, text, records, texts, line, log, newest.last, size, buf)
+    let checked = match admit(f, text, records, texts, line, log, own) {
+        Ok(checked) => checked,
+        Err(why) => return refused(why, line, log),
+    };
+    yank_pop_checked(checked, text, records, texts, size, buf)
 }
 
 // Wrong answers ruled out: the new cursor tried against the old text; the old text and the new one in one Replace record.
@@ -343,31 +314,16 @@ pub fn update(
 {
     let own = Own {
         sizes: text.len() < buf.len(),
-        code: false,
         foreign: !check_text(buf),
         place: buf.len() < pos,
         split: !is_boundary(buf, pos),
+        ..Own::NONE
     };
     let f = format_for(text.len());
-    let c = check(f, text, records, texts, line, log, own);
-    if c.number != 0 {
-        return says(c.number, line, log);
-    }
-    let newest = c.newest;
+    let checked = match admit(f, text, records, texts, line, log, own) {
+        Ok(checked) => checked,
+        Err(why) => return refused(why, line, log),
+    };
     let len = line.len;
-    cut_and_put(
-        f,
-        text,
-        records,
-        texts,
-        line,
-        log,
-        newest.last,
-        0,
-        len,
-        0,
-        buf,
-        pos,
-        0,
-    )
+    cut_and_put(checked, text, records, texts, 0, len, 0, buf, pos, 0)
 }

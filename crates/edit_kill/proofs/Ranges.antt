@@ -1,50 +1,32 @@
--- The code's tests of a line; and what kill cuts lies in the text, between its characters. Assumes nothing.
-use mathlib.Core.Path.{◌≡◌, refl, sym}
+-- What kill cuts lies in the text, between its characters. Assumes nothing.
+use mathlib.Core.Path.{◌≡◌, refl}
 use mathlib.Core.Bool.{true}
 use mathlib.Core.List.{List}
 use Prim.Native.Nat.{ℕ, ◌≤◌}
 use native.Mathlib.Omega.{arith}
 use lib.ListN.{length}
-use borrow.Author.Tests.{eq-eqb, ne_eqb}
+use Rattle.std.specs.Prelude.{Option, None, Some}
+use Rattle.std.specs.Option.{option_or}
 use Rattle.utf8.specs.Chars.{valid, boundary, In}
 use Rattle.repertoire.specs.Repertoire.{Repertoire}
 use Rattle.keymap.specs.declared.Movement.{Movement}
 use Rattle.keymap.specs.declared.Movement.TheVariants as m
 use Rattle.motion.specs.Steps.{next_pos, prev_pos}
 use Rattle.motion.proofs.Places.{next_pos_place, prev_pos_place}
-use Rattle.motion_lines.specs.Lines.{start_of_line, end_of_line}
-use Rattle.motion_lines.specs.declared.Range.{Range}
-use Rattle.motion_lines.specs.declared.Range.TheVariants.{Places, Nowhere}
+use Rattle.motion_lines.specs.Lines.{start_of_line, end_of_line, places}
 use Rattle.motion_lines.proofs.Places.{start_of_line-place, end_of_line-place}
 use Rattle.motion_ranges.specs.Ranges.{up_to, back_to, between, starts_after}
 use Rattle.motion_ranges.proofs.Places.{of_nowhere, of_between, up_in, back_in, copied-place}
-use Rattle.edit_kill.specs.Kills.{or_else, kill_line, discard_line, kill_range}
-
--- ---- the code's tests
-module _ (R : Repertoire) (s : List ℕ) (pos : ℕ) where
-  pub line-rest : (e : ℕ) → e ≡ end_of_line s pos → (pos ≡ e → ⊥) → Places pos e ≡ kill_line R s pos
-  unfolding kill_line
-  line-rest e q h = rw (sym q, ne_eqb pos e h)
-
-  pub line-next : (e : ℕ) → e ≡ end_of_line s pos → pos ≡ e → up_to pos 0 (next_pos R s pos 1) ≡ kill_line R s pos
-  unfolding kill_line
-  line-next e q h = rw (sym q, eq-eqb pos e h)
-
-  pub line-front : (a : ℕ) → a ≡ start_of_line s pos → (a ≡ pos → ⊥) → Places a pos ≡ discard_line R s pos
-  unfolding discard_line
-  line-front a q h = rw (sym q, ne_eqb a pos h)
-
-  pub line_before : (a : ℕ) → a ≡ start_of_line s pos → a ≡ pos → back_to pos 0 (prev_pos R s pos 1) ≡ discard_line R s pos
-  unfolding discard_line
-  line_before a q h = rw (sym q, eq-eqb a pos h)
+use Rattle.edit_kill.specs.Kills.{kill_line, discard_line, kill_range}
+use Rattle.motion_lines.specs.declared.Span.{Span}
 
 -- ---- a range's two places
-else_in : (P : ℕ → ℕ → Type 0) (q r : Range) (a b : ℕ) → or_else q r ≡ Places a b → (q ≡ Places a b → P a b) → (r ≡ Places a b → P a b) → P a b
-else_in P (Places x y) r a b e f g = f e
-else_in P Nowhere r a b e f g = g e
+else_in : (P : ℕ → ℕ → Type 0) (q r : Option Span) (a b : ℕ) → option_or q r ≡ places a b → (q ≡ places a b → P a b) → (r ≡ places a b → P a b) → P a b
+else_in P (Some x) r a b e f g = f e
+else_in P None r a b e f g = g e
 
 module _ (R : Repertoire) (s : List ℕ) (v : valid s ≡ true) (a b : ℕ) where
-  line_in : (pos : ℕ) → boundary s pos ≡ true → pos ≤ length s → kill_line R s pos ≡ Places a b → In s a b
+  line_in : (pos : ℕ) → boundary s pos ≡ true → pos ≤ length s → kill_line R s pos ≡ places a b → In s a b
   unfolding kill_line
   line_in pos k h e =
       let z = end_of_line-place s pos v k h in
@@ -52,7 +34,7 @@ module _ (R : Repertoire) (s : List ℕ) (v : valid s ≡ true) (a b : ℕ) wher
       (λ q. of_between (In s) a b pos (end_of_line s pos) q (z.0, z.1, k, z.2))
       (λ q. up_in s pos a b k h (next_pos R s pos 1) q (λ p f. next_pos_place R s pos 1 p v k h f))
 
-  discard_in : (pos : ℕ) → boundary s pos ≡ true → pos ≤ length s → discard_line R s pos ≡ Places a b → In s a b
+  discard_in : (pos : ℕ) → boundary s pos ≡ true → pos ≤ length s → discard_line R s pos ≡ places a b → In s a b
   unfolding discard_line
   discard_in pos k h e =
       let z = start_of_line-place s pos v h in
@@ -61,7 +43,7 @@ module _ (R : Repertoire) (s : List ℕ) (v : valid s ≡ true) (a b : ℕ) wher
       (λ q. back_in s pos a b k h (prev_pos R s pos 1) q (λ p f. prev_pos_place R s pos 1 p v k h f))
 
   module _ (pos : ℕ) (k : boundary s pos ≡ true) (h : pos ≤ length s) where
-    pub kill_in : (mvt : Movement) → kill_range R s pos mvt ≡ Places a b → In s a b
+    pub kill_in : (mvt : Movement) → kill_range R s pos mvt ≡ places a b → In s a b
     unfolding starts_after
     kill_in m.WholeLine e = let z = start_of_line-place s pos v h in line_in (start_of_line s pos) z.1 (let y = z.0 in omega arith) e
     kill_in m.BeginningOfLine e = discard_in pos k h e

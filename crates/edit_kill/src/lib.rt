@@ -4,8 +4,8 @@
 #![tactic(auto)]
 
 ghost use Rattle.std.specs.Prelude.{◌≡◌, true, ◌≤◌, length, take};
-ghost use Rattle.utf8.specs.Chars.{valid, boundary};
 ghost use Rattle.repertoire.specs.Repertoire.{catalogue};
+ghost use Rattle.motion.specs.Steps.{IsPlace};
 ghost use Rattle.keymap.specs.declared.Movement.TheVariants.{ForwardChar};
 ghost use Rattle.log_records.specs.Walks.{LastAt};
 ghost use Rattle.edit.specs.Calls.{lent, Ready, Answers, Makes};
@@ -15,92 +15,83 @@ ghost use Rattle.edit_kill.specs.Kills.{discard_line_call, discard_buffer_call, 
 ghost use Rattle.edit_kill.specs.Kills.{delete_to_call, cut_plan, places_plan};
 
 use checks::Line;
-use edit::{EditAnswer, Own, check, cut_out, refusal, says};
-use formats::{Format, format_for};
-use keymap::{Movement, MovementCode, RepeatCount};
+use edit::{Checked, EditAnswer, Own, admit, cut_out, refused, says, unnamed};
+use formats::format_for;
+use keymap::{Movement, MovementCodes, RepeatCount};
 use log_state::Log;
-use motion::{Found, next_pos, prev_pos};
-use motion_lines::{Range, end_of_line, start_of_line};
+use motion::{next_pos, prev_pos};
+use motion_lines::{Span, end_of_line, start_of_line};
 use motion_ranges::{copied, is_foreign};
 
 // kill_line from a place.
-fn kill_line_range(s: &[u8], pos: usize) -> Range
+#[tactic(auto, unfolding(crate::specs::Kills::kill_line))]
+fn kill_line_range(s: &[u8], pos: usize) -> Option<Span>
     requires { pos ≤ length s.now }
     ensures { result ≡ kill_line catalogue s.now pos }
 {
     let end = end_of_line(s, pos);
     if pos != end {
-        return Range::Places(pos, end);
+        return Some(Span { start: pos, end });
     }
-    let f = next_pos(s, pos, 1);
-    match f {
-        Found::At(p) => Range::Places(pos, p),
-        Found::Nothing => Range::Nowhere,
-    }
+    next_pos(s, pos, 1).map(|p| Span { start: pos, end: p })
 }
 
 // discard_line from a place.
-fn discard_line_range(s: &[u8], pos: usize) -> Range
-    requires { (valid s.now ≡ true) × (boundary s.now pos ≡ true) × (pos ≤ length s.now) }
+#[tactic(auto, unfolding(crate::specs::Kills::discard_line))]
+fn discard_line_range(s: &[u8], pos: usize) -> Option<Span>
+    requires { IsPlace s.now pos }
     ensures { result ≡ discard_line catalogue s.now pos }
 {
     let start = start_of_line(s, pos);
     if start != pos {
-        return Range::Places(start, pos);
+        return Some(Span { start, end: pos });
     }
-    let f = prev_pos(s, pos, 1);
-    match f {
-        Found::At(p) => Range::Places(p, pos),
-        Found::Nothing => Range::Nowhere,
-    }
+    prev_pos(s, pos, 1).map(|p| Span { start: p, end: pos })
 }
 
 // What kill cuts, by the movement.
-pub fn kill_range(s: &[u8], pos: usize, m: Movement) -> Range
-    requires { (valid s.now ≡ true) × (boundary s.now pos ≡ true) × (pos ≤ length s.now) }
+pub fn kill_range(s: &[u8], pos: usize, m: Movement) -> Option<Span>
+    requires { IsPlace s.now pos }
     ensures { result ≡ kill_range catalogue s.now pos m }
 {
     match m {
         Movement::WholeLine => kill_line_range(s, start_of_line(s, pos)),
         Movement::BeginningOfLine => discard_line_range(s, pos),
         Movement::EndOfLine => kill_line_range(s, pos),
-        Movement::ViFirstPrint => Range::Nowhere,
-        Movement::BackwardWord(_, _) => copied(s, pos, m),
-        Movement::ForwardWord(_, _, _) => copied(s, pos, m),
-        Movement::ViCharSearch(_, _) => copied(s, pos, m),
-        Movement::BackwardChar(_) => copied(s, pos, m),
-        Movement::ForwardChar(_) => copied(s, pos, m),
-        Movement::LineUp(_) => copied(s, pos, m),
-        Movement::LineDown(_) => copied(s, pos, m),
-        Movement::WholeBuffer => copied(s, pos, m),
-        Movement::BeginningOfBuffer => copied(s, pos, m),
-        Movement::EndOfBuffer => copied(s, pos, m),
+        Movement::ViFirstPrint => None,
+        Movement::BackwardWord(_, _)
+        | Movement::ForwardWord(_, _, _)
+        | Movement::ViCharSearch(_, _)
+        | Movement::BackwardChar(_)
+        | Movement::ForwardChar(_)
+        | Movement::LineUp(_)
+        | Movement::LineDown(_)
+        | Movement::WholeBuffer
+        | Movement::BeginningOfBuffer
+        | Movement::EndOfBuffer => copied(s, pos, m),
     }
 }
 
-// kill of a movement, where the checks have passed. The newest record begins at last.
+// kill of a movement, where the checks have passed.
 pub fn kill_checked(
-    f: Format,
+    checked: Checked,
     text: &mut [u8],
     records: &mut [u8],
     texts: &mut [u8],
-    line: Line,
-    log: Log,
-    last: usize,
     m: Movement,
 ) -> EditAnswer
-    requires ready { Ready f (lent text.old records.old texts.old line log) }
-    requires last_at { LastAt catalogue f (take log.undo.records records.old) last }
-    ensures { Makes f (lent text.old records.old texts.old line log)
-        (cut_plan line.cursor (kill_range catalogue (take line.len text.old) line.cursor m))
+    requires ready { Ready checked.format (lent text.old records.old texts.old checked.line checked.log) }
+    requires last_at { LastAt catalogue checked.format (take checked.log.undo.records records.old) checked.last }
+    ensures { Makes checked.format (lent text.old records.old texts.old checked.line checked.log)
+        (cut_plan checked.line.cursor (kill_range catalogue (take checked.line.len text.old) checked.line.cursor m))
         result text.new records.new texts.new }
 {
-    let len = line.len;
-    let cursor = line.cursor;
+    let len = checked.line.len;
+    let cursor = checked.line.cursor;
     let r = kill_range(&text[..len], cursor, m);
     match r {
-        Range::Places(a, b) => cut_out(f, text, records, texts, line, log, last, a, b),
-        Range::Nowhere => says(1, line, log),
+        Some(cut) => cut_out(checked, text, records, texts, cut.start, cut.end),
+        None => says(1, checked.line, checked.log),
     }
 }
 
@@ -117,19 +108,15 @@ pub fn kill_movement(
         result text.new records.new texts.new }
 {
     let own = Own {
-        sizes: false,
-        code: false,
         foreign: is_foreign(m),
-        place: false,
-        split: false,
+        ..Own::NONE
     };
     let f = format_for(text.len());
-    let c = check(f, text, records, texts, line, log, own);
-    if c.number != 0 {
-        return says(c.number, line, log);
-    }
-    let newest = c.newest;
-    kill_checked(f, text, records, texts, line, log, newest.last, m)
+    let checked = match admit(f, text, records, texts, line, log, own) {
+        Ok(checked) => checked,
+        Err(why) => return refused(why, line, log),
+    };
+    kill_checked(checked, text, records, texts, m)
 }
 
 // Wrong answers ruled out: a kill of ViFirstPrint that cuts; WholeLine from the cursor on.
@@ -139,27 +126,13 @@ pub fn kill(
     texts: &mut [u8],
     line: Line,
     log: Log,
-    mvt: u32,
-    n: RepeatCount,
-    at: u32,
-    word: u32,
-    search: u32,
-    ch: u32,
+    codes: MovementCodes,
 ) -> EditAnswer
-    ensures { Answers (lent text.old records.old texts.old line log) (λ F l. kill_call catalogue F l mvt n at word search ch)
+    ensures { Answers (lent text.old records.old texts.old line log) (λ F l. kill_call catalogue F l codes)
         result text.new records.new texts.new }
 {
-    let code = Movement::from_codes(mvt, n, at, word, search, ch);
-    let MovementCode::Is(m) = code else {
-        let own = Own {
-            sizes: false,
-            code: true,
-            foreign: false,
-            place: false,
-            split: false,
-        };
-        let f = format_for(text.len());
-        return says(refusal(f, text, records, texts, line, log, own), line, log);
+    let Ok(m) = Movement::try_from(codes) else {
+        return unnamed(text, records, texts, line, log);
     };
     kill_movement(text, records, texts, line, log, m)
 }
@@ -248,7 +221,15 @@ pub fn delete_prev_word(
     ensures { Answers (lent text.old records.old texts.old line log) (λ F l. delete_prev_word_call catalogue F l word n)
         result text.new records.new texts.new }
 {
-    kill(text, records, texts, line, log, 3, n, 0, word, 0, 0)
+    let codes = MovementCodes {
+        mvt: 3,
+        n,
+        at: 0,
+        word,
+        search: 0,
+        ch: 0,
+    };
+    kill(text, records, texts, line, log, codes)
 }
 
 // Wrong answers ruled out: the stop code not tried; the cursor moved to the word's end.
@@ -265,7 +246,15 @@ pub fn delete_word(
     ensures { Answers (lent text.old records.old texts.old line log) (λ F l. delete_word_call catalogue F l at word n)
         result text.new records.new texts.new }
 {
-    kill(text, records, texts, line, log, 4, n, at, word, 0, 0)
+    let codes = MovementCodes {
+        mvt: 4,
+        n,
+        at,
+        word,
+        search: 0,
+        ch: 0,
+    };
+    kill(text, records, texts, line, log, codes)
 }
 
 // Wrong answers ruled out: Forward without the match; 1 where BackwardAfter cuts nothing.
@@ -282,46 +271,42 @@ pub fn delete_to(
     ensures { Answers (lent text.old records.old texts.old line log) (λ F l. delete_to_call catalogue F l search ch n)
         result text.new records.new texts.new }
 {
-    kill(text, records, texts, line, log, 5, n, 0, 0, search, ch)
+    let codes = MovementCodes {
+        mvt: 5,
+        n,
+        at: 0,
+        word: 0,
+        search,
+        ch,
+    };
+    kill(text, records, texts, line, log, codes)
 }
 
-// delete, where the checks have passed: the cut of ForwardChar, and its two places. The newest record begins at last.
+// delete, where the checks have passed: the cut of ForwardChar, and its two places.
 pub fn delete_checked(
-    f: Format,
+    checked: Checked,
     text: &mut [u8],
     records: &mut [u8],
     texts: &mut [u8],
-    line: Line,
-    log: Log,
-    last: usize,
     n: RepeatCount,
 ) -> EditAnswer
-    requires ready { Ready f (lent text.old records.old texts.old line log) }
-    requires last_at { LastAt catalogue f (take log.undo.records records.old) last }
-    ensures { Makes f (lent text.old records.old texts.old line log)
-        (places_plan line.cursor (kill_range catalogue (take line.len text.old) line.cursor (ForwardChar n)))
+    requires ready { Ready checked.format (lent text.old records.old texts.old checked.line checked.log) }
+    requires last_at { LastAt catalogue checked.format (take checked.log.undo.records records.old) checked.last }
+    ensures { Makes checked.format (lent text.old records.old texts.old checked.line checked.log)
+        (places_plan checked.line.cursor (kill_range catalogue (take checked.line.len text.old) checked.line.cursor (ForwardChar n)))
         result text.new records.new texts.new }
 {
-    let a = kill_checked(
-        f,
-        text,
-        records,
-        texts,
-        line,
-        log,
-        last,
-        Movement::ForwardChar(n),
-    );
+    let a = kill_checked(checked, text, records, texts, Movement::ForwardChar(n));
     if a.number != 0 {
         return a;
     }
     let left = a.line;
     let log = a.log;
-    let cursor = line.cursor;
+    let cursor = checked.line.cursor;
     EditAnswer {
         number: 0,
         from: cursor,
-        to: cursor + (line.len - left.len),
+        to: cursor + (checked.line.len - left.len),
         line: left,
         log,
     }
@@ -340,10 +325,9 @@ pub fn delete(
         result text.new records.new texts.new }
 {
     let f = format_for(text.len());
-    let c = check(f, text, records, texts, line, log, Own::none());
-    if c.number != 0 {
-        return says(c.number, line, log);
-    }
-    let newest = c.newest;
-    delete_checked(f, text, records, texts, line, log, newest.last, n)
+    let checked = match admit(f, text, records, texts, line, log, Own::NONE) {
+        Ok(checked) => checked,
+        Err(why) => return refused(why, line, log),
+    };
+    delete_checked(checked, text, records, texts, n)
 }

@@ -7,8 +7,9 @@ ghost use Rattle.edit.specs.Calls.{lent, Answers};
 ghost use Rattle.edit_range.specs.Ranges.{delete_range_call, replace_call};
 
 use checks::Line;
-use edit::{EditAnswer, Own, change, check, cut_out, is_split, says};
+use edit::{EditAnswer, Own, admit, change, cut_out, is_split, refused};
 use formats::format_for;
+use log_records::EditKind;
 use log_state::Log;
 use repertoire::check_text;
 
@@ -28,19 +29,16 @@ pub fn delete_range(
     let len = line.len;
     let split = is_split(text, len, start) | is_split(text, len, end);
     let own = Own {
-        sizes: false,
-        code: false,
-        foreign: false,
         place: (len < end) | (end < start),
         split,
+        ..Own::NONE
     };
     let f = format_for(text.len());
-    let c = check(f, text, records, texts, line, log, own);
-    if c.number != 0 {
-        return says(c.number, line, log);
-    }
-    let newest = c.newest;
-    cut_out(f, text, records, texts, line, log, newest.last, start, end)
+    let checked = match admit(f, text, records, texts, line, log, own) {
+        Ok(checked) => checked,
+        Err(why) => return refused(why, line, log),
+    };
+    cut_out(checked, text, records, texts, start, end)
 }
 
 // Wrong answers ruled out: nothing by nothing left unrecorded; the cursor left at the start.
@@ -61,27 +59,23 @@ pub fn replace(
     let split = is_split(text, len, start) | is_split(text, len, end);
     let own = Own {
         sizes: text.len() < buf.len(),
-        code: false,
         foreign: !check_text(buf),
         place: (len < end) | (end < start),
         split,
+        ..Own::NONE
     };
     let f = format_for(text.len());
-    let c = check(f, text, records, texts, line, log, own);
-    if c.number != 0 {
-        return says(c.number, line, log);
-    }
-    let newest = c.newest;
+    let checked = match admit(f, text, records, texts, line, log, own) {
+        Ok(checked) => checked,
+        Err(why) => return refused(why, line, log),
+    };
     change(
-        f,
+        checked,
         text,
         records,
         texts,
-        line,
-        log,
-        newest.last,
         true,
-        5,
+        EditKind::Replace,
         start,
         end,
         buf,

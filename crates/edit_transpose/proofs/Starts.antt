@@ -7,6 +7,7 @@ use mathlib.Core.List.{List, ◌∷◌}
 use lib.Dec.{eqb, ltb, leb}
 use lib.ListN.{length}
 use borrow.Author.Tests.{lt-leb, le-leb, le-ltb}
+use Rattle.std.specs.Prelude.{None, Some}
 use Rattle.lists.proofs.Bools.{by_less}
 use Rattle.utf8.specs.Chars.{valid}
 use Rattle.repertoire.specs.Repertoire.{Repertoire}
@@ -14,7 +15,6 @@ use Rattle.cluster.specs.Clusters.{clusters_of, first_cluster, first_size}
 use Rattle.cluster.specs.Facts.{facts}
 use Rattle.cluster.specs.declared.Cluster.{Cluster}
 use Rattle.cluster.proofs.Steps.{step_none, step_one, step_two}
-use Rattle.motion.specs.declared.Found.TheVariants.{At, Nothing}
 use Rattle.motion_words.specs.Places.{back_from}
 use Rattle.edit_transpose.specs.TransposeChars.{starts_at}
 
@@ -45,17 +45,17 @@ module _ (R : Repertoire) (t : List ℕ) where
 
 -- ---- where transpose_chars begins
 module _ (R : Repertoire) (t : List ℕ) (pos : ℕ) where
-  pub starts_nowhere : (x : Bool) → x ≡ ltb (length (clusters_of R t)) 2 → (eqb pos 0 || x) ≡ true → Nothing ≡ starts_at R t pos
+  pub starts_nowhere : (x : Bool) → x ≡ ltb (length (clusters_of R t)) 2 → (eqb pos 0 || x) ≡ true → None ≡ starts_at R t pos
   unfolding starts_at
-  starts_nowhere x e h = sym (ap (λ (y : Bool). cond (eqb pos 0 || y) Nothing (At (cond (eqb pos (length t)) (back_from R t pos) pos))) (sym e) ∙ rw h)
+  starts_nowhere x e h = sym (ap (λ (y : Bool). cond (eqb pos 0 || y) None (Some (cond (eqb pos (length t)) (back_from R t pos) pos))) (sym e) ∙ rw h)
 
   module _ (x : Bool) (e : x ≡ ltb (length (clusters_of R t)) 2) (h : (eqb pos 0 || x) ≡ false) where
-    rest : starts_at R t pos ≡ At (cond (eqb pos (length t)) (back_from R t pos) pos)
+    rest : starts_at R t pos ≡ Some (cond (eqb pos (length t)) (back_from R t pos) pos)
     unfolding starts_at
-    rest = ap (λ (y : Bool). cond (eqb pos 0 || y) Nothing (At (cond (eqb pos (length t)) (back_from R t pos) pos))) (sym e) ∙ rw h
+    rest = ap (λ (y : Bool). cond (eqb pos 0 || y) None (Some (cond (eqb pos (length t)) (back_from R t pos) pos))) (sym e) ∙ rw h
 
-    pub starts-back : eqb pos (length t) ≡ true → (p : ℕ) → p ≡ back_from R t pos → At p ≡ starts_at R t pos
+    pub starts-back : eqb pos (length t) ≡ true → (p : ℕ) → p ≡ back_from R t pos → Some p ≡ starts_at R t pos
     starts-back f p g = sym (rest ∙ rw (f, g))
 
-    pub starts_here : eqb pos (length t) ≡ false → At pos ≡ starts_at R t pos
+    pub starts_here : eqb pos (length t) ≡ false → Some pos ≡ starts_at R t pos
     starts_here f = sym (rest ∙ rw f)

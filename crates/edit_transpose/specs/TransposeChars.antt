@@ -1,10 +1,8 @@
 -- Two neighbouring clusters exchanged: line_buffer.rs, transpose_chars.
-use Rattle.std.specs.Prelude.{ℕ, ◌+◌, false, cond, ◌||◌, List, [], ◌∷◌, eqb, ltb, length}
+use Rattle.std.specs.Prelude.{ℕ, ◌+◌, false, cond, ◌||◌, List, [], ◌∷◌, eqb, ltb, length, Option, None, Some}
 use Rattle.lists.specs.Lists.{part}
 use Rattle.repertoire.specs.Repertoire.{Repertoire}
 use Rattle.cluster.specs.Clusters.{clusters_of}
-use Rattle.motion.specs.declared.Found.{Found}
-use Rattle.motion.specs.declared.Found.TheVariants.{At, Nothing}
 use Rattle.motion_words.specs.Places.{on_from, back_from}
 use Rattle.checks.specs.Checks.{own_tests}
 use Rattle.checks.specs.Outcome.{Outcome}
@@ -27,12 +25,12 @@ exchange R t p =
     }
 
 -- at the end of the text the last cluster is the one that is cut; nothing at the start, and with fewer than two clusters
-unfoldable pub starts_at : Repertoire → List ℕ → ℕ → Found
-starts_at R t pos = cond (eqb pos 0 || ltb (length (clusters_of R t)) 2) Nothing (At (cond (eqb pos (length t)) (back_from R t pos) pos))
+unfoldable pub starts_at : Repertoire → List ℕ → ℕ → Option ℕ
+starts_at R t pos = cond (eqb pos 0 || ltb (length (clusters_of R t)) 2) None (Some (cond (eqb pos (length t)) (back_from R t pos) pos))
 
-abbrev pub exchange_at : Repertoire → List ℕ → ℕ → Found → Plan
-exchange_at R t pos (At p) = exchange R t p
-exchange_at R t pos Nothing = nothing pos
+abbrev pub exchange_at : Repertoire → List ℕ → ℕ → Option ℕ → Plan
+exchange_at R t pos (Some p) = exchange R t p
+exchange_at R t pos None = nothing pos
 
 abbrev pub transpose_chars_plan : Repertoire → List ℕ → ℕ → Plan
 transpose_chars_plan R t pos = exchange_at R t pos (starts_at R t pos)

@@ -3,9 +3,10 @@
 #![tactic(auto)]
 
 ghost use Rattle.std.specs.Prelude.{◌≡◌, true, false, ◌+◌, ◌≤◌, ltb, length, take};
-ghost use Rattle.utf8.specs.Chars.{valid, boundary, In};
+ghost use Rattle.utf8.specs.Chars.{valid, In};
 ghost use Rattle.repertoire.specs.Repertoire.{catalogue};
 ghost use Rattle.cluster.specs.Clusters.{clusters_of};
+ghost use Rattle.motion.specs.Steps.{IsPlace};
 ghost use Rattle.log_records.specs.Walks.{LastAt};
 ghost use Rattle.edit.specs.Plan.{list_after, too_long};
 ghost use Rattle.edit.specs.Calls.{lent, sizes_of, state_of, Ready, Answers, Makes};
@@ -16,16 +17,16 @@ ghost use Rattle.lists.specs.Lists.{part};
 ghost use Rattle.log_model.specs.UndoBytes.{fits};
 
 use buffer::insert_bytes;
-use checks::Line;
+use checks::{Line, Refused};
 use cluster::next_cluster;
 use edit::{
-    EditAnswer, Own, check, cut_and_put, cut_out, put_in, room_cut, room_now, room_put, says,
+    Checked, EditAnswer, Own, admit, cut_and_put, cut_out, put_in, refused, room_cut, room_now,
+    room_put, says,
 };
-use formats::{Format, TEXT_MAX, format_for};
+use formats::{TEXT_MAX, format_for};
 use keymap::RepeatCount;
 use log_records::last_start;
 use log_state::{Log, is_single};
-use motion::Found;
 use motion_words::{back_from, on_from, words_back, words_on};
 
 // Two words of a text, by their places.
@@ -39,7 +40,7 @@ pub struct Words {
 
 // The words that transpose_words finds from a place.
 pub fn words_around(s: &[u8], pos: usize, n: RepeatCount) -> Words
-    requires { (valid s.now ≡ true) × (boundary s.now pos ≡ true) × (pos ≤ length s.now) }
+    requires { IsPlace s.now pos }
     ensures { result ≡ words_around catalogue s.now n pos }
 {
     let end2 = words_on(s, pos, n);
@@ -54,24 +55,15 @@ pub fn words_around(s: &[u8], pos: usize, n: RepeatCount) -> Words
     }
 }
 
-// Has the log room for the two words put in for each other? The newest record begins at last.
-pub fn words_fit(
-    f: Format,
-    text: &[u8],
-    records: &[u8],
-    texts: &[u8],
-    line: Line,
-    log: Log,
-    last: usize,
-    w: Words,
-) -> bool
-    requires ready { Ready f (lent text.now records.now texts.now line log) }
-    requires last_at { LastAt catalogue f (take log.undo.records records.now) last }
-    requires apart { Apart (take line.len text.now) w }
-    requires text_value { too_long (length text.now) (words_plan (take line.len text.now) w).changes (take line.len text.now) ≡ false }
-    ensures { result ≡ fits f (sizes_of (lent text.now records.now texts.now line log))
-        (list_after catalogue (words_plan (take line.len text.now) w).changes (take line.len text.now)
-        (state_of catalogue f (lent text.now records.now texts.now line log)).log.undo) }
+// Has the log room for the two words put in for each other?
+pub fn words_fit(checked: Checked, text: &[u8], records: &[u8], texts: &[u8], w: Words) -> bool
+    requires ready { Ready checked.format (lent text.now records.now texts.now checked.line checked.log) }
+    requires last_at { LastAt catalogue checked.format (take checked.log.undo.records records.now) checked.last }
+    requires apart { Apart (take checked.line.len text.now) w }
+    requires text_value { too_long (length text.now) (words_plan (take checked.line.len text.now) w).changes (take checked.line.len text.now) ≡ false }
+    ensures { result ≡ fits checked.format (sizes_of (lent text.now records.now texts.now checked.line checked.log))
+        (list_after catalogue (words_plan (take checked.line.len text.now) w).changes (take checked.line.len text.now)
+        (state_of catalogue checked.format (lent text.now records.now texts.now checked.line checked.log)).log.undo) }
 {
     let a = w.beg1;
     let b = w.end1;
@@ -79,58 +71,90 @@ pub fn words_fit(
     let d = w.end2;
     let second = is_single(&text[c..d]);
     let first = is_single(&text[a..b]);
-    let r0 = room_now(f, records, texts, log, last);
-    let r1 = room_cut(f, records, texts, r0, second, c, d);
-    let r2 = room_put(f, records, texts, r1, c, b - a);
-    let r3 = room_cut(f, records, texts, r2, first, a, b);
-    let r4 = room_put(f, records, texts, r3, a, d - c);
-    r4.fits
+    let r0 = room_now(checked.format, records, texts, checked.log, checked.last);
+    let r1 = room_cut(checked.format, records, texts, r0, second, c, d);
+    let r2 = room_put(checked.format, records, texts, r1, c, b - a);
+    let r3 = room_cut(checked.format, records, texts, r2, first, a, b);
+    room_put(checked.format, records, texts, r3, a, d - c).is_some()
 }
 
-// The two words put in for each other, where there is room for all four changes. The newest record begins at last; after the
-// first two changes it is another, which is sought.
+// The two words put in for each other, where there is room for all four changes. After the first two changes the newest
+// record is another, which is sought.
 pub fn put_words(
-    f: Format,
+    checked: Checked,
     text: &mut [u8],
     records: &mut [u8],
     texts: &mut [u8],
-    line: Line,
-    log: Log,
-    last: usize,
     w: Words,
     first: &[u8],
     second: &[u8],
 ) -> EditAnswer
-    requires ready { Ready f (lent text.old records.old texts.old line log) }
-    requires last_at { LastAt catalogue f (take log.undo.records records.old) last }
-    requires apart { Apart (take line.len text.old) w }
-    requires first_value { first.now ≡ part (take line.len text.old) w.beg1 w.end1 }
-    requires second_value { second.now ≡ part (take line.len text.old) w.beg2 w.end2 }
-    requires text_value { too_long (length text.old) (words_plan (take line.len text.old) w).changes (take line.len text.old) ≡ false }
-    requires log_value { fits f (sizes_of (lent text.old records.old texts.old line log))
-        (list_after catalogue (words_plan (take line.len text.old) w).changes (take line.len text.old)
-        (state_of catalogue f (lent text.old records.old texts.old line log)).log.undo) ≡ true }
-    ensures { Makes f (lent text.old records.old texts.old line log)
-        (words_plan (take line.len text.old) w)
+    requires ready { Ready checked.format (lent text.old records.old texts.old checked.line checked.log) }
+    requires last_at { LastAt catalogue checked.format (take checked.log.undo.records records.old) checked.last }
+    requires apart { Apart (take checked.line.len text.old) w }
+    requires first_value { first.now ≡ part (take checked.line.len text.old) w.beg1 w.end1 }
+    requires second_value { second.now ≡ part (take checked.line.len text.old) w.beg2 w.end2 }
+    requires text_value { too_long (length text.old) (words_plan (take checked.line.len text.old) w).changes (take checked.line.len text.old) ≡ false }
+    requires log_value { fits checked.format (sizes_of (lent text.old records.old texts.old checked.line checked.log))
+        (list_after catalogue (words_plan (take checked.line.len text.old) w).changes (take checked.line.len text.old)
+        (state_of catalogue checked.format (lent text.old records.old texts.old checked.line checked.log)).log.undo) ≡ true }
+    ensures { Makes checked.format (lent text.old records.old texts.old checked.line checked.log)
+        (words_plan (take checked.line.len text.old) w)
         result text.new records.new texts.new }
 {
     let a = w.beg1;
     let b = w.end1;
     let c = w.beg2;
     let d = w.end2;
-    let r1 = cut_out(f, text, records, texts, line, log, last, c, d);
+    let r1 = cut_out(checked, text, records, texts, c, d);
     let line1 = r1.line;
     let log1 = r1.log;
-    let r2 = put_in(f, text, records, texts, line1, log1, c, first, c);
+    let r2 = put_in(
+        Checked {
+            line: line1,
+            log: log1,
+            ..checked
+        },
+        text,
+        records,
+        texts,
+        c,
+        first,
+        c,
+    );
     let line2 = r2.line;
     let log2 = r2.log;
     let u = log2.undo;
     let ur = u.records;
-    let last2 = last_start(f, &records[..ur]);
-    let r3 = cut_out(f, text, records, texts, line2, log2, last2, a, b);
+    let last2 = last_start(checked.format, &records[..ur]);
+    let r3 = cut_out(
+        Checked {
+            line: line2,
+            log: log2,
+            last: last2,
+            ..checked
+        },
+        text,
+        records,
+        texts,
+        a,
+        b,
+    );
     let line3 = r3.line;
     let log3 = r3.log;
-    let r4 = put_in(f, text, records, texts, line3, log3, a, second, a);
+    let r4 = put_in(
+        Checked {
+            line: line3,
+            log: log3,
+            ..checked
+        },
+        text,
+        records,
+        texts,
+        a,
+        second,
+        a,
+    );
     let line4 = r4.line;
     let log4 = r4.log;
     let moved = Line {
@@ -142,20 +166,17 @@ pub fn put_words(
 
 // The two words put in for each other: 9 and 10 are decided over all four changes before a byte changes.
 fn exchange_words(
-    f: Format,
+    checked: Checked,
     text: &mut [u8],
     records: &mut [u8],
     texts: &mut [u8],
-    line: Line,
-    log: Log,
-    last: usize,
     w: Words,
 ) -> EditAnswer
-    requires ready { Ready f (lent text.old records.old texts.old line log) }
-    requires last_at { LastAt catalogue f (take log.undo.records records.old) last }
-    requires apart { Apart (take line.len text.old) w }
-    ensures { Makes f (lent text.old records.old texts.old line log)
-        (words_plan (take line.len text.old) w)
+    requires ready { Ready checked.format (lent text.old records.old texts.old checked.line checked.log) }
+    requires last_at { LastAt catalogue checked.format (take checked.log.undo.records records.old) checked.last }
+    requires apart { Apart (take checked.line.len text.old) w }
+    ensures { Makes checked.format (lent text.old records.old texts.old checked.line checked.log)
+        (words_plan (take checked.line.len text.old) w)
         result text.new records.new texts.new }
 {
     let a = w.beg1;
@@ -164,25 +185,22 @@ fn exchange_words(
     let d = w.end2;
     let n1 = b - a;
     let n2 = d - c;
-    let left = line.len - n2;
+    let left = checked.line.len - n2;
     if text.len() - left < n1 {
-        return says(9, line, log);
+        return refused(Refused::Full, checked.line, checked.log);
     }
-    if !words_fit(f, text, records, texts, line, log, last, w) {
-        return says(10, line, log);
+    if !words_fit(checked, text, records, texts, w) {
+        return refused(Refused::LogFull, checked.line, checked.log);
     }
     let mut first = [0u8; TEXT_MAX];
     insert_bytes(&mut first, 0, 0, &text[a..b]);
     let mut second = [0u8; TEXT_MAX];
     insert_bytes(&mut second, 0, 0, &text[c..d]);
     put_words(
-        f,
+        checked,
         text,
         records,
         texts,
-        line,
-        log,
-        last,
         w,
         &first[..n1],
         &second[..n2],
@@ -191,23 +209,20 @@ fn exchange_words(
 
 // transpose_words on what the check passes.
 pub fn transpose_words_checked(
-    f: Format,
+    checked: Checked,
     text: &mut [u8],
     records: &mut [u8],
     texts: &mut [u8],
-    line: Line,
-    log: Log,
-    last: usize,
     n: RepeatCount,
 ) -> EditAnswer
-    requires ready { Ready f (lent text.old records.old texts.old line log) }
-    requires last_at { LastAt catalogue f (take log.undo.records records.old) last }
-    ensures { Makes f (lent text.old records.old texts.old line log)
-        (transpose_words_plan catalogue (take line.len text.old) n line.cursor)
+    requires ready { Ready checked.format (lent text.old records.old texts.old checked.line checked.log) }
+    requires last_at { LastAt catalogue checked.format (take checked.log.undo.records records.old) checked.last }
+    ensures { Makes checked.format (lent text.old records.old texts.old checked.line checked.log)
+        (transpose_words_plan catalogue (take checked.line.len text.old) n checked.line.cursor)
         result text.new records.new texts.new }
 {
-    let len = line.len;
-    let cursor = line.cursor;
+    let len = checked.line.len;
+    let cursor = checked.line.cursor;
     let w = words_around(&text[..len], cursor, n);
     if (w.beg1 == w.beg2) | (w.beg2 < w.end1) {
         return says(
@@ -216,10 +231,10 @@ pub fn transpose_words_checked(
                 len,
                 cursor: w.end1,
             },
-            log,
+            checked.log,
         );
     }
-    exchange_words(f, text, records, texts, line, log, last, w)
+    exchange_words(checked, text, records, texts, w)
 }
 
 // Wrong answers ruled out: the cursor where it was on answer 1; 9 decided on the last text alone.
@@ -235,12 +250,11 @@ pub fn transpose_words(
         result text.new records.new texts.new }
 {
     let f = format_for(text.len());
-    let c = check(f, text, records, texts, line, log, Own::none());
-    if c.number != 0 {
-        return says(c.number, line, log);
-    }
-    let newest = c.newest;
-    transpose_words_checked(f, text, records, texts, line, log, newest.last, n)
+    let checked = match admit(f, text, records, texts, line, log, Own::NONE) {
+        Ok(checked) => checked,
+        Err(why) => return refused(why, line, log),
+    };
+    transpose_words_checked(checked, text, records, texts, n)
 }
 
 // Has a text fewer than two clusters?
@@ -252,59 +266,42 @@ fn under_two(s: &[u8]) -> bool
 }
 
 // Where the cluster starts that transpose_chars cuts.
-fn starts_at(s: &[u8], pos: usize) -> Found
-    requires { (valid s.now ≡ true) × (boundary s.now pos ≡ true) × (pos ≤ length s.now) }
+fn starts_at(s: &[u8], pos: usize) -> Option<usize>
+    requires { IsPlace s.now pos }
     ensures { result ≡ starts_at catalogue s.now pos }
 {
     if (pos == 0) | under_two(s) {
-        return Found::Nothing;
+        return None;
     }
     if pos == s.len() {
-        return Found::At(back_from(s, pos));
+        return Some(back_from(s, pos));
     }
-    Found::At(pos)
+    Some(pos)
 }
 
 // The cluster from a place on and the one before it, exchanged.
 fn exchange_at(
-    f: Format,
+    checked: Checked,
     text: &mut [u8],
     records: &mut [u8],
     texts: &mut [u8],
-    line: Line,
-    log: Log,
-    last: usize,
     p: usize,
 ) -> EditAnswer
-    requires ready { Ready f (lent text.old records.old texts.old line log) }
-    requires last_at { LastAt catalogue f (take log.undo.records records.old) last }
-    requires in_text { In (take line.len text.old) p p }
-    ensures { Makes f (lent text.old records.old texts.old line log)
-        (exchange catalogue (take line.len text.old) p)
+    requires ready { Ready checked.format (lent text.old records.old texts.old checked.line checked.log) }
+    requires last_at { LastAt catalogue checked.format (take checked.log.undo.records records.old) checked.last }
+    requires in_text { In (take checked.line.len text.old) p p }
+    ensures { Makes checked.format (lent text.old records.old texts.old checked.line checked.log)
+        (exchange catalogue (take checked.line.len text.old) p)
         result text.new records.new texts.new }
 {
-    let len = line.len;
+    let len = checked.line.len;
     let q = on_from(&text[..len], p);
     let o = back_from(&text[..len], p);
     let n = q - p;
     let behind = o + n;
     let mut cut = [0u8; TEXT_MAX];
     insert_bytes(&mut cut, 0, 0, &text[p..q]);
-    let a = cut_and_put(
-        f,
-        text,
-        records,
-        texts,
-        line,
-        log,
-        last,
-        p,
-        q,
-        o,
-        &cut[..n],
-        behind,
-        0,
-    );
+    let a = cut_and_put(checked, text, records, texts, p, q, o, &cut[..n], behind, 0);
     if a.number != 0 {
         return a;
     }
@@ -320,26 +317,23 @@ fn exchange_at(
 
 // transpose_chars on what the check passes.
 pub fn transpose_chars_checked(
-    f: Format,
+    checked: Checked,
     text: &mut [u8],
     records: &mut [u8],
     texts: &mut [u8],
-    line: Line,
-    log: Log,
-    last: usize,
 ) -> EditAnswer
-    requires ready { Ready f (lent text.old records.old texts.old line log) }
-    requires last_at { LastAt catalogue f (take log.undo.records records.old) last }
-    ensures { Makes f (lent text.old records.old texts.old line log)
-        (transpose_chars_plan catalogue (take line.len text.old) line.cursor)
+    requires ready { Ready checked.format (lent text.old records.old texts.old checked.line checked.log) }
+    requires last_at { LastAt catalogue checked.format (take checked.log.undo.records records.old) checked.last }
+    ensures { Makes checked.format (lent text.old records.old texts.old checked.line checked.log)
+        (transpose_chars_plan catalogue (take checked.line.len text.old) checked.line.cursor)
         result text.new records.new texts.new }
 {
-    let len = line.len;
-    let cursor = line.cursor;
+    let len = checked.line.len;
+    let cursor = checked.line.cursor;
     let found = starts_at(&text[..len], cursor);
     match found {
-        Found::At(p) => exchange_at(f, text, records, texts, line, log, last, p),
-        Found::Nothing => says(1, line, log),
+        Some(p) => exchange_at(checked, text, records, texts, p),
+        None => says(1, checked.line, checked.log),
     }
 }
 
@@ -355,10 +349,9 @@ pub fn transpose_chars(
         result text.new records.new texts.new }
 {
     let f = format_for(text.len());
-    let c = check(f, text, records, texts, line, log, Own::none());
-    if c.number != 0 {
-        return says(c.number, line, log);
-    }
-    let newest = c.newest;
-    transpose_chars_checked(f, text, records, texts, line, log, newest.last)
+    let checked = match admit(f, text, records, texts, line, log, Own::NONE) {
+        Ok(checked) => checked,
+        Err(why) => return refused(why, line, log),
+    };
+    transpose_chars_checked(checked, text, records, texts)
 }

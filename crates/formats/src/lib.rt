@@ -6,7 +6,7 @@ ghost use Rattle.std.specs.Prelude.{◌≡◌};
 ghost use Rattle.formats.specs.Formats.{format_for};
 
 // The bytes of a number, and by how much the kinds of edits are raised; the most bytes of a text, of a log's records and of its
-// texts.
+// texts. That they are sound is `Fit`, a premise of each theorem over all formats, and so no invariant of the type.
 #[derive(Clone, Copy)]
 pub struct Format {
     pub width: usize,

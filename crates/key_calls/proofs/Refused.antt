@@ -1,15 +1,36 @@
 -- A key that is refused: by 13 where it stands for nothing, by the number of a check else. Assumes nothing.
 use Prim.Native.Nat.{ℕ}
+use native.Mathlib.Omega.{arith}
 use mathlib.Core.Path.{◌≡◌, refl, sym, subst}
 use Rattle.repertoire.specs.Repertoire.{catalogue}
 use Rattle.formats.specs.declared.Format.{Format}
+use Rattle.checks.specs.declared.Refused.{Refused}
+use Rattle.checks.specs.declared.Refused.TheVariants.{Sizes, Code, Foreign, Place, Split, Prompt, Damaged}
+use Rattle.checks.specs.declared.Refused.TheVariants.{Full, LogFull, RingFull, Misfit, Unbound, PageFull}
 use Rattle.checks.specs.Outcome.{Outcome, refused}
+use Rattle.checks.specs.Refused.{number_of}
 use Rattle.edit.specs.Calls.{Lent, says}
 use Rattle.kill_ring.specs.Calls as rings
 use Rattle.key_model.specs.declared.KeyAnswer.{KeyAnswer}
 use Rattle.key_model.specs.Stands.{KeyCalls, unbound}
 use Rattle.key_model.specs.Keyed.{KeyState}
 use Rattle.key_model.specs.Contract.{with_ring, key_buffers, KeyDone, Keyed, Does}
+
+-- the number of a refusal is not 0, which is that of a call that passes
+pub refused-not0 : (w : Refused) → number_of w ≡ 0 → ⊥
+refused-not0 Sizes e = omega arith
+refused-not0 Code e = omega arith
+refused-not0 Foreign e = omega arith
+refused-not0 Place e = omega arith
+refused-not0 Split e = omega arith
+refused-not0 Prompt e = omega arith
+refused-not0 Damaged e = omega arith
+refused-not0 Full e = omega arith
+refused-not0 LogFull e = omega arith
+refused-not0 RingFull e = omega arith
+refused-not0 Misfit e = omega arith
+refused-not0 Unbound e = omega arith
+refused-not0 PageFull e = omega arith
 
 module _ (F : Format) (l : Lent) (g : rings.Lent) where
   -- not a byte of what was lent is changed

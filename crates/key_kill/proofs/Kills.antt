@@ -6,14 +6,13 @@ use mathlib.Core.List.{[], ◌∷◌}
 use lib.Dec.{eqb}
 use lib.ListN.{length}
 use borrow.Author.Tests.{eq-eqb}
+use Rattle.std.specs.Prelude.{Option, None}
 use Rattle.lists.specs.Lists.{part}
 use Rattle.repertoire.specs.Repertoire.{catalogue}
 use Rattle.keymap.specs.Codes.{word_list, at_list, movements}
 use Rattle.formats.specs.declared.Format.{Format}
 use Rattle.checks.specs.Checks.{no_tests}
 use Rattle.checks.specs.Outcome.{Outcome, refused, answered, called}
-use Rattle.motion_lines.specs.declared.Range.{Range}
-use Rattle.motion_lines.specs.declared.Range.TheVariants.{Places, Nowhere}
 use Rattle.edit.specs.declared.EditAnswer.{EditAnswer}
 use Rattle.edit.specs.Plan.{State, cutting, list_after, too_long, edited}
 use Rattle.edit.specs.Calls.{Lent, text_of, sizes_of, state_of, checked, says, Edited}
@@ -33,6 +32,8 @@ use Rattle.key_model.specs.declared.KeyAnswer.{KeyAnswer}
 use Rattle.key_model.specs.Stands.{KeyCalls, unbound, line, kill, yank, yank_pop, kill_for, movement_for, mode_for, kill_by}
 use Rattle.key_model.specs.Keyed.{KeyState, together, killed_to, done}
 use Rattle.key_model.specs.Contract.{with_ring, KeyBuffers, key_buffers, RingSame, KeyDone, Kept, Passed, Does}
+use Rattle.motion_lines.specs.declared.Span.{Span}
+use Rattle.motion_lines.specs.Lines.{places}
 
 -- ---- a key that kills is answered 0 where it is answered by a cut
 abbrev Zero : {S : Type 0} → Outcome S → Type 0
@@ -66,11 +67,11 @@ is_line (yank n) = false
 is_line yank_pop = false
 
 module _ (F : Format) (l : Lent) (g : rings.Lent) (k : KillKey) (last : ℕ) (p : Passed F l g (kill_by k) last) where
-  abbrev range : Range
+  abbrev range : Option Span
   range = kill_range catalogue (text_of l) l.line.cursor (movement_for k)
 
   -- what the line's call comes to, by the range
-  abbrev cuts : Range → Outcome State
+  abbrev cuts : Option Span → Outcome State
   cuts r = edited catalogue F (sizes_of l) (length l.text) (cut_plan l.line.cursor r) (state_of catalogue F l)
 
   by_range : (k : KillKey) → edit_outcome catalogue F l (kill_for k)
@@ -82,9 +83,9 @@ module _ (F : Format) (l : Lent) (g : rings.Lent) (k : KillKey) (last : ℕ) (p 
   by_range (kk.PrevWord n) = refl
   by_range (kk.Word n) = refl
 
-  done_by : (r : Range) → range ≡ r → done catalogue F l g (kill_by k) ≡ together (cuts r) (killed_to catalogue F l g r (mode_for k))
+  done_by : (r : Option Span) → range ≡ r → done catalogue F l g (kill_by k) ≡ together (cuts r) (killed_to catalogue F l g r (mode_for k))
   done_by r e =
-      ap₂ together (by_range k ∙ ap (λ (c : ℕ). called c (cuts range)) p.line ∙ ap cuts e) (ap (λ (x : Range). killed_to catalogue F l g x (mode_for k)) e)
+      ap₂ together (by_range k ∙ ap (λ (c : ℕ). called c (cuts range)) p.line ∙ ap cuts e) (ap (λ (x : Option Span). killed_to catalogue F l g x (mode_for k)) e)
 
   kept : {r : KeyAnswer} {b : KeyBuffers} → (eqb r.number 0 ≡ false → RingSame g b) → Kept catalogue F l g (kill_by k) r b
   kept h =
@@ -96,30 +97,30 @@ module _ (F : Format) (l : Lent) (g : rings.Lent) (k : KillKey) (last : ℕ) (p 
       }
 
   -- a range: it is cut, and goes to the ring
-  pub kill_does : (a b : ℕ) → range ≡ Places a b → (m : Mode) → m ≡ mode_for k → {r : KeyAnswer} {z : KeyBuffers}
-      → KeyDone F l g (together (cuts (Places a b)) (kill_out m (part (text_of l) a b) (rings.value_of g))) r z → Does F l g (kill_by k) r z
+  pub kill_does : (a b : ℕ) → range ≡ places a b → (m : Mode) → m ≡ mode_for k → {r : KeyAnswer} {z : KeyBuffers}
+      → KeyDone F l g (together (cuts (places a b)) (kill_out m (part (text_of l) a b) (rings.value_of g))) r z → Does F l g (kill_by k) r z
   unfolding edited
   kill_does a b e m i {r} {z} d =
       record {
         outcome =
             subst (λ (o : Outcome KeyState). KeyDone F l g o r z)
-            (ap (λ (x : Mode). together (cuts (Places a b)) (kill_out x (part (text_of l) a b) (rings.value_of g))) i ∙ sym (done_by (Places a b) e)) d;
+            (ap (λ (x : Mode). together (cuts (places a b)) (kill_out x (part (text_of l) a b) (rings.value_of g))) i ∙ sym (done_by (places a b) e)) d;
         kept =
             kept
-            (ring-same F l g (together (cuts (Places a b)) (kill_out m (part (text_of l) a b) (rings.value_of g)))
-            (together-zero (cuts (Places a b)) (kill_out m (part (text_of l) a b) (rings.value_of g))
+            (ring-same F l g (together (cuts (places a b)) (kill_out m (part (text_of l) a b) (rings.value_of g)))
+            (together-zero (cuts (places a b)) (kill_out m (part (text_of l) a b) (rings.value_of g))
             (either_zero (too_long (length l.text) (cutting a b ∷ []) (text_of l))
             (fits F (sizes_of l) (list_after catalogue (cutting a b ∷ []) (text_of l) (state_of catalogue F l).log.undo)) _)) d);
       }
 
   -- none: 1, with all as it was
-  pub nothing_does : range ≡ Nowhere → {r : KeyAnswer} → r ≡ with_ring (says 1 l.line l.log) g.ring
+  pub nothing_does : range ≡ None → {r : KeyAnswer} → r ≡ with_ring (says 1 l.line l.log) g.ring
       → Does F l g (kill_by k) r (key_buffers l.text l.records l.texts g.slots g.lens)
   nothing_does e {r} f =
       record {
         outcome =
             subst (λ (o : Outcome KeyState). KeyDone F l g o r (key_buffers l.text l.records l.texts g.slots g.lens))
-            (sym (done_by Nowhere e)) (with-ring (cuts Nowhere) (stays F l p.ready (says 1 l.line l.log) refl));
+            (sym (done_by None e)) (with-ring (cuts None) (stays F l p.ready (says 1 l.line l.log) refl));
         kept = kept (λ z. record { slots = refl; lens = refl });
       }
     where

@@ -16,16 +16,14 @@ ghost use Rattle.key_model.specs.Stands.{kill_by, movement_for, mode_for};
 ghost use Rattle.key_model.specs.Keyed.{together};
 ghost use Rattle.key_model.specs.Contract.{key_buffers, Passed, Does, KeyDone};
 
-use checks::Line;
-use edit::{cut_out, room_cut, room_now};
+use checks::Refused;
+use edit::{Checked, cut_out, room_cut, room_now};
 use edit_kill::kill_range;
-use formats::Format;
-use key_model::{KeyAnswer, says, with_ring};
+use key_model::{KeyAnswer, refused, says, with_ring};
 use key_press::KillKey;
 use keymap::{At, Movement, Word};
 use kill_ring::{Mode, Ring, kill_checked};
-use log_state::{Log, is_single};
-use motion_lines::Range;
+use log_state::is_single;
 
 fn movement_for(k: KillKey) -> Movement
     ensures { result ≡ movement_for k }
@@ -50,109 +48,96 @@ fn mode_for(k: KillKey) -> Mode
     }
 }
 
-// Has the log room for a cut from a place up to another? The newest record begins at last.
+// Has the log room for a cut from a place up to another?
 fn cut_fits(
-    f: Format,
+    checked: Checked,
     text: &[u8],
     records: &[u8],
     texts: &[u8],
-    line: Line,
-    log: Log,
-    last: usize,
     from: usize,
     to: usize,
 ) -> bool
-    requires ready { Ready f (lent text.now records.now texts.now line log) }
-    requires last_at { LastAt catalogue f (take log.undo.records records.now) last }
-    requires in_text { In (take line.len text.now) from to }
-    ensures { result ≡ fits f (sizes_of (lent text.now records.now texts.now line log))
-        (list_after catalogue (cutting from to ∷ []) (take line.len text.now)
-        (state_of catalogue f (lent text.now records.now texts.now line log)).log.undo) }
+    requires ready { Ready checked.format (lent text.now records.now texts.now checked.line checked.log) }
+    requires last_at { LastAt catalogue checked.format (take checked.log.undo.records records.now) checked.last }
+    requires in_text { In (take checked.line.len text.now) from to }
+    ensures { result ≡ fits checked.format (sizes_of (lent text.now records.now texts.now checked.line checked.log))
+        (list_after catalogue (cutting from to ∷ []) (take checked.line.len text.now)
+        (state_of catalogue checked.format (lent text.now records.now texts.now checked.line checked.log)).log.undo) }
 {
     let joins = is_single(&text[from..to]);
-    let a = room_now(f, records, texts, log, last);
-    let b = room_cut(f, records, texts, a, joins, from, to);
-    b.fits
+    let a = room_now(checked.format, records, texts, checked.log, checked.last);
+    room_cut(checked.format, records, texts, a, joins, from, to).is_some()
 }
 
-// The bytes from a place up to another cut out, and put into the ring. The newest record begins at last.
+// The bytes from a place up to another cut out, and put into the ring.
 fn cut_to_ring(
-    f: Format,
+    checked: Checked,
     text: &mut [u8],
     records: &mut [u8],
     texts: &mut [u8],
     slots: &mut [u8],
     lens: &mut [u8],
-    line: Line,
-    log: Log,
     ring: Ring,
-    last: usize,
     from: usize,
     to: usize,
     m: Mode,
 ) -> KeyAnswer
-    requires ready { Ready f (lent text.old records.old texts.old line log) }
-    requires last_at { LastAt catalogue f (take log.undo.records records.old) last }
+    requires ready { Ready checked.format (lent text.old records.old texts.old checked.line checked.log) }
+    requires last_at { LastAt catalogue checked.format (take checked.log.undo.records records.old) checked.last }
     requires false_value { rings.checked catalogue (rings.lent slots.old lens.old ring) false false ≡ 0 }
-    requires in_text { In (take line.len text.old) from to }
-    ensures { KeyDone f (lent text.old records.old texts.old line log) (rings.lent slots.old lens.old ring)
+    requires in_text { In (take checked.line.len text.old) from to }
+    ensures { KeyDone checked.format (lent text.old records.old texts.old checked.line checked.log) (rings.lent slots.old lens.old ring)
         (together
-        (edited catalogue f (sizes_of (lent text.old records.old texts.old line log)) (length text.old) (once (cutting from to) from)
-        (state_of catalogue f (lent text.old records.old texts.old line log)))
-        (kill_out m (part (take line.len text.old) from to) (rings.value_of (rings.lent slots.old lens.old ring))))
+        (edited catalogue checked.format (sizes_of (lent text.old records.old texts.old checked.line checked.log)) (length text.old) (once (cutting from to) from)
+        (state_of catalogue checked.format (lent text.old records.old texts.old checked.line checked.log)))
+        (kill_out m (part (take checked.line.len text.old) from to) (rings.value_of (rings.lent slots.old lens.old ring))))
         result (key_buffers text.new records.new texts.new slots.new lens.new) }
 {
-    if !cut_fits(f, text, records, texts, line, log, last, from, to) {
-        return says(10, line, log, ring);
+    if !cut_fits(checked, text, records, texts, from, to) {
+        return refused(Refused::LogFull, checked.line, checked.log, ring);
     }
     let killed = kill_checked(slots, lens, ring, &text[from..to], m);
     let answer = killed.answer;
     if answer.number != 0 {
-        return says(11, line, log, ring);
+        return refused(Refused::RingFull, checked.line, checked.log, ring);
     }
-    let a = cut_out(f, text, records, texts, line, log, last, from, to);
+    let a = cut_out(checked, text, records, texts, from, to);
     let left = killed.ring;
     with_ring(a, left)
 }
 
 // Wrong answers ruled out: a text cut that the ring has no room for; a ring written where the log has none.
 pub fn kill_key(
-    f: Format,
+    checked: Checked,
     text: &mut [u8],
     records: &mut [u8],
     texts: &mut [u8],
     slots: &mut [u8],
     lens: &mut [u8],
-    line: Line,
-    log: Log,
     ring: Ring,
-    last: usize,
     k: KillKey,
 ) -> KeyAnswer
-    requires { Passed f (lent text.old records.old texts.old line log) (rings.lent slots.old lens.old ring) (kill_by k) last }
-    ensures { Does f (lent text.old records.old texts.old line log)
+    requires { Passed checked.format (lent text.old records.old texts.old checked.line checked.log) (rings.lent slots.old lens.old ring) (kill_by k) checked.last }
+    ensures { Does checked.format (lent text.old records.old texts.old checked.line checked.log)
         (rings.lent slots.old lens.old ring) (kill_by k)
         result (key_buffers text.new records.new texts.new slots.new lens.new) }
 {
-    let len = line.len;
-    let cursor = line.cursor;
+    let len = checked.line.len;
+    let cursor = checked.line.cursor;
     let r = kill_range(&text[..len], cursor, movement_for(k));
     match r {
-        Range::Places(a, b) => cut_to_ring(
-            f,
+        Some(cut) => cut_to_ring(
+            checked,
             text,
             records,
             texts,
             slots,
             lens,
-            line,
-            log,
             ring,
-            last,
-            a,
-            b,
+            cut.start,
+            cut.end,
             mode_for(k),
         ),
-        Range::Nowhere => says(1, line, log, ring),
+        None => says(1, checked.line, checked.log, ring),
     }
 }

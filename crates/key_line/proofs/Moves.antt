@@ -3,14 +3,13 @@ use Prim.Native.Nat.{ℕ}
 use mathlib.Core.Path.{◌≡◌, refl, sym, ap, ap₂, subst, ◌∙◌}
 use mathlib.Core.List.{List}
 use lib.ListN.{length}
+use Rattle.std.specs.Prelude.{Option, None, Some}
 use Rattle.repertoire.specs.Repertoire.{catalogue}
 use Rattle.formats.specs.declared.Format.{Format}
 use Rattle.formats.specs.Formats.{format_for}
 use Rattle.keymap.specs.Codes.{word_list, at_list}
 use Rattle.keymap.specs.declared.Word.TheVariants.{Emacs}
 use Rattle.keymap.specs.declared.At.TheVariants.{AfterEnd}
-use Rattle.motion.specs.declared.Found.{Found}
-use Rattle.motion.specs.declared.Found.TheVariants.{At, Nothing}
 use Rattle.motion.specs.Steps.{next_pos, prev_pos}
 use Rattle.motion_words.specs.Words.{prev_word_pos, next_word_pos}
 use Rattle.motion_lines.specs.Lines.{start_of_line, end_of_line}
@@ -37,7 +36,7 @@ use Rattle.key_line.proofs.Answered.{Refuses}
 -- ---- on a text, and its line
 module _ (t : List ℕ) (line : Line) where
   -- the place that a key goes to
-  abbrev pub found_for : MoveKey → Found
+  abbrev pub found_for : MoveKey → Option ℕ
   found_for mk.Home = elsewhere line (start_of_line (lent_text t line) line.cursor)
   found_for mk.End = elsewhere line (end_of_line (lent_text t line) line.cursor)
   found_for (mk.Backward n) = prev_pos catalogue (lent_text t line) line.cursor n
@@ -46,7 +45,7 @@ module _ (t : List ℕ) (line : Line) where
   found_for (mk.NextWord n) = next_word_pos catalogue (lent_text t line) line.cursor AfterEnd Emacs n
 
   module _ (z : refusal (both (line_tests catalogue (format_for (length t)) t line) no_tests) ≡ 0) where
-    goes : (f : Found) → move_call catalogue t line no_tests (moved_to line f) ≡ moved_to line f
+    goes : (f : Option ℕ) → move_call catalogue t line no_tests (moved_to line f) ≡ moved_to line f
     unfolding move_call
     goes f = called-passed (λ (o : Outcome Line). o ≡ moved_to line f) (moved_to line f) 0 _ z refl refl
 
@@ -60,10 +59,10 @@ module _ (t : List ℕ) (line : Line) where
     key_goes (mk.NextWord n) = goes (found_for (mk.NextWord n))
 
     -- the key k is x, and f is the place that x goes to
-    pub key-moved : {k : MoveKey} (x : MoveKey) → k ≡ x → {f : Found} → f ≡ found_for x → {r : LineAnswer} → r ≡ line_answer line (moved_to line f)
+    pub key-moved : {k : MoveKey} (x : MoveKey) → k ≡ x → {f : Option ℕ} → f ≡ found_for x → {r : LineAnswer} → r ≡ line_answer line (moved_to line f)
         → r ≡ line_answer line (move_outcome catalogue t line (move_for k))
     key-moved {k} x i {f} e {r} q =
-        q ∙ ap (λ (y : Found). line_answer line (moved_to line y)) (e ∙ ap found_for (sym i)) ∙ sym (ap (line_answer line) (key_goes k))
+        q ∙ ap (λ (y : Option ℕ). line_answer line (moved_to line y)) (e ∙ ap found_for (sym i)) ∙ sym (ap (line_answer line) (key_goes k))
 
 -- ---- the tests of the text alone, where all pass
 alone : (a : Tests) → refusal (both a no_tests) ≡ refusal a
@@ -83,18 +82,18 @@ abbrev pub with_log : LineAnswer → Log → EditAnswer
 with_log a g = record { number = a.number; from = a.from; to = a.to; line = a.line; log = g }
 
 module _ (F : Format) (l : Lent) where
-  found_refuses : (f : Found) → Refuses (moved_by catalogue F l (moved_to l.line f))
-  found_refuses (At p) = tt
-  found_refuses Nothing = tt
+  found_refuses : (f : Option ℕ) → Refuses (moved_by catalogue F l (moved_to l.line f))
+  found_refuses (Some p) = tt
+  found_refuses None = tt
 
-  found_left : Ready F l → (f : Found) → Edited F l (moved_by catalogue F l (moved_to l.line f)) (with_log (line_answer l.line (moved_to l.line f)) l.log)
+  found_left : Ready F l → (f : Option ℕ) → Edited F l (moved_by catalogue F l (moved_to l.line f)) (with_log (line_answer l.line (moved_to l.line f)) l.log)
       l.text l.records l.texts
-  found_left h (At p) =
+  found_left h (Some p) =
       record {
         answer = ap₂ (λ (n : ℕ) (x : Log). says 0 (record { len = n; cursor = p }) x) (sym (length-kept F l h)) (log-kept F l h);
         bytes = state-kept F l h p;
       }
-  found_left h Nothing =
+  found_left h None =
       record {
         answer = ap₂ (λ (n : ℕ) (x : Log). says 1 (record { len = n; cursor = l.line.cursor }) x) (sym (length-kept F l h)) (log-kept F l h);
         bytes = state-kept F l h l.line.cursor;

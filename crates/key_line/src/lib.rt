@@ -8,7 +8,7 @@ ghost use Rattle.formats.specs.Formats.{format_for};
 ghost use Rattle.checks.specs.Checks.{no_tests, both, refusal, line_tests};
 ghost use Rattle.checks.specs.Answers.{line_answer};
 ghost use Rattle.log_records.specs.Walks.{LastAt};
-ghost use Rattle.edit.specs.Calls.{lent, checked, Ready, Edited};
+ghost use Rattle.edit.specs.Calls.{lent, checked as Calls·checked, Ready, Edited};
 ghost use Rattle.kill_ring.specs.Calls as rings;
 ghost use Rattle.calls.specs.Calls.{edit, move, undo, move_outcome, edit_outcome};
 ghost use Rattle.key_model.specs.Stands.{line as Stands·line, move_for, edit_for};
@@ -16,17 +16,15 @@ ghost use Rattle.key_model.specs.Own.{fit_key};
 ghost use Rattle.key_model.specs.Contract.{key_buffers, Passed, Does};
 
 use checks::{Line, LineAnswer, moved_to};
-use edit::EditAnswer;
+use edit::{Checked, EditAnswer};
 use edit_case::{WordAction, edit_word_checked};
 use edit_insert::insert_checked;
 use edit_kill::delete_checked;
 use edit_transpose::{transpose_chars_checked, transpose_words_checked};
-use formats::Format;
 use key_model::{KeyAnswer, reset_after};
 use key_press::{EditKey, MoveKey};
 use keymap::{At, RepeatCount, Word};
 use kill_ring::Ring;
-use log_state::Log;
 use motion::{next_pos, prev_pos};
 use motion_calls::elsewhere;
 use motion_lines::{end_of_line, start_of_line};
@@ -56,91 +54,72 @@ fn moved_by(text: &[u8], line: Line, k: MoveKey) -> LineAnswer
 
 // Wrong answers ruled out: a movement that answers 1 and leaves the ring as it was; the buffer's start for control a.
 pub fn move_key(
-    f: Format,
+    checked: Checked,
     text: &[u8],
     records: &[u8],
     texts: &[u8],
     slots: &[u8],
     lens: &[u8],
-    line: Line,
-    log: Log,
     ring: Ring,
-    last: usize,
     k: MoveKey,
 ) -> KeyAnswer
-    requires { Passed f (lent text.now records.now texts.now line log) (rings.lent slots.now lens.now ring) (Stands·line (move (move_for k))) last }
-    ensures { Does f (lent text.now records.now texts.now line log)
+    requires { Passed checked.format (lent text.now records.now texts.now checked.line checked.log) (rings.lent slots.now lens.now ring) (Stands·line (move (move_for k))) checked.last }
+    ensures { Does checked.format (lent text.now records.now texts.now checked.line checked.log)
         (rings.lent slots.now lens.now ring) (Stands·line (move (move_for k)))
         result (key_buffers text.now records.now texts.now slots.now lens.now) }
 {
-    let a = moved_by(text, line, k);
+    let a = moved_by(text, checked.line, k);
     let left = a.line;
     let moved = EditAnswer {
         number: a.number,
         from: a.from,
         to: a.to,
         line: left,
-        log,
+        log: checked.log,
     };
     reset_after(slots, lens, ring, moved)
 }
 
 // The edit, where the checks have passed.
 fn edited_by(
-    f: Format,
+    checked: Checked,
     text: &mut [u8],
     records: &mut [u8],
     texts: &mut [u8],
-    line: Line,
-    log: Log,
-    last: usize,
     k: EditKey,
 ) -> EditAnswer
-    requires no_tests_value { checked catalogue f (lent text.old records.old texts.old line log) no_tests ≡ 0 }
-    requires ready { Ready f (lent text.old records.old texts.old line log) }
-    requires last_at { LastAt catalogue f (take log.undo.records records.old) last }
+    requires no_tests_value { Calls·checked catalogue checked.format (lent text.old records.old texts.old checked.line checked.log) no_tests ≡ 0 }
+    requires ready { Ready checked.format (lent text.old records.old texts.old checked.line checked.log) }
+    requires last_at { LastAt catalogue checked.format (take checked.log.undo.records records.old) checked.last }
     requires k_value { fit_key catalogue k ≡ true }
-    ensures { Edited f (lent text.old records.old texts.old line log)
-        (edit_outcome catalogue f (lent text.old records.old texts.old line log) (edit_for k))
+    ensures { Edited checked.format (lent text.old records.old texts.old checked.line checked.log)
+        (edit_outcome catalogue checked.format (lent text.old records.old texts.old checked.line checked.log) (edit_for k))
         result text.new records.new texts.new }
 {
     match k {
-        EditKey::Typed(ch, n) => insert_checked(f, text, records, texts, line, log, last, ch, n),
-        EditKey::Delete(n) => delete_checked(f, text, records, texts, line, log, last, n),
-        EditKey::TransposeChars => transpose_chars_checked(
-            f, text, records, texts, line, log, last,
-        ),
-        EditKey::TransposeWords(n) => transpose_words_checked(
-            f, text, records, texts, line, log, last, n,
-        ),
+        EditKey::Typed(ch, n) => insert_checked(checked, text, records, texts, ch, n),
+        EditKey::Delete(n) => delete_checked(checked, text, records, texts, n),
+        EditKey::TransposeChars => transpose_chars_checked(checked, text, records, texts),
+        EditKey::TransposeWords(n) => transpose_words_checked(checked, text, records, texts, n),
         EditKey::Capitalize => edit_word_checked(
-            f,
+            checked,
             text,
             records,
             texts,
-            line,
-            log,
-            last,
             WordAction::Capitalize,
         ),
         EditKey::Lowercase => edit_word_checked(
-            f,
+            checked,
             text,
             records,
             texts,
-            line,
-            log,
-            last,
             WordAction::Lowercase,
         ),
         EditKey::Uppercase => edit_word_checked(
-            f,
+            checked,
             text,
             records,
             texts,
-            line,
-            log,
-            last,
             WordAction::Uppercase,
         ),
     }
@@ -148,47 +127,41 @@ fn edited_by(
 
 // Wrong answers ruled out: a mark that is not typed as a character; a deletion that goes to the ring.
 pub fn edit_key(
-    f: Format,
+    checked: Checked,
     text: &mut [u8],
     records: &mut [u8],
     texts: &mut [u8],
     slots: &[u8],
     lens: &[u8],
-    line: Line,
-    log: Log,
     ring: Ring,
-    last: usize,
     k: EditKey,
 ) -> KeyAnswer
-    requires passed { Passed f (lent text.old records.old texts.old line log) (rings.lent slots.now lens.now ring) (Stands·line (edit (edit_for k))) last }
+    requires passed { Passed checked.format (lent text.old records.old texts.old checked.line checked.log) (rings.lent slots.now lens.now ring) (Stands·line (edit (edit_for k))) checked.last }
     requires k_value { fit_key catalogue k ≡ true }
-    ensures { Does f (lent text.old records.old texts.old line log)
+    ensures { Does checked.format (lent text.old records.old texts.old checked.line checked.log)
         (rings.lent slots.now lens.now ring) (Stands·line (edit (edit_for k)))
         result (key_buffers text.new records.new texts.new slots.now lens.now) }
 {
-    let a = edited_by(f, text, records, texts, line, log, last, k);
+    let a = edited_by(checked, text, records, texts, k);
     reset_after(slots, lens, ring, a)
 }
 
 // Wrong answers ruled out: a stop that resets the ring; undo 0 that undoes nothing.
 pub fn undo_key(
-    f: Format,
+    checked: Checked,
     text: &mut [u8],
     records: &[u8],
     texts: &[u8],
     slots: &[u8],
     lens: &[u8],
-    line: Line,
-    log: Log,
     ring: Ring,
-    last: usize,
     n: RepeatCount,
 ) -> KeyAnswer
-    requires { Passed f (lent text.old records.now texts.now line log) (rings.lent slots.now lens.now ring) (Stands·line (undo n)) last }
-    ensures { Does f (lent text.old records.now texts.now line log)
+    requires { Passed checked.format (lent text.old records.now texts.now checked.line checked.log) (rings.lent slots.now lens.now ring) (Stands·line (undo n)) checked.last }
+    ensures { Does checked.format (lent text.old records.now texts.now checked.line checked.log)
         (rings.lent slots.now lens.now ring) (Stands·line (undo n))
         result (key_buffers text.new records.now texts.now slots.now lens.now) }
 {
-    let a = undo_units(f, text, records, texts, line, log, last, n as usize);
+    let a = undo_units(checked, text, records, texts, usize::from(n));
     reset_after(slots, lens, ring, a)
 }

@@ -9,6 +9,7 @@ use mathlib.Core.List.{List}
 use lib.Dec.{eqb, leb, ltb}
 use lib.ListN.{length}
 use borrow.Author.Tests.{eq-eqb, ne_eqb}
+use Rattle.std.specs.Prelude.{Option, None, Some}
 use Rattle.lists.specs.Lists.{part}
 use Rattle.repertoire.specs.Repertoire.{Repertoire}
 use Rattle.keymap.specs.Codes.{word_list, at_list, movements}
@@ -16,8 +17,6 @@ use Rattle.keymap.specs.declared.Word.TheVariants as word
 use Rattle.keymap.specs.declared.At.TheVariants as stop
 use Rattle.formats.specs.declared.Format.{Format}
 use Rattle.motion.specs.Steps.{next_pos, prev_pos}
-use Rattle.motion.specs.declared.Found.{Found}
-use Rattle.motion.specs.declared.Found.TheVariants.{At, Nothing}
 use Rattle.checks.specs.Checks.{Tests, no_tests, lower, both, refusal, line_tests, own_tests}
 use Rattle.checks.specs.Outcome.{Outcome, refused, answered, called, number_in}
 use Rattle.checks.specs.Answers.{moved_to}
@@ -25,8 +24,6 @@ use Rattle.checks.proofs.Lowest.{refusal-both}
 use Rattle.checks.proofs.LowerNumbers.{lower_none, lower-first, lower-same, lower_swap, lower-three, lower_again, lower-nothing}
 use Rattle.motion_words.specs.Words.{prev_word_pos, next_word_pos}
 use Rattle.motion_lines.specs.Lines.{start_of_line, end_of_line}
-use Rattle.motion_lines.specs.declared.Range.{Range}
-use Rattle.motion_lines.specs.declared.Range.TheVariants.{Places, Nowhere}
 use Rattle.checks.specs.declared.Line.{Line}
 use Rattle.motion_calls.specs.Moves.{move_call, elsewhere}
 use Rattle.log_state.specs.Logs.{log_tests}
@@ -57,6 +54,7 @@ use Rattle.key_model.specs.Stands.{KeyCalls, move_for, edit_for, kill_for, movem
 use Rattle.key_model.specs.Keyed.{KeyState, together, lowest, ring_now, reset_after, killed_to, yanked_by, done, key_checked, key_call}
 use Rattle.key_model.specs.Own.{fit_key, fit_press, tests_given, yank_tests, pop_tests, key_own}
 use Rattle.key_model.proofs.Numbers.{refusal_in, together_refuses}
+use Rattle.motion_lines.specs.declared.Span.{Span}
 
 -- ---- a number that refuses already
 lowest-is : (c : ℕ) (o : Outcome KeyState) → (c ≡ 0 → ⊥) → lowest c o ≡ refused (lower c (refusal_in o))
@@ -222,7 +220,7 @@ module _ (R : Repertoire) (l : Lent) (g : rings.Lent) where
   kill-called (kk.Word n) = (_, refl)
 
   -- a movement is tried by those of the text alone
-  move-called : (k : MoveKey) → (f : Found)
+  move-called : (k : MoveKey) → (f : Option ℕ)
       × (move_outcome R l.text l.line (move_for k) ≡ called (refusal (both (line_tests R F l.text l.line) no_tests)) (moved_to l.line f))
   unfolding move_call word_list at_list
   move-called mk.Home = (elsewhere l.line (start_of_line (text_of l) l.line.cursor), refl)
@@ -259,11 +257,11 @@ module _ (R : Repertoire) (l : Lent) (g : rings.Lent) where
         let q = move-called k in
         ap (λ (o : Outcome Line). lower bare (refusal_in (moved_by R F l o))) q.1 ∙ go (refusal (both (line_tests R F l.text l.line) no_tests)) text_alone q.0
       where
-        moved_answers : (f : Found) → refusal_in (moved_by R F l (moved_to l.line f)) ≡ 0
-        moved_answers (At q) = refl
-        moved_answers Nothing = refl
+        moved_answers : (f : Option ℕ) → refusal_in (moved_by R F l (moved_to l.line f)) ≡ 0
+        moved_answers (Some q) = refl
+        moved_answers None = refl
 
-        go : (c : ℕ) → c ≡ text → (f : Found) → lower bare (refusal_in (moved_by R F l (called c (moved_to l.line f)))) ≡ bare
+        go : (c : ℕ) → c ≡ text → (f : Option ℕ) → lower bare (refusal_in (moved_by R F l (called c (moved_to l.line f)))) ≡ bare
         go zero e f = ap (lower bare) (moved_answers f) ∙ lower_none bare
         go (suc c) e f =
             ap (lower bare) e ∙ lower_swap bare text
@@ -275,13 +273,13 @@ module _ (R : Repertoire) (l : Lent) (g : rings.Lent) where
     full_or_not false true v w = below bare 10 h (omega (arith, bare_most))
     full_or_not false false v w = lower_none bare
 
-    killed_lowest : (r : Range) (m : Mode) → lower bare (refusal_in (killed_to R F l g r m)) ≡ bare
+    killed_lowest : (r : Option Span) (m : Mode) → lower bare (refusal_in (killed_to R F l g r m)) ≡ bare
     unfolding kill_out
-    killed_lowest (Places a b) m =
+    killed_lowest (Some x) m =
         let v = ring_now R F l g in
-        let t = kill_text v.action m (part (text_of l) a b) v in
+        let t = kill_text v.action m (part (text_of l) x.start x.end) v in
         full_or_not (eqb v.size 0) (ltb 4096 (length t)) (with_action v action.Kill) (stored (kill_index v.action v) t v)
-    killed_lowest Nowhere m = lower_none bare
+    killed_lowest None m = lower_none bare
 
     kill-lowest : (k : KillKey) → lowest bare (done R F l g (kill_by k)) ≡ refused bare
     kill-lowest k =

@@ -1,12 +1,10 @@
 -- Order 1 of document 02: "Each key's effect is proved to be that of the calls it stands for; if any is refused, the key gives the lowest such number and
 -- nothing changes, save what 01 lets a stopped undo leave. Else it answers what its call on the line answers, or 1 where the ring gives no text."
-use Rattle.std.specs.Prelude.{ℕ, zero, suc, false, cond, List, eqb, leb}
-use Rattle.std.proofs.Math.Option.{Option, some, none}
+use Rattle.std.specs.Prelude.{ℕ, zero, suc, false, cond, List, eqb, leb, Option, None, Some}
+use Rattle.std.proofs.Math.Option.{Option as Maybe, some, none}
 use Rattle.lists.specs.Lists.{part}
 use Rattle.repertoire.specs.Repertoire.{Repertoire}
 use Rattle.formats.specs.declared.Format.{Format}
-use Rattle.motion_lines.specs.declared.Range.{Range}
-use Rattle.motion_lines.specs.declared.Range.TheVariants.{Places, Nowhere}
 use Rattle.checks.specs.Checks.{lower, both, refusal, line_tests, own_tests}
 use Rattle.checks.specs.Outcome.{Outcome, refused, answered, number_in}
 use Rattle.log_state.specs.Logs.{log_tests}
@@ -20,6 +18,7 @@ use Rattle.key_press.specs.Keys.{press_of, foreign_key}
 use Rattle.calls.specs.Calls.{Asked, edit, outcome_of}
 use Rattle.calls.specs.Calls as calls
 use Rattle.key_model.specs.Stands.{KeyCalls, unbound, line, kill, yank, yank_pop, stands_for}
+use Rattle.motion_lines.specs.declared.Span.{Span}
 
 -- what a key works on: text, cursor and log, and the ring
 pub record KeyState : Type 0 where
@@ -51,9 +50,9 @@ module _ (R : Repertoire) (F : Format) (l : Lent) (g : rings.Lent) where
   reset_after o = cond (leb (number_in o) 1) (reset_out ring_now) (answered 0 0 0 ring_now)
 
   -- ---- "a kill answered 1 leaves it as it is"
-  abbrev pub killed_to : Range → Mode → Outcome KillRing
-  killed_to (Places a b) mode = kill_out mode (part (text_of l) a b) ring_now
-  killed_to Nowhere mode = answered 1 0 0 ring_now
+  abbrev pub killed_to : Option Span → Mode → Outcome KillRing
+  killed_to (Some x) mode = kill_out mode (part (text_of l) x.start x.end) ring_now
+  killed_to None mode = answered 1 0 0 ring_now
 
   -- ---- the ring's text is put in; 1 where it gives none
   abbrev pub yanked_by : Outcome KillRing → (ℕ → ℕ → KillRing → Asked) → Outcome KeyState
@@ -81,12 +80,12 @@ module _ (R : Repertoire) (F : Format) (l : Lent) (g : rings.Lent) where
       cond (eqb (rings.checked R g false false) 0) (lowest (key_checked s) (done (stands_for (press_of R s)))) (refused (key_checked s))
 
   -- ---- the call on the line, where there is one: none is made where the ring gives no text
-  abbrev pub given : Outcome KillRing → (ℕ → ℕ → KillRing → Asked) → Option Asked
+  abbrev pub given : Outcome KillRing → (ℕ → ℕ → KillRing → Asked) → Maybe Asked
   given (refused k) f = none
   given (answered zero slot size r) f = some (f slot size r)
   given (answered (suc k) slot size r) f = none
 
-  abbrev pub on_line : KeyCalls → Option Asked
+  abbrev pub on_line : KeyCalls → Maybe Asked
   on_line unbound = none
   on_line (line a) = some a
   on_line (kill x mvt mode) = some (edit x)

@@ -2,18 +2,19 @@
 #![tactic(auto)]
 
 ghost use Rattle.std.specs.Prelude.{◌≡◌, false, cond, leb};
+ghost use Rattle.checks.specs.Refused.{number_of};
 ghost use Rattle.repertoire.specs.Repertoire.{catalogue};
 ghost use Rattle.edit.specs.Calls.{says as Calls·says};
 ghost use Rattle.kill_ring.specs.Ring.{reset_out};
 ghost use Rattle.kill_ring.specs.Calls as rings;
 ghost use Rattle.key_model.specs.Contract.{with_ring};
 
-use checks::Line;
+use checks::{Line, Refused};
 use edit::EditAnswer;
 use kill_ring::{Ring, reset_checked};
 use log_state::Log;
 
-// What a key answers: what its call on the line answers, and the ring's record afterwards.
+// What a key answers: what its call on the line answers, and the ring's record afterwards. C reads it.
 #[repr(C)]
 #[derive(Clone, Copy)]
 pub struct KeyAnswer {
@@ -46,6 +47,13 @@ pub fn says(number: u32, line: Line, log: Log, ring: Ring) -> KeyAnswer
     ensures { result ≡ with_ring (Calls·says number line log) ring }
 {
     with_ring(edit::says(number, line, log), ring)
+}
+
+// A check refuses.
+pub fn refused(why: Refused, line: Line, log: Log, ring: Ring) -> KeyAnswer
+    ensures { result ≡ with_ring (Calls·says (number_of why) line log) ring }
+{
+    with_ring(edit::refused(why, line, log), ring)
 }
 
 // "Every key but a kill, yank or yank-pop resets it", where its call on the line answers 0 or 1; a refusal or a stopped undo does not.

@@ -11,7 +11,7 @@ use Rattle.lists.proofs.Bools.{and_both, by_test, by_less}
 use Rattle.utf8.specs.Utf8.{First, char, bad, within, first}
 use Rattle.utf8.specs.Encode.{scalar}
 use Rattle.utf8.proofs.Forms.{within_in}
-use Rattle.utf8.proofs.Chars.{within_true, first-within}
+use Rattle.utf8.proofs.Chars.{within_true}
 use Rattle.repertoire.specs.Repertoire.{Repertoire}
 use Rattle.repertoire.specs.Text.{is_text, is_char}
 use Rattle.repertoire.proofs.Text.{text_nil, member_in, scan_on, scan-end}
@@ -37,7 +37,7 @@ module _ (R : Repertoire) (ascii : (c : ℕ) → within 0x20 0x7E c ≡ true →
       (λ e. rw e (ascii b (within_in 0x20 0x7E b k (let z = eqb-false b 0x7F e in omega arith)))))))
 
   byte_passes : (b : ℕ) (s : List ℕ) → b < 0x80 → is_text (untried R) (b ∷ s) ≡ is_text (untried R) s
-  byte_passes b s h = (scan_on (untried R) (b ∷ s) 0 1 (omega arith) (sym (one_at (untried R) low low_one (b ∷ s) 0 (low_all b h))) (omega arith)).1
+  byte_passes b s h = (scan_on (untried R) (b ∷ s) 0 1 (omega arith) (sym (one_at (untried R) low low_one (b ∷ s) 0 (low_all b h)))).2
 
   -- ---- the count
   digits_pass : (s : List ℕ) → is_text (untried R) s ≡ is_text (untried R) (behind s)
@@ -87,7 +87,7 @@ module _ (R : Repertoire) (ascii : (c : ℕ) → within 0x20 0x7E c ≡ true →
           let q = and_both (eqb k (length s)) (is_char R c) t in
           let w = eqb-true k (length s) q.0 in
           let m : (untried R).member c ≡ true = or_right (is_untried c) (and_both (scalar c) (R.member c) q.1).1 in
-          (scan_on (untried R) s 0 k (omega arith) (member_in (untried R) s c k e m) (first-within s c k e).some).1
+          (scan_on (untried R) s 0 k (omega arith) (member_in (untried R) s c k e m)).2
           ∙ scan-end (untried R) s (0 + k) (omega arith))
           (λ t. absurd (h (rw (e, t))))
 

@@ -1,5 +1,4 @@
 pub mod Counts
-pub mod Presses
 pub mod Bound
 pub mod Table
 pub mod Examples

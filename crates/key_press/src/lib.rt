@@ -11,7 +11,7 @@ ghost use Rattle.key_press.specs.Keys.{press_by, press_of, is_untried, untried, 
 
 use keymap::RepeatCount;
 use repertoire::{check_char, in_repertoire};
-use utf8::{Decoded, between, decode_at};
+use utf8::{Char, decode_at};
 
 // A key that moves the cursor. The n of a key is 0 to 65,535.
 #[derive(Clone, Copy)]
@@ -64,44 +64,37 @@ pub struct Count {
     pub at: usize,
 }
 
+#[tactic(auto, unfolding(utf8::specs::Utf8::within))]
 fn is_digit(b: u8) -> bool
     ensures { result ≡ is_digit b }
 {
-    between(b as u32, 0x30, 0x39)
+    b.is_ascii_digit()
 }
 
 // A digit more, held at 65,535.
+#[tactic(auto, unfolding(crate::specs::Keys::with_digit, utf8::specs::Utf8::within))]
 fn with_digit(n: RepeatCount, digit: u8) -> RepeatCount
     requires { is_digit digit ≡ true }
     ensures { result ≡ with_digit n digit }
 {
-    let value = n as u32 * 10 + (digit - 0x30) as u32;
-    if 65535 < value { 65535 } else { value as u16 }
+    n.saturating_mul(10).saturating_add(u16::from(digit - 0x30))
 }
 
 // The count of a key: the digits behind an ESC, all that stand there; without them 1.
 fn count_of(key: &[u8]) -> Count
     ensures { CountedAs key.now result }
 {
-    if key.len() < 2 {
-        return Count { n: 1, at: 0 };
-    }
-    if key[0] != 0x1B {
-        return Count { n: 1, at: 0 };
-    }
-    if !is_digit(key[1]) {
+    if key.len() < 2 || key[0] != 0x1B || !is_digit(key[1]) {
         return Count { n: 1, at: 0 };
     }
     let mut n: RepeatCount = 0;
-    let mut at = 1;
-    while at < key.len() {
+    for at in 1..key.len() {
         if !is_digit(key[at]) {
             return Count { n, at };
         }
         n = with_digit(n, key[at]);
-        at += 1;
     }
-    Count { n, at }
+    Count { n, at: key.len() }
 }
 
 // A byte below 0x20 by itself.
@@ -148,57 +141,24 @@ fn escaped(b: u8, n: RepeatCount) -> Press
 fn character(key: &[u8], n: RepeatCount) -> Press
     ensures { result ≡ Keys·character catalogue n key.now }
 {
-    let d = decode_at(key, 0);
-    match d {
-        Decoded::Char { cp, len } => {
-            if (len == key.len()) & check_char(cp) {
-                Press::Edit(EditKey::Typed(cp, n))
-            } else {
-                Press::Unbound
-            }
-        }
-        Decoded::Bad => Press::Unbound,
+    match decode_at(key, 0) {
+        Some(Char { cp, len }) if len == key.len() && check_char(cp) => Press::Edit(EditKey::Typed(
+            cp, n,
+        )),
+        _ => Press::Unbound,
     }
 }
 
-// A key of one byte: a control key or a character.
-fn one_byte(key: &[u8], n: RepeatCount) -> Press
-    requires { length key.now ≡ 1 }
-    ensures { result ≡ press_by catalogue n key.now }
-{
-    let b = key[0];
-    if b < 0x20 {
-        return control(b, n);
-    }
-    character(key, n)
-}
-
-// A key of two: ESC and a letter, or a character.
-fn two_bytes(key: &[u8], n: RepeatCount) -> Press
-    requires { length key.now ≡ 2 }
-    ensures { result ≡ press_by catalogue n key.now }
-{
-    if key[0] == 0x1B {
-        return escaped(key[1], n);
-    }
-    character(key, n)
-}
-
-// A key without its count.
+// A key without its count: a control key, ESC and a letter, or a character.
 fn press_by(key: &[u8], n: RepeatCount) -> Press
     ensures { result ≡ press_by catalogue n key.now }
 {
-    let len = key.len();
-    if len == 0 {
-        return Press::Unbound;
+    match key {
+        [] => Press::Unbound,
+        [b] if *b < 0x20 => control(*b, n),
+        [0x1B, b] => escaped(*b, n),
+        _ => character(key, n),
     }
-    if len == 1 {
-        return one_byte(key, n);
-    }
-    if len == 2 {
-        return two_bytes(key, n);
-    }
-    character(key, n)
 }
 
 // What the bytes of one call stand for.
@@ -207,31 +167,25 @@ fn press_by(key: &[u8], n: RepeatCount) -> Press
 pub fn press_of(key: &[u8]) -> Press
     ensures { result ≡ press_of catalogue key.now }
 {
-    let c = count_of(key);
-    let at = c.at;
-    press_by(&key[at..], c.n)
+    let Count { n, at } = count_of(key);
+    press_by(&key[at..], n)
 }
 
 fn is_untried(cp: u32) -> bool
     ensures { result ≡ is_untried cp }
 {
-    (cp < 0x20) | (cp == 0x7F)
+    cp < 0x20 || cp == 0x7F
 }
 
-// The length of the character at a place, 0 where none stands there that check 4 lets pass.
-fn tried_len(key: &[u8], at: usize) -> usize
+// The length of the character at a place, if one stands there that check 4 lets pass.
+fn tried_len(key: &[u8], at: usize) -> Option<usize>
     ensures { result ≡ member_len (untried catalogue) (first (drop at key.now)) }
 {
-    let d = decode_at(key, at);
-    match d {
-        Decoded::Char { cp, len } => {
-            if is_untried(cp) | in_repertoire(cp) {
-                len
-            } else {
-                0
-            }
-        }
-        Decoded::Bad => 0,
+    let Char { cp, len } = decode_at(key, at)?;
+    if is_untried(cp) || in_repertoire(cp) {
+        Some(len)
+    } else {
+        None
     }
 }
 
@@ -242,11 +196,11 @@ pub fn is_foreign_key(key: &[u8]) -> bool
     ensures { result ≡ foreign_key catalogue key.now }
 {
     let mut at = 0;
+    // A turn passes a character, and stops where none stands: no index is counted, and std has no iterator over these.
     while at < key.len() {
-        let n = tried_len(key, at);
-        if n == 0 {
+        let Some(n) = tried_len(key, at) else {
             return true;
-        }
+        };
         at += n;
     }
     false

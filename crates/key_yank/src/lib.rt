@@ -12,25 +12,20 @@ ghost use Rattle.key_model.specs.Own.{Tried};
 ghost use Rattle.key_model.specs.Contract.{with_ring, key_buffers, Passed, Does};
 
 use checks::Line;
-use edit::{EditAnswer, Own, is_split};
+use edit::{Checked, EditAnswer, Own, is_split};
 use edit_insert::back;
-use formats::Format;
 use key_model::{KeyAnswer, says, with_ring};
 use key_press::Press;
 use keymap::RepeatCount;
-use kill_ring::Ring;
-use log_state::Log;
+use kill_ring::{Ring, SLOT_BYTES};
 
 // A foreign key, and nothing else to try.
 pub fn only_foreign(foreign: bool) -> Own
     ensures { own result ≡ own_tests false foreign false }
 {
     Own {
-        sizes: false,
-        code: false,
         foreign,
-        place: false,
-        split: false,
+        ..Own::NONE
     }
 }
 
@@ -55,10 +50,8 @@ fn yank_own(
     }
     Own {
         sizes: text.len() < given.yanked,
-        code: false,
         foreign,
-        place: false,
-        split: false,
+        ..Own::NONE
     }
 }
 
@@ -79,10 +72,10 @@ fn pop_own(text: &[u8], slots: &[u8], lens: &[u8], line: Line, ring: Ring, forei
     let split = is_split(text, len, back(cursor, size));
     Own {
         sizes: text.len() < given.yanked,
-        code: false,
         foreign,
         place: cursor < size,
         split,
+        ..Own::NONE
     }
 }
 
@@ -122,20 +115,17 @@ fn yanked(a: EditAnswer, was: Ring, given: Ring) -> KeyAnswer
 
 // Wrong answers ruled out: the ring left as a yank where the line has no room; the count as the number of slots gone back.
 pub fn yank_key(
-    f: Format,
+    checked: Checked,
     text: &mut [u8],
     records: &mut [u8],
     texts: &mut [u8],
     slots: &[u8],
     lens: &[u8],
-    line: Line,
-    log: Log,
     ring: Ring,
-    last: usize,
     n: RepeatCount,
 ) -> KeyAnswer
-    requires { Passed f (lent text.old records.old texts.old line log) (rings.lent slots.now lens.now ring) (yank n) last }
-    ensures { Does f (lent text.old records.old texts.old line log)
+    requires { Passed checked.format (lent text.old records.old texts.old checked.line checked.log) (rings.lent slots.now lens.now ring) (yank n) checked.last }
+    ensures { Does checked.format (lent text.old records.old texts.old checked.line checked.log)
         (rings.lent slots.now lens.now ring) (yank n)
         result (key_buffers text.new records.new texts.new slots.now lens.now) }
 {
@@ -143,39 +133,26 @@ pub fn yank_key(
     let answer = a.answer;
     let given = a.ring;
     if answer.number != 0 {
-        return says(1, line, log, ring);
+        return says(1, checked.line, checked.log, ring);
     }
-    let from = 4096 * answer.slot;
+    let from = SLOT_BYTES * answer.slot;
     let to = from + given.yanked;
-    let put = edit_insert::yank_checked(
-        f,
-        text,
-        records,
-        texts,
-        line,
-        log,
-        last,
-        &slots[from..to],
-        n,
-    );
+    let put = edit_insert::yank_checked(checked, text, records, texts, &slots[from..to], n);
     yanked(put, ring, given)
 }
 
 // Wrong answers ruled out: the size of the slot that is put in cut out; an empty slot that leaves the text yanked before.
 pub fn yank_pop_key(
-    f: Format,
+    checked: Checked,
     text: &mut [u8],
     records: &mut [u8],
     texts: &mut [u8],
     slots: &[u8],
     lens: &[u8],
-    line: Line,
-    log: Log,
     ring: Ring,
-    last: usize,
 ) -> KeyAnswer
-    requires { Passed f (lent text.old records.old texts.old line log) (rings.lent slots.now lens.now ring) yank_pop last }
-    ensures { Does f (lent text.old records.old texts.old line log)
+    requires { Passed checked.format (lent text.old records.old texts.old checked.line checked.log) (rings.lent slots.now lens.now ring) yank_pop checked.last }
+    ensures { Does checked.format (lent text.old records.old texts.old checked.line checked.log)
         (rings.lent slots.now lens.now ring) yank_pop
         result (key_buffers text.new records.new texts.new slots.now lens.now) }
 {
@@ -183,18 +160,15 @@ pub fn yank_pop_key(
     let answer = a.answer;
     let given = a.ring;
     if answer.number != 0 {
-        return says(1, line, log, ring);
+        return says(1, checked.line, checked.log, ring);
     }
-    let from = 4096 * answer.slot;
+    let from = SLOT_BYTES * answer.slot;
     let to = from + given.yanked;
     let put = edit_insert::yank_pop_checked(
-        f,
+        checked,
         text,
         records,
         texts,
-        line,
-        log,
-        last,
         answer.size,
         &slots[from..to],
     );

@@ -1,67 +1,68 @@
 -- What a code names. Document 01: codes count from 0 in the order in which the Rust declares them.
-use Rattle.std.specs.Prelude.{ℕ, List, [], ◌∷◌, get_or}
+use Rattle.std.specs.Prelude.{ℕ, Option, Some, None, List, [], ◌∷◌, get_or}
+use Rattle.keymap.specs.declared.Word.{Word}
 use Rattle.keymap.specs.declared.Word.TheVariants.{Big, Emacs, Vi}
+use Rattle.keymap.specs.declared.At.{At}
 use Rattle.keymap.specs.declared.At.TheVariants.{Start, BeforeEnd, AfterEnd}
+use Rattle.keymap.specs.declared.CharSearch.{CharSearch}
 use Rattle.keymap.specs.declared.CharSearch.TheVariants.{Forward, ForwardBefore, Backward, BackwardAfter}
+use Rattle.keymap.specs.declared.Movement.{Movement}
 use Rattle.keymap.specs.declared.Movement.TheVariants as m
-use Rattle.keymap.specs.declared.WordCode.{WordCode}
-use Rattle.keymap.specs.declared.WordCode.TheVariants as wa
-use Rattle.keymap.specs.declared.AtCode.{AtCode}
-use Rattle.keymap.specs.declared.AtCode.TheVariants as aa
-use Rattle.keymap.specs.declared.SearchCode.{SearchCode}
-use Rattle.keymap.specs.declared.SearchCode.TheVariants as sa
-use Rattle.keymap.specs.declared.MovementCode.{MovementCode}
-use Rattle.keymap.specs.declared.MovementCode.TheVariants as ma
+use Rattle.keymap.specs.declared.MovementCodes.{MovementCodes}
 
 -- a code past the end of the list names nothing
-unfoldable pub word_list : List WordCode
-word_list = wa.Is Big ∷ wa.Is Emacs ∷ wa.Is Vi ∷ []
+unfoldable pub word_list : List (Option Word)
+word_list = Some Big ∷ Some Emacs ∷ Some Vi ∷ []
 
-abbrev pub word_of : ℕ → WordCode
-word_of k = get_or word_list k wa.Unknown
+abbrev pub word_of : ℕ → Option Word
+word_of k = get_or word_list k None
 
-unfoldable pub at_list : List AtCode
-at_list = aa.Is Start ∷ aa.Is BeforeEnd ∷ aa.Is AfterEnd ∷ []
+unfoldable pub at_list : List (Option At)
+at_list = Some Start ∷ Some BeforeEnd ∷ Some AfterEnd ∷ []
 
-abbrev pub at_of : ℕ → AtCode
-at_of k = get_or at_list k aa.Unknown
+abbrev pub at_of : ℕ → Option At
+at_of k = get_or at_list k None
 
-unfoldable pub search_list : ℕ → List SearchCode
-search_list c = sa.Is (Forward c) ∷ sa.Is (ForwardBefore c) ∷ sa.Is (Backward c) ∷ sa.Is (BackwardAfter c) ∷ []
+unfoldable pub search_list : ℕ → List (Option CharSearch)
+search_list c = Some (Forward c) ∷ Some (ForwardBefore c) ∷ Some (Backward c) ∷ Some (BackwardAfter c) ∷ []
 
-abbrev pub search_of : ℕ → ℕ → SearchCode
-search_of k c = get_or (search_list c) k sa.Unknown
+abbrev pub search_of : ℕ → ℕ → Option CharSearch
+search_of k c = get_or (search_list c) k None
 
-abbrev pub backward_word : ℕ → WordCode → MovementCode
-backward_word n (wa.Is w) = ma.Is (m.BackwardWord n w)
-backward_word n wa.Unknown = ma.Unknown
+abbrev pub backward_word : ℕ → Option Word → Option Movement
+backward_word n (Some w) = Some (m.BackwardWord n w)
+backward_word n None = None
 
-abbrev pub forward_word : ℕ → AtCode → WordCode → MovementCode
-forward_word n (aa.Is a) (wa.Is w) = ma.Is (m.ForwardWord n a w)
-forward_word n (aa.Is a) wa.Unknown = ma.Unknown
-forward_word n aa.Unknown w = ma.Unknown
+abbrev pub forward_word : ℕ → Option At → Option Word → Option Movement
+forward_word n (Some a) (Some w) = Some (m.ForwardWord n a w)
+forward_word n (Some a) None = None
+forward_word n None w = None
 
-abbrev pub char_search : ℕ → SearchCode → MovementCode
-char_search n (sa.Is c) = ma.Is (m.ViCharSearch n c)
-char_search n sa.Unknown = ma.Unknown
+abbrev pub char_search : ℕ → Option CharSearch → Option Movement
+char_search n (Some c) = Some (m.ViCharSearch n c)
+char_search n None = None
 
-unfoldable pub movements : ℕ → ℕ → ℕ → ℕ → ℕ → List MovementCode
-movements n at word search ch =
-    ma.Is m.WholeLine
-    ∷ ma.Is m.BeginningOfLine
-    ∷ ma.Is m.EndOfLine
-    ∷ backward_word n (word_of word)
-    ∷ forward_word n (at_of at) (word_of word)
-    ∷ char_search n (search_of search ch)
-    ∷ ma.Is m.ViFirstPrint
-    ∷ ma.Is (m.BackwardChar n)
-    ∷ ma.Is (m.ForwardChar n)
-    ∷ ma.Is (m.LineUp n)
-    ∷ ma.Is (m.LineDown n)
-    ∷ ma.Is m.WholeBuffer
-    ∷ ma.Is m.BeginningOfBuffer
-    ∷ ma.Is m.EndOfBuffer
+-- a movement's numbers, of which it reads those that it needs
+abbrev pub codes : ℕ → ℕ → ℕ → ℕ → ℕ → ℕ → MovementCodes
+codes mvt n at word search ch = record { mvt = mvt; n = n; at = at; word = word; search = search; ch = ch }
+
+unfoldable pub movements : MovementCodes → List (Option Movement)
+movements c =
+    Some m.WholeLine
+    ∷ Some m.BeginningOfLine
+    ∷ Some m.EndOfLine
+    ∷ backward_word c.n (word_of c.word)
+    ∷ forward_word c.n (at_of c.at) (word_of c.word)
+    ∷ char_search c.n (search_of c.search c.ch)
+    ∷ Some m.ViFirstPrint
+    ∷ Some (m.BackwardChar c.n)
+    ∷ Some (m.ForwardChar c.n)
+    ∷ Some (m.LineUp c.n)
+    ∷ Some (m.LineDown c.n)
+    ∷ Some m.WholeBuffer
+    ∷ Some m.BeginningOfBuffer
+    ∷ Some m.EndOfBuffer
     ∷ []
 
-abbrev pub movement_of : ℕ → ℕ → ℕ → ℕ → ℕ → ℕ → MovementCode
-movement_of mvt n at word search ch = get_or (movements n at word search ch) mvt ma.Unknown
+abbrev pub movement_of : MovementCodes → Option Movement
+movement_of c = get_or (movements c) c.mvt None

@@ -3,7 +3,8 @@
 #![tactic(auto)]
 
 ghost use Rattle.std.specs.Prelude.{◌≡◌};
-ghost use Rattle.keymap.specs.Codes.{word_of, at_of, search_of, movement_of, backward_word, forward_word, char_search};
+ghost use Rattle.std.specs.Result.{result_ok};
+ghost use Rattle.keymap.specs.Codes.{word_of, at_of, search_of, movement_of};
 
 pub type RepeatCount = u16;
 
@@ -50,129 +51,94 @@ pub enum Movement {
     EndOfBuffer,
 }
 
-// What a code names, or that it names nothing.
+// A code that names nothing.
 #[derive(Clone, Copy)]
-pub enum WordCode {
-    Is(Word),
-    Unknown,
+pub struct UnknownCode;
+
+// A movement by numbers: its own code, a count, the codes of a stop, a word rule and a search, and a search's character. Those
+// that it does not use are not looked at.
+#[derive(Clone, Copy)]
+pub struct MovementCodes {
+    pub mvt: u32,
+    pub n: RepeatCount,
+    pub at: u32,
+    pub word: u32,
+    pub search: u32,
+    pub ch: u32,
 }
 
-#[derive(Clone, Copy)]
-pub enum AtCode {
-    Is(At),
-    Unknown,
-}
+impl TryFrom<u32> for Word {
+    type Error = UnknownCode;
 
-#[derive(Clone, Copy)]
-pub enum SearchCode {
-    Is(CharSearch),
-    Unknown,
-}
+    ghost try_from_gives = { λ code r. result_ok r ≡ word_of code };
 
-#[derive(Clone, Copy)]
-pub enum MovementCode {
-    Is(Movement),
-    Unknown,
-}
-
-impl Word {
-    pub fn from_code(code: u32) -> WordCode
-        ensures { result ≡ word_of code }
-    {
+    #[tactic(auto, unfolding(crate::specs::Codes::word_list))]
+    fn try_from(code: u32) -> Result<Self, UnknownCode> {
         match code {
-            0 => WordCode::Is(Word::Big),
-            1 => WordCode::Is(Word::Emacs),
-            2 => WordCode::Is(Word::Vi),
-            _ => WordCode::Unknown,
+            0 => Ok(Word::Big),
+            1 => Ok(Word::Emacs),
+            2 => Ok(Word::Vi),
+            _ => Err(UnknownCode),
         }
     }
 }
 
-impl At {
-    pub fn from_code(code: u32) -> AtCode
-        ensures { result ≡ at_of code }
-    {
+impl TryFrom<u32> for At {
+    type Error = UnknownCode;
+
+    ghost try_from_gives = { λ code r. result_ok r ≡ at_of code };
+
+    #[tactic(auto, unfolding(crate::specs::Codes::at_list))]
+    fn try_from(code: u32) -> Result<Self, UnknownCode> {
         match code {
-            0 => AtCode::Is(At::Start),
-            1 => AtCode::Is(At::BeforeEnd),
-            2 => AtCode::Is(At::AfterEnd),
-            _ => AtCode::Unknown,
+            0 => Ok(At::Start),
+            1 => Ok(At::BeforeEnd),
+            2 => Ok(At::AfterEnd),
+            _ => Err(UnknownCode),
         }
     }
 }
 
 impl CharSearch {
-    pub fn from_code(code: u32, ch: u32) -> SearchCode
-        ensures { result ≡ search_of code ch }
+    // The search that a code names, for the character ch.
+    #[tactic(auto, unfolding(crate::specs::Codes::search_list))]
+    pub fn from_code(code: u32, ch: u32) -> Result<CharSearch, UnknownCode>
+        ensures { result_ok result ≡ search_of code ch }
     {
         match code {
-            0 => SearchCode::Is(CharSearch::Forward(ch)),
-            1 => SearchCode::Is(CharSearch::ForwardBefore(ch)),
-            2 => SearchCode::Is(CharSearch::Backward(ch)),
-            3 => SearchCode::Is(CharSearch::BackwardAfter(ch)),
-            _ => SearchCode::Unknown,
+            0 => Ok(CharSearch::Forward(ch)),
+            1 => Ok(CharSearch::ForwardBefore(ch)),
+            2 => Ok(CharSearch::Backward(ch)),
+            3 => Ok(CharSearch::BackwardAfter(ch)),
+            _ => Err(UnknownCode),
         }
     }
 }
 
-fn backward_word(n: RepeatCount, word: u32) -> MovementCode
-    ensures { result ≡ backward_word n (word_of word) }
-{
-    match Word::from_code(word) {
-        WordCode::Is(w) => MovementCode::Is(Movement::BackwardWord(n, w)),
-        WordCode::Unknown => MovementCode::Unknown,
-    }
-}
+impl TryFrom<MovementCodes> for Movement {
+    type Error = UnknownCode;
 
-fn forward_word(n: RepeatCount, at: u32, word: u32) -> MovementCode
-    ensures { result ≡ forward_word n (at_of at) (word_of word) }
-{
-    match At::from_code(at) {
-        AtCode::Is(a) => match Word::from_code(word) {
-            WordCode::Is(w) => MovementCode::Is(Movement::ForwardWord(n, a, w)),
-            WordCode::Unknown => MovementCode::Unknown,
-        },
-        AtCode::Unknown => MovementCode::Unknown,
-    }
-}
+    ghost try_from_gives = { λ codes r. result_ok r ≡ movement_of codes };
 
-fn char_search(n: RepeatCount, search: u32, ch: u32) -> MovementCode
-    ensures { result ≡ char_search n (search_of search ch) }
-{
-    match CharSearch::from_code(search, ch) {
-        SearchCode::Is(c) => MovementCode::Is(Movement::ViCharSearch(n, c)),
-        SearchCode::Unknown => MovementCode::Unknown,
-    }
-}
-
-impl Movement {
-    // The movement of six numbers; those that it does not use are not looked at.
-    pub fn from_codes(
-        mvt: u32,
-        n: RepeatCount,
-        at: u32,
-        word: u32,
-        search: u32,
-        ch: u32,
-    ) -> MovementCode
-        ensures { result ≡ movement_of mvt n at word search ch }
-    {
-        match mvt {
-            0 => MovementCode::Is(Movement::WholeLine),
-            1 => MovementCode::Is(Movement::BeginningOfLine),
-            2 => MovementCode::Is(Movement::EndOfLine),
-            3 => backward_word(n, word),
-            4 => forward_word(n, at, word),
-            5 => char_search(n, search, ch),
-            6 => MovementCode::Is(Movement::ViFirstPrint),
-            7 => MovementCode::Is(Movement::BackwardChar(n)),
-            8 => MovementCode::Is(Movement::ForwardChar(n)),
-            9 => MovementCode::Is(Movement::LineUp(n)),
-            10 => MovementCode::Is(Movement::LineDown(n)),
-            11 => MovementCode::Is(Movement::WholeBuffer),
-            12 => MovementCode::Is(Movement::BeginningOfBuffer),
-            13 => MovementCode::Is(Movement::EndOfBuffer),
-            _ => MovementCode::Unknown,
+    #[tactic(auto, unfolding(crate::specs::Codes::movements))]
+    fn try_from(codes: MovementCodes) -> Result<Self, UnknownCode> {
+        let n = codes.n;
+        match codes.mvt {
+            0 => Ok(Movement::WholeLine),
+            1 => Ok(Movement::BeginningOfLine),
+            2 => Ok(Movement::EndOfLine),
+            3 => Ok(Movement::BackwardWord(n, Word::try_from(codes.word)?)),
+            4 => Ok(Movement::ForwardWord(n, At::try_from(codes.at)?, Word::try_from(codes.word)?)),
+            5 => Ok(Movement::ViCharSearch(n, CharSearch::from_code(codes.search, codes.ch)?)),
+            6 => Ok(Movement::ViFirstPrint),
+            7 => Ok(Movement::BackwardChar(n)),
+            8 => Ok(Movement::ForwardChar(n)),
+            9 => Ok(Movement::LineUp(n)),
+            10 => Ok(Movement::LineDown(n)),
+            11 => Ok(Movement::WholeBuffer),
+            12 => Ok(Movement::BeginningOfBuffer),
+            13 => Ok(Movement::EndOfBuffer),
+            _ => Err(UnknownCode),
         }
     }
 }

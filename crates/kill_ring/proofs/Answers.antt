@@ -6,13 +6,12 @@ use mathlib.Core.Bool.{Bool, cond}
 use lib.Dec.{eqb}
 use Rattle.lists.proofs.Bools.{by_test}
 use Rattle.repertoire.specs.Repertoire.{Repertoire}
-use Rattle.checks.specs.Outcome.{Outcome, answered, called}
-use Rattle.checks.proofs.Outcomes.{called-refused, called-passed}
+use Rattle.checks.specs.Outcome.{answered}
 use Rattle.kill_ring.specs.declared.Ring.{Ring}
 use Rattle.kill_ring.specs.declared.AnswerAndRing.{AnswerAndRing}
 use Rattle.kill_ring.specs.declared.Action.{Action}
 use Rattle.kill_ring.specs.declared.Action.TheVariants.{Kill, Yank, Other}
-use Rattle.kill_ring.specs.Ring.{KillRing, with_action, reset_out, yank_out, yanked, previous_index, pop_out, yank_pop_out}
+use Rattle.kill_ring.specs.Ring.{with_action, reset_out, yank_out, yanked, previous_index, pop_out, yank_pop_out}
 use Rattle.kill_ring.specs.Calls.{Lent, len_at, action_of, value_of, says, answer_and_ring}
 use Rattle.kill_ring.proofs.Slots.{slots_length}
 use Rattle.kill_ring.proofs.Passed.{Ready}
@@ -21,14 +20,6 @@ use Rattle.kill_ring.proofs.Value.{slots_none, slots_some, ring_back, index_in, 
 -- a number alone
 abbrev pub alone : ℕ → Ring → AnswerAndRing
 alone k g = record { answer = says k 0 0; ring = g }
-
--- ---- the checks: a refusal leaves the record as it was
-pub left-refused : (g : Ring) (k n : ℕ) (o : Outcome KillRing) → k ≡ n → (k ≡ 0 → ⊥) → alone k g ≡ answer_and_ring g (called n o)
-left-refused g k n o e h = called-refused (λ (x : Outcome KillRing). alone k g ≡ answer_and_ring g x) o k n (sym e) h refl
-
--- where they pass, the outcome of the call decides
-pub left_passed : (g : Ring) (k n : ℕ) (o : Outcome KillRing) (r : AnswerAndRing) → k ≡ n → k ≡ 0 → r ≡ answer_and_ring g o → r ≡ answer_and_ring g (called n o)
-left_passed g k n o r e z q = called-passed (λ (x : Outcome KillRing). r ≡ answer_and_ring g x) o k n (sym e) z q
 
 -- ---- the record after an action
 abbrev pub numbers : Ring → ℕ → ℕ → ℕ → Ring
@@ -53,7 +44,8 @@ module _ (R : Repertoire) (l : Lent) (p : Ready R l) where
   same_left = ap (alone 1) (sym (ring_back R l p))
 
   -- a slot yanked: its number, a size, and the slot's own length for the record
-  pub yanked-left : (i n : ℕ) → i < l.ring.count → record { answer = says 0 i n; ring = numbers l.ring i 1 (len_at l.lens i) } ≡ answer_and_ring
+  pub yanked-left : (i n : ℕ) → i < l.ring.count
+      → record { answer = says 0 i n; ring = numbers l.ring i 1 (len_at l.lens i) } ≡ answer_and_ring
       l.ring (answered 0 i n (yanked i (value_of l)))
   yanked-left i n h =
       ap₂ (λ (m k : ℕ). record { answer = says 0 i n; ring = record { size = l.ring.size; count = m; index = i; action = 1; yanked = k } })
@@ -94,12 +86,14 @@ module _ (R : Repertoire) (l : Lent) (p : Ready R l) where
   previous_is = ap (λ (n : ℕ). cond (eqb l.ring.index 0) (n - 1) (l.ring.index - 1)) (slots_length l.slots l.lens 0 l.ring.count)
 
   -- no slots: yank_pop answers 1
-  pub pop_none : (n : ℕ) → action_of l.ring.action l.ring.yanked ≡ Yank n → l.ring.count ≡ 0 → alone 1 l.ring ≡ answer_and_ring l.ring (yank_pop_out (value_of l))
+  pub pop_none : (n : ℕ) → action_of l.ring.action l.ring.yanked ≡ Yank n → l.ring.count ≡ 0
+      → alone 1 l.ring ≡ answer_and_ring l.ring (yank_pop_out (value_of l))
   unfolding yank_pop_out
   pop_none n a e =
       same_left
       ∙ ap (λ (b : Bool). answer_and_ring l.ring (cond b (answered 1 0 0 (value_of l))
-      (answered 0 (previous_index (value_of l)) n (yanked (previous_index (value_of l)) (value_of l))))) (sym (slots_none l.slots l.lens 0 l.ring.count e))
+      (answered 0 (previous_index (value_of l)) n (yanked (previous_index (value_of l)) (value_of l)))))
+      (sym (slots_none l.slots l.lens 0 l.ring.count e))
       ∙ ap (λ (x : Action). answer_and_ring l.ring (pop_out x (value_of l))) (sym a)
 
   -- slots, and a yank before: the slot before it, with the size of that yank
@@ -110,7 +104,8 @@ module _ (R : Repertoire) (l : Lent) (p : Ready R l) where
       yanked-left i n k
       ∙ ap (λ (j : ℕ). answer_and_ring l.ring (answered 0 j n (yanked j (value_of l)))) (q ∙ sym previous_is)
       ∙ ap (λ (b : Bool). answer_and_ring l.ring (cond b (answered 1 0 0 (value_of l))
-      (answered 0 (previous_index (value_of l)) n (yanked (previous_index (value_of l)) (value_of l))))) (sym (slots_some l.slots l.lens 0 l.ring.count h))
+      (answered 0 (previous_index (value_of l)) n (yanked (previous_index (value_of l)) (value_of l)))))
+      (sym (slots_some l.slots l.lens 0 l.ring.count h))
       ∙ ap (λ (x : Action). answer_and_ring l.ring (pop_out x (value_of l))) (sym a)
 
   -- after anything but a yank
@@ -120,6 +115,7 @@ module _ (R : Repertoire) (l : Lent) (p : Ready R l) where
   other_pops Other h = refl
 
   -- yank_pop without a yank before it answers 1
-  pub pop_other : ((n : ℕ) → action_of l.ring.action l.ring.yanked ≡ Yank n → ⊥) → alone 1 l.ring ≡ answer_and_ring l.ring (yank_pop_out (value_of l))
+  pub pop_other : ((n : ℕ) → action_of l.ring.action l.ring.yanked ≡ Yank n → ⊥)
+      → alone 1 l.ring ≡ answer_and_ring l.ring (yank_pop_out (value_of l))
   unfolding yank_pop_out
   pop_other h = same_left ∙ ap (answer_and_ring l.ring) (sym (other_pops (action_of l.ring.action l.ring.yanked) h))

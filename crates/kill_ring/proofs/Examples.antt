@@ -25,7 +25,9 @@ two ss i x = record { size = 2; slots = ss; index = i; action = x }
 new-most : (new_call 17 ≡ refused 2) × (new_call 16 ≡ answered 0 0 0 (empty 16))
 new-most = (refl, refl)
 
-new_other : (g : Ring) → answer_and_ring g (new_call 2) ≡ record { answer = says 0 0 0; ring = record { size = 2; count = 0; index = 0; action = 2; yanked = 0 } }
+new_other : (g : Ring)
+    → answer_and_ring g
+    (new_call 2) ≡ record { answer = says 0 0 0; ring = record { size = 2; count = 0; index = 0; action = 2; yanked = 0 } }
 new_other g = refl
 
 -- reset: the slots and the index stay, and the yank's size goes

@@ -8,6 +8,7 @@ use borrow.Author.Tests.{ltb-false, eqb-true, eqb-false, not-false}
 use lib.Dec.{eqb, ltb}
 use lib.ListN.{length, get_or}
 use Rattle.lists.proofs.Bools.{by_less}
+use Rattle.std.specs.Prelude.{Some}
 use Rattle.repertoire.specs.Repertoire.{Repertoire}
 use Rattle.repertoire.specs.Text.{is_text}
 use Rattle.repertoire.proofs.Text.{text_nil, text-append}
@@ -17,7 +18,6 @@ use Rattle.kill_ring.specs.declared.Action.{Action}
 use Rattle.kill_ring.specs.declared.Action.TheVariants.{Kill, Yank, Other}
 use Rattle.kill_ring.specs.declared.Mode.{Mode}
 use Rattle.kill_ring.specs.declared.Mode.TheVariants.{Append, Prepend}
-use Rattle.kill_ring.specs.declared.ModeCode.TheVariants as code
 use Rattle.kill_ring.specs.Ring.{KillRing, is_empty, slot_at, put_at, empty, with_action, reset_out, joined, next_index, kill_index}
 use Rattle.kill_ring.specs.Ring.{kill_text, stored, kill_out, yank_out, previous_index, yanked, pop_out, yank_pop_out}
 use Rattle.kill_ring.specs.Calls.{Lent, value_of, checked, reset_call, kill_by, yank_call, yank_pop_call}
@@ -45,7 +45,8 @@ slot_most R (s ∷ ss) zero h = h.1
 slot_most R (s ∷ ss) (suc i) h = slot_most R ss i h.2
 
 -- a text written into a slot
-put_sound : (R : Repertoire) (ss : List (List ℕ)) (i : ℕ) (s : List ℕ) → is_text R s ≡ true → length s ≤ 4096 → SoundSlots R ss → SoundSlots R (put_at ss i s)
+put_sound : (R : Repertoire) (ss : List (List ℕ)) (i : ℕ) (s : List ℕ) → is_text R s ≡ true → length s ≤ 4096 → SoundSlots R ss
+    → SoundSlots R (put_at ss i s)
 unfolding put_at
 put_sound R [] i s t k h = (t, k, tt)
 put_sound R (x ∷ ss) zero s t k h = (t, k, h.2)
@@ -73,7 +74,11 @@ other_kept R v s = record { size = refl; sound = record { size = s.size; count =
 -- a slot yanked
 yanked-kept : (R : Repertoire) (v : KillRing) (i : ℕ) → Sound R v → i < length v.slots → Kept R v (yanked i v)
 yanked-kept R v i s h =
-    record { size = refl; sound = record { size = s.size; count = s.count; index = to-index i v.slots h; slots = s.slots; action = slot_most R v.slots i s.slots } }
+    record {
+      size = refl;
+      sound =
+          record { size = s.size; count = s.count; index = to-index i v.slots h; slots = s.slots; action = slot_most R v.slots i s.slots };
+    }
 
 -- nothing changed
 same_kept : (R : Repertoire) (v : KillRing) → Sound R v → Kept R v v
@@ -87,7 +92,8 @@ reset_kept R v s = other_kept R v s
 pub yank-kept : (R : Repertoire) (v : KillRing) → Sound R v → Kept R v (leaves (yank_out v) v)
 unfolding yank_out
 yank-kept R v s =
-    cond_ind (λ (o : Outcome KillRing). Kept R v (leaves o v)) (is_empty v.slots) (answered 1 0 0 v) (answered 0 v.index 0 (yanked v.index v))
+    cond_ind (λ (o : Outcome KillRing). Kept R v (leaves o v)) (is_empty v.slots) (answered 1 0 0 v)
+    (answered 0 v.index 0 (yanked v.index v))
     (λ e. same_kept R v s)
     (λ e. yanked-kept R v v.index s (index_of v.index v.slots s.index e))
 
@@ -104,13 +110,15 @@ pop_kept R v s = go v.action
     go : (a : Action) → Kept R v (leaves (pop_out a v) v)
     go Kill = same_kept R v s
     go (Yank n) =
-        cond_ind (λ (o : Outcome KillRing). Kept R v (leaves o v)) (is_empty v.slots) (answered 1 0 0 v) (answered 0 (previous_index v) n (yanked (previous_index v) v))
+        cond_ind (λ (o : Outcome KillRing). Kept R v (leaves o v)) (is_empty v.slots) (answered 1 0 0 v)
+        (answered 0 (previous_index v) n (yanked (previous_index v) v))
         (λ e. same_kept R v s)
         (λ e. yanked-kept R v (previous_index v) s (previous_below v (index_of v.index v.slots s.index e)))
     go Other = same_kept R v s
 
 -- ---- kill
-next-below : (v : KillRing) → SoundIndex v.index v.slots → length v.slots ≤ v.size → 0 < v.size → (next_index v < v.size) × (next_index v ≤ length v.slots)
+next-below : (v : KillRing) → SoundIndex v.index v.slots → length v.slots ≤ v.size → 0 < v.size
+    → (next_index v < v.size) × (next_index v ≤ length v.slots)
 next-below v index count h =
     cond_ind P (eqb v.index (v.size - 1)) 0 (cond (is_empty v.slots) v.index (v.index + 1))
     (λ a. (h, omega arith))
@@ -131,7 +139,8 @@ kill-index i size [] index action h = absurd (omega arith)
 kill-index i size (s ∷ ss) index action h = index
 
 -- the slot that a kill writes is below the size, and at most one behind the last in use
-pub target_below : (R : Repertoire) (v : KillRing) → Sound R v → 0 < v.size → (kill_index v.action v < v.size) × (kill_index v.action v ≤ length v.slots)
+pub target_below : (R : Repertoire) (v : KillRing) → Sound R v → 0 < v.size
+    → (kill_index v.action v < v.size) × (kill_index v.action v ≤ length v.slots)
 target_below R v s h = go v.action s.action
   where
     go : (a : Action) → SoundAction a v.size v.slots → (kill_index a v < v.size) × (kill_index a v ≤ length v.slots)
@@ -140,12 +149,14 @@ target_below R v s h = go v.action s.action
     go Other f = next-below v s.index s.count h
 
 -- two texts joined are a text
-joined-text : (R : Repertoire) (m : Mode) (s text : List ℕ) → is_text R s ≡ true → is_text R text ≡ true → is_text R (joined m s text) ≡ true
+joined-text : (R : Repertoire) (m : Mode) (s text : List ℕ) → is_text R s ≡ true → is_text R text ≡ true
+    → is_text R (joined m s text) ≡ true
 joined-text R Append s text a b = text-append R s text a ∙ b
 joined-text R Prepend s text a b = text-append R text s b ∙ a
 
 -- what a kill writes is a text
-kill-text : (R : Repertoire) (a : Action) (m : Mode) (text : List ℕ) (v : KillRing) → SoundSlots R v.slots → is_text R text ≡ true → is_text R (kill_text a m text v) ≡ true
+kill-text : (R : Repertoire) (a : Action) (m : Mode) (text : List ℕ) (v : KillRing) → SoundSlots R v.slots → is_text R text ≡ true
+    → is_text R (kill_text a m text v) ≡ true
 kill-text R Kill m text v h t = joined-text R m (slot_at v v.index) text (slot_text R v.slots v.index h) t
 kill-text R (Yank n) m text v h t = t
 kill-text R Other m text v h t = t
@@ -158,7 +169,8 @@ put_some (x ∷ ss) zero size s = tt
 put_some (x ∷ ss) (suc i) size s = tt
 
 -- the slot is in use then, and the count is at most the size
-put_bounds : (ss : List (List ℕ)) (i size : ℕ) (s : List ℕ) → i < size → i ≤ length ss → length ss ≤ size → (i < length (put_at ss i s)) × (length (put_at ss i s) ≤ size)
+put_bounds : (ss : List (List ℕ)) (i size : ℕ) (s : List ℕ) → i < size → i ≤ length ss → length ss ≤ size
+    → (i < length (put_at ss i s)) × (length (put_at ss i s) ≤ size)
 put_bounds ss i size s h k c =
     by_less ((i < length (put_at ss i s)) × (length (put_at ss i s) ≤ size)) i (length ss)
     (λ a. let e = put_over ss i s a in (omega arith, omega arith))
@@ -170,7 +182,8 @@ disabled_kill size [] e = e
 disabled_kill size (s ∷ ss) e = tt
 
 -- kill: a refusal too leaves a sound ring
-pub kill-kept : (R : Repertoire) (m : Mode) (text : List ℕ) (v : KillRing) → is_text R text ≡ true → Sound R v → Kept R v (leaves (kill_out m text v) v)
+pub kill-kept : (R : Repertoire) (m : Mode) (text : List ℕ) (v : KillRing) → is_text R text ≡ true → Sound R v
+    → Kept R v (leaves (kill_out m text v) v)
 unfolding kill_out
 kill-kept R m text v t s =
     cond_ind (λ (o : Outcome KillRing). Kept R v (leaves o v)) (eqb v.size 0) (answered 0 0 0 (with_action v Kill))
@@ -217,7 +230,8 @@ new_sound R size h = record { size = h; count = omega arith; index = refl; slots
 
 module _ (R : Repertoire) (l : Lent) where
   -- where the checks pass, the outcome decides
-  called-kept : (n : ℕ) (o : Outcome KillRing) → n ≡ 0 → Kept R (value_of l) (leaves o (value_of l)) → Kept R (value_of l) (leaves (called n o) (value_of l))
+  called-kept : (n : ℕ) (o : Outcome KillRing) → n ≡ 0 → Kept R (value_of l) (leaves o (value_of l))
+      → Kept R (value_of l) (leaves (called n o) (value_of l))
   called-kept n o e k = called-passed (λ (x : Outcome KillRing). Kept R (value_of l) (leaves x (value_of l))) o 0 n e refl k
 
   -- what the checks pass is sound
@@ -237,7 +251,9 @@ module _ (R : Repertoire) (l : Lent) where
   pop_leaves e = called-kept (checked R l false false) (yank_pop_out (value_of l)) e (pop_kept R (value_of l) (sound_of false false e))
 
   -- kill, in any direction
-  pub kill-leaves : (text : List ℕ) (m : Mode) → checked R l false (not (is_text R text)) ≡ 0 → Kept R (value_of l) (leaves (kill_by R l text (code.Is m)) (value_of l))
+  pub kill-leaves : (text : List ℕ) (m : Mode) → checked R l false (not (is_text R text)) ≡ 0
+      → Kept R (value_of l) (leaves (kill_by R l text (Some m)) (value_of l))
   kill-leaves text m e =
       called-kept (checked R l false (not (is_text R text))) (kill_out m text (value_of l)) e
-      (kill-kept R m text (value_of l) (not-false (is_text R text) (own-passed R l false (not (is_text R text)) e).1) (sound_of false (not (is_text R text)) e))
+      (kill-kept R m text (value_of l) (not-false (is_text R text) (own-passed R l false (not (is_text R text)) e).1)
+      (sound_of false (not (is_text R text)) e))

@@ -8,10 +8,13 @@ use borrow.Author.Tests.{eq-eqb, ne_eqb, eqb-true, eqb-false, lt-ltb, le-ltb}
 use lib.Dec.{eqb, ltb}
 use lib.ListN.{length, take, drop, length-append}
 use lib.Seq.{sets}
+use Rattle.std.specs.Prelude.{Option, Result, Ok, Err}
+use Rattle.std.specs.Option.{is_none}
+use Rattle.std.specs.Result.{is_err, result_ok, result_or}
 use Rattle.repertoire.specs.Repertoire.{Repertoire}
-use Rattle.repertoire.specs.Text.{is_text}
-use Rattle.checks.specs.Outcome.{Outcome, refused, answered, called}
-use Rattle.checks.proofs.Outcomes.{called-refused, called-passed}
+use Rattle.checks.specs.declared.Refused.TheVariants.{Code}
+use Rattle.checks.specs.Outcome.{Outcome, refused, answered}
+use Rattle.checks.specs.Refused.{refused_by}
 use Rattle.numbers.specs.Numbers.{le}
 use Rattle.buffer.specs.Edit.{inserted}
 use Rattle.buffer.proofs.Inserted.{inserted-end}
@@ -21,10 +24,9 @@ use Rattle.kill_ring.specs.declared.Action.{Action}
 use Rattle.kill_ring.specs.declared.Action.TheVariants.{Kill, Yank, Other}
 use Rattle.kill_ring.specs.declared.Mode.{Mode}
 use Rattle.kill_ring.specs.declared.Mode.TheVariants.{Append, Prepend}
-use Rattle.kill_ring.specs.declared.ModeCode.{ModeCode}
-use Rattle.kill_ring.specs.declared.ModeCode.TheVariants as code
-use Rattle.kill_ring.specs.Ring.{KillRing, slot_at, with_action, joined, next_index, kill_index, kill_text, stored, kill_out, reset_out}
-use Rattle.kill_ring.specs.Calls.{Lent, len_at, slot_bytes, slots_from, value_of, SlotsIn, Ringed, mode_of, kill_by, kill_call, checked}
+use Rattle.kill_ring.specs.declared.UnknownMode.{UnknownMode}
+use Rattle.kill_ring.specs.Ring.{KillRing, slot_at, with_action, joined, next_index, kill_index, kill_text, stored, kill_out}
+use Rattle.kill_ring.specs.Calls.{Lent, len_at, slot_bytes, slots_from, value_of, SlotsIn, Ringed, checked}
 use Rattle.kill_ring.specs.Killed.{place_of, slot_of, used_of, killed_into, Put}
 use Rattle.kill_ring.proofs.Slots.{slots_length}
 use Rattle.kill_ring.proofs.Passed.{Ready, code-refused}
@@ -33,14 +35,6 @@ use Rattle.kill_ring.proofs.Value.{slot_short, bytes-length}
 use Rattle.kill_ring.proofs.Answers.{alone, numbers, kill-left}
 use Rattle.kill_ring.proofs.Puts.{Short, others, put-at, slots-put}
 use Rattle.kill_ring.proofs.Rings.{put-length}
-
--- ---- the checks of a kill
-pub ringed_refused : (l : Lent) (k n : ℕ) (o : Outcome KillRing) (r : AnswerAndRing) → k ≡ n → (k ≡ 0 → ⊥) → r ≡ alone k l.ring → Ringed l (called n o) r l.slots l.lens
-ringed_refused l k n o r e h q = called-refused (λ (x : Outcome KillRing). Ringed l x r l.slots l.lens) o k n (sym e) h (record { whole = q; bytes = (refl, refl) })
-
--- where the checks pass, what the call does decides
-pub ringed_passed : (l : Lent) (k n : ℕ) (o : Outcome KillRing) (r : AnswerAndRing) (s t : List ℕ) → k ≡ n → k ≡ 0 → Ringed l o r s t → Ringed l (called n o) r s t
-ringed_passed l k n o r s t e z q = called-passed (λ (x : Outcome KillRing). Ringed l x r s t) o k n (sym e) z q
 
 -- ---- what a kill joins
 abbrev pub joins : Action → KillRing → List ℕ
@@ -113,26 +107,32 @@ slot-of l =
     (λ k o. slot_other l.ring k ∙ next-is l)
 
 -- ---- the ring that the checks pass is held where it is
-slots-from : (slots lens : List ℕ) (i n : ℕ) → ((k : ℕ) → k < n → length (slot_bytes slots lens (i + k)) ≡ len_at lens (i + k)) → SlotsIn slots lens i (slots_from slots lens i n)
+slots-from : (slots lens : List ℕ) (i n : ℕ) → ((k : ℕ) → k < n → length (slot_bytes slots lens (i + k)) ≡ len_at lens (i + k))
+    → SlotsIn slots lens i (slots_from slots lens i n)
 unfolding SlotsIn slots_from
 slots-from slots lens i zero h = tt
 slots-from slots lens i (suc n) h =
     let z : i + 0 ≡ i = omega arith in
-    let e : length (slot_bytes slots lens i) ≡ len_at lens i = subst (λ (j : ℕ). length (slot_bytes slots lens j) ≡ len_at lens j) z (h 0 (omega arith)) in (
+    let e : length (slot_bytes slots lens i) ≡ len_at lens i =
+    subst (λ (j : ℕ). length (slot_bytes slots lens j) ≡ len_at lens j) z (h 0 (omega arith)) in (
       sym e,
       ap (λ (k : ℕ). take k (drop (4096 * i) slots)) e,
       slots-from slots lens (suc i) n
-          (λ k b. let s : i + suc k ≡ suc i + k = omega arith in subst (λ (j : ℕ). length (slot_bytes slots lens j) ≡ len_at lens j) s (h (suc k) (omega arith))),
+          (λ k b. let s : i + suc k ≡ suc i + k = omega arith in
+          subst (λ (j : ℕ). length (slot_bytes slots lens j) ≡ len_at lens j) s (h (suc k) (omega arith))),
     )
 
 -- slots whose lengths are at most 4,096
-short_from : (slots lens : List ℕ) (i n : ℕ) → ((k : ℕ) → k < n → length (slot_bytes slots lens (i + k)) ≤ 4096) → Short (slots_from slots lens i n)
+short_from : (slots lens : List ℕ) (i n : ℕ) → ((k : ℕ) → k < n → length (slot_bytes slots lens (i + k)) ≤ 4096)
+    → Short (slots_from slots lens i n)
 unfolding slots_from
 short_from slots lens i zero h = tt
 short_from slots lens i (suc n) h =
     let z : i + 0 ≡ i = omega arith in (
       subst (λ (j : ℕ). length (slot_bytes slots lens j) ≤ 4096) z (h 0 (omega arith)),
-      short_from slots lens (suc i) n (λ k b. let s : i + suc k ≡ suc i + k = omega arith in subst (λ (j : ℕ). length (slot_bytes slots lens j) ≤ 4096) s (h (suc k) (omega arith))),
+      short_from slots lens (suc i) n
+          (λ k b. let s : i + suc k ≡ suc i + k = omega arith in
+          subst (λ (j : ℕ). length (slot_bytes slots lens j) ≤ 4096) s (h (suc k) (omega arith))),
     )
 
 module _ (R : Repertoire) (l : Lent) (p : Ready R l) where
@@ -140,7 +140,9 @@ module _ (R : Repertoire) (l : Lent) (p : Ready R l) where
   pub ready-slots : SlotsIn l.slots l.lens 0 (value_of l).slots
   ready-slots =
       slots-from l.slots l.lens 0 l.ring.count
-      (λ k h. let z : 0 + k ≡ k = omega arith in subst (λ (j : ℕ). length (slot_bytes l.slots l.lens j) ≡ len_at l.lens j) (sym z) (bytes-length R l p k h))
+      (λ k h.
+      let z : 0 + k ≡ k = omega arith in
+      subst (λ (j : ℕ). length (slot_bytes l.slots l.lens j) ≡ len_at l.lens j) (sym z) (bytes-length R l p k h))
 
   -- and each has at most 4,096 bytes
   pub ready_short : Short (value_of l).slots
@@ -148,7 +150,8 @@ module _ (R : Repertoire) (l : Lent) (p : Ready R l) where
       short_from l.slots l.lens 0 l.ring.count
       (λ k h.
       let z : 0 + k ≡ k = omega arith in
-      subst (λ (j : ℕ). length (slot_bytes l.slots l.lens j) ≤ 4096) (sym z) (subst (λ (n : ℕ). n ≤ 4096) (sym (bytes-length R l p k h)) (slot_short R l p k h)))
+      subst (λ (j : ℕ). length (slot_bytes l.slots l.lens j) ≤ 4096) (sym z)
+      (subst (λ (n : ℕ). n ≤ 4096) (sym (bytes-length R l p k h)) (slot_short R l p k h)))
 
   -- a kill before a kill left a slot
   kill_some : 0 < l.ring.size → l.ring.action ≡ 0 → 0 < l.ring.count
@@ -201,7 +204,9 @@ module _ (R : Repertoire) (l : Lent) (p : Ready R l) where
     -- the bytes that the slot holds
     joins_bytes : take (used_of l.lens l.ring) (drop (4096 * slot_of l.ring) l.slots) ≡ joins (value_of l).action (value_of l)
     joins_bytes =
-        action_cases (λ (a : Action). take (used_of l.lens l.ring) (drop (4096 * slot_of l.ring) l.slots) ≡ joins a (value_of l)) l.ring.action l.ring.yanked
+        action_cases
+        (λ (a : Action). take (used_of l.lens l.ring) (drop (4096 * slot_of l.ring) l.slots) ≡ joins a (value_of l))
+        l.ring.action l.ring.yanked
         (λ k.
         ap₂ (λ (n i : ℕ). take n (drop (4096 * i) l.slots)) (used-kill l.lens l.ring k) (slot_kill l.ring k)
         ∙ sym (slot_is R l p l.ring.index (index_in R l p (kill_some h k))))
@@ -220,7 +225,8 @@ module _ (R : Repertoire) (l : Lent) (p : Ready R l) where
     unfolding kill_out
     kill_disabled r e q =
         subst (λ (b : Bool). Ringed l (cond b (answered 0 0 0 (with_action (value_of l) Kill))
-        (cond (ltb 4096 (length after)) (refused 11) (answered 0 0 0 (stored (kill_index (value_of l).action (value_of l)) after (value_of l))))) r l.slots l.lens)
+        (cond (ltb 4096 (length after)) (refused 11)
+        (answered 0 0 0 (stored (kill_index (value_of l).action (value_of l)) after (value_of l))))) r l.slots l.lens)
         (sym (eq-eqb l.ring.size 0 e)) (record { whole = q ∙ kill-left l; bytes = ready-slots })
 
     module _ (h : 0 < l.ring.size) where
@@ -231,11 +237,13 @@ module _ (R : Repertoire) (l : Lent) (p : Ready R l) where
           ∙ ap (λ (n : ℕ). n + length text) (joins_length h)
 
       -- 11, or the text in its slot
-      out-with : (b : Bool) → ltb 4096 (length after) ≡ b → kill_out m text (value_of l) ≡ cond b (refused 11) (answered 0 0 0 (stored (slot_of l.ring) after (value_of l)))
+      out-with : (b : Bool) → ltb 4096 (length after) ≡ b
+          → kill_out m text (value_of l) ≡ cond b (refused 11) (answered 0 0 0 (stored (slot_of l.ring) after (value_of l)))
       unfolding kill_out
       out-with b e =
           ap (λ (t : Bool). cond t (answered 0 0 0 (with_action (value_of l) Kill))
-          (cond (ltb 4096 (length after)) (refused 11) (answered 0 0 0 (stored (kill_index (value_of l).action (value_of l)) after (value_of l)))))
+          (cond (ltb 4096 (length after)) (refused 11)
+          (answered 0 0 0 (stored (kill_index (value_of l).action (value_of l)) after (value_of l)))))
           (ne_eqb l.ring.size 0 (λ z. omega arith))
           ∙ ap₂ (λ (t : Bool) (i : ℕ). cond t (refused 11) (answered 0 0 0 (stored i after (value_of l)))) e (sym (slot-of l))
 
@@ -248,7 +256,8 @@ module _ (R : Repertoire) (l : Lent) (p : Ready R l) where
           subst (λ (o : Outcome KillRing). Ringed l o r l.slots l.lens) (sym (out-with true f)) (record { whole = q; bytes = (refl, refl) })
 
       -- the text in its slot, and its length beside it
-      pub kill-done : (r : AnswerAndRing) (g : Ring) (u i at : ℕ) (s t : List ℕ) → u ≡ used_of l.lens l.ring → length text ≤ 4096 - u → i ≡ slot_of l.ring → at ≡ place_of m u
+      pub kill-done : (r : AnswerAndRing) (g : Ring) (u i at : ℕ) (s t : List ℕ) → u ≡ used_of l.lens l.ring → length text ≤ 4096 - u
+          → i ≡ slot_of l.ring → at ≡ place_of m u
           → Put l.slots i (inserted (take u (drop (4096 * i) l.slots)) at text) s → t ≡ sets l.lens (2 * i) (le 2 (u + length text))
           → g ≡ killed_into l.ring i → r ≡ alone 0 g
           → Ringed l (kill_out m text (value_of l)) r s t
@@ -258,10 +267,12 @@ module _ (R : Repertoire) (l : Lent) (p : Ready R l) where
           let big = after-length in
           let f : ltb 4096 (length after) ≡ false = le-ltb 4096 (length after) (omega arith) in
           let v = slot_below h in
-          let bytes : take u (drop (4096 * i) l.slots) ≡ joins (value_of l).action (value_of l) = ap₂ (λ (n j : ℕ). take n (drop (4096 * j) l.slots)) eu ei ∙ joins_bytes h in
+          let bytes : take u (drop (4096 * i) l.slots) ≡ joins (value_of l).action (value_of l) =
+          ap₂ (λ (n j : ℕ). take n (drop (4096 * j) l.slots)) eu ei ∙ joins_bytes h in
           let whole : inserted (take u (drop (4096 * i) l.slots)) at text ≡ after =
           ap₂ (λ (x : List ℕ) (k : ℕ). inserted x k text) bytes ea
-          ∙ inserted-joined m (joins (value_of l).action (value_of l)) text u (joins_length h ∙ sym eu) ∙ sym (kill_joins (value_of l).action m text (value_of l)) in
+          ∙ inserted-joined m (joins (value_of l).action (value_of l)) text u (joins_length h ∙ sym eu)
+          ∙ sym (kill_joins (value_of l).action m text (value_of l)) in
           let there : Put l.slots i after s = subst (λ (x : List ℕ). Put l.slots i x s) whole put in
           let room = (slot_room h i ei).1 in
           let small : u + length text < 65536 = omega arith in
@@ -276,19 +287,17 @@ module _ (R : Repertoire) (l : Lent) (p : Ready R l) where
                 ∙ ap (λ (n : ℕ). alone 0 (record { size = l.ring.size; count = n; index = i; action = 0; yanked = 0 }))
                 (put-length (value_of l).slots i l.ring.count after count le-count);
             bytes =
-                slots-put l.slots l.lens s t i (others l.slots l.lens s t i (u + length text) after room there et) 0 i (value_of l).slots after
-                (put-at l.slots l.lens s t i (u + length text) after room small size there et) (omega arith) (omega arith) ready_short ready-slots;
+                slots-put l.slots l.lens s t i (others l.slots l.lens s t i (u + length text) after room there et) 0 i
+                (value_of l).slots after
+                (put-at l.slots l.lens s t i (u + length text) after room small size there et) (omega arith)
+                (omega arith) ready_short ready-slots;
           }))
 
 -- ---- the direction by its code
-module _ (R : Repertoire) (l : Lent) (text : List ℕ) (mode : ℕ) where
-  -- a number that names a direction
-  pub named : (m : Mode) (r : AnswerAndRing) (s t : List ℕ) → mode_of mode ≡ code.Is m → Ringed l (kill_by R l text (code.Is m)) r s t → Ringed l (kill_call R l text mode) r s t
-  named m r s t e q = subst (λ (x : ModeCode). Ringed l (kill_by R l text x) r s t) (sym e) q
-
-  -- a number that names none is refused
-  pub unnamed : (k : ℕ) (r : AnswerAndRing) → mode_of mode ≡ code.Unknown → k ≡ checked R l true (not (is_text R text)) → r ≡ alone k l.ring
-      → Ringed l (kill_call R l text mode) r l.slots l.lens
-  unnamed k r e q f =
-      subst (λ (x : ModeCode). Ringed l (kill_by R l text x) r l.slots l.lens) (sym e)
-      (ringed_refused l k (checked R l true (not (is_text R text))) (reset_out (value_of l)) r q (λ z. code-refused R l (not (is_text R text)) (sym q ∙ z)) f)
+-- where the checks pass, the code names one
+pub named_number : (R : Repertoire) (l : Lent) (n : Result Mode UnknownMode) (x : Option Mode) (code foreign f : Bool) → result_ok n ≡ x
+    → code ≡ is_err n → foreign ≡ f → 0 ≡ checked R l code (not foreign)
+    → refused_by (result_or n (Err Code)) ≡ checked R l (is_none x) (not f)
+named_number R l (Ok m) x code foreign f e c g z = z ∙ ap₂ (λ (a b : Bool). checked R l a (not b)) (c ∙ ap is_none e) g
+named_number R l (Err u) x code foreign f e c g z =
+    absurd (code-refused R l (not foreign) (sym (z ∙ ap (λ (a : Bool). checked R l a (not foreign)) c)))

@@ -1,5 +1,4 @@
 pub mod Slots
-pub mod Breaks
 pub mod Passed
 pub mod Value
 pub mod Answers

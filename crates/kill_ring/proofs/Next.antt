@@ -6,6 +6,7 @@ use mathlib.Core.Bool.{Bool, false, cond, not}
 use mathlib.Core.List.{List}
 use borrow.Author.Tests.{le-ltb}
 use lib.ListN.{length}
+use Rattle.std.specs.Prelude.{Some}
 use Rattle.repertoire.specs.Repertoire.{Repertoire}
 use Rattle.repertoire.specs.Text.{is_text}
 use Rattle.checks.specs.Outcome.{Outcome, refused, answered, called, leaves}
@@ -14,7 +15,6 @@ use Rattle.kill_ring.specs.declared.AnswerAndRing.{AnswerAndRing}
 use Rattle.kill_ring.specs.declared.Action.{Action}
 use Rattle.kill_ring.specs.declared.Action.TheVariants.{Kill, Yank, Other}
 use Rattle.kill_ring.specs.declared.Mode.{Mode}
-use Rattle.kill_ring.specs.declared.ModeCode.TheVariants as code
 use Rattle.kill_ring.specs.Ring.{KillRing, is_empty, empty, reset_out, yank_out, yanked, previous_index, pop_out, yank_pop_out}
 use Rattle.kill_ring.specs.Calls.{Lent, lent, value_of, checked, new_call, reset_call, kill_by, yank_call, yank_pop_call, ring_of}
 use Rattle.kill_ring.specs.Calls.{answer_and_ring, SlotsIn, Ringed}
@@ -31,7 +31,8 @@ pub record Next (R : Repertoire) (v : KillRing) (g : Ring) (slots lens : List �
   pub value : value_of (lent slots lens g) ≡ v
 
 -- a sound ring that the buffers hold
-slots_next : (R : Repertoire) (v : KillRing) (g : Ring) (slots lens : List ℕ) → Sound R v → 4096 * v.size ≤ length slots → 2 * v.size ≤ length lens
+slots_next : (R : Repertoire) (v : KillRing) (g : Ring) (slots lens : List ℕ) → Sound R v → 4096 * v.size ≤ length slots
+    → 2 * v.size ≤ length lens
     → SlotsIn slots lens 0 v.slots → g ≡ ring_of v
     → Next R v g slots lens
 slots_next R v g slots lens sound bytes numbers stands e =
@@ -39,7 +40,8 @@ slots_next R v g slots lens sound bytes numbers stands e =
     (record { ready = passes-ready R slots lens v sound bytes numbers stands; value = read-back R slots lens v sound bytes numbers stands })
 
 -- after any call that the checks pass
-pub next : (R : Repertoire) (l : Lent) (o : Outcome KillRing) (r : AnswerAndRing) (s t : List ℕ) → Ready R l → Kept R (value_of l) (leaves o (value_of l))
+pub next : (R : Repertoire) (l : Lent) (o : Outcome KillRing) (r : AnswerAndRing) (s t : List ℕ) → Ready R l
+    → Kept R (value_of l) (leaves o (value_of l))
     → Ringed l o r s t → length s ≡ length l.slots
     → length t ≡ length l.lens → Next R (leaves o (value_of l)) r.ring s t
 next R l (refused k) r s t p kept done a b =
@@ -56,7 +58,8 @@ Same v (refused k) = Unit {0}
 Same v (answered k i n w) = w.slots ≡ v.slots
 
 -- a call that leaves the slots alone leaves every byte as it was
-quiet : (R : Repertoire) (l : Lent) (o : Outcome KillRing) (r : AnswerAndRing) → Ready R l → Same (value_of l) o → r ≡ answer_and_ring l.ring o → Ringed l o r l.slots l.lens
+quiet : (R : Repertoire) (l : Lent) (o : Outcome KillRing) (r : AnswerAndRing) → Ready R l → Same (value_of l) o
+    → r ≡ answer_and_ring l.ring o → Ringed l o r l.slots l.lens
 quiet R l (refused k) r p h e = record { whole = e; bytes = (refl, refl) }
 quiet R l (answered k i n w) r p h e = record { whole = e; bytes = subst (SlotsIn l.slots l.lens 0) (sym h) (ready-slots R l p) }
 
@@ -77,7 +80,9 @@ pop_same v = go v.action
   where
     go : (a : Action) → Same v (pop_out a v)
     go Kill = refl
-    go (Yank n) = cond_ind (Same v) (is_empty v.slots) (answered 1 0 0 v) (answered 0 (previous_index v) n (yanked (previous_index v) v)) (λ e. refl) (λ e. refl)
+    go (Yank n) =
+        cond_ind (Same v) (is_empty v.slots) (answered 1 0 0 v) (answered 0 (previous_index v) n (yanked (previous_index v) v))
+        (λ e. refl) (λ e. refl)
     go Other = refl
 
 module _ (R : Repertoire) (l : Lent) (r : AnswerAndRing) where
@@ -87,22 +92,33 @@ module _ (R : Repertoire) (l : Lent) (r : AnswerAndRing) where
   quiet_next o e h kept q = let p = passed R l false false e in next R l o r l.slots l.lens p kept (quiet R l o r p h q) refl refl
 
   -- reset
-  pub reset_next : checked R l false false ≡ 0 → r ≡ answer_and_ring l.ring (reset_call R l) → Next R (leaves (reset_call R l) (value_of l)) r.ring l.slots l.lens
-  reset_next e q = quiet_next (reset_call R l) e (called_same (value_of l) (checked R l false false) (reset_out (value_of l)) refl) (reset_leaves R l e) q
+  pub reset_next : checked R l false false ≡ 0 → r ≡ answer_and_ring l.ring (reset_call R l)
+      → Next R (leaves (reset_call R l) (value_of l)) r.ring l.slots l.lens
+  reset_next e q =
+      quiet_next (reset_call R l) e (called_same (value_of l) (checked R l false false) (reset_out (value_of l)) refl)
+      (reset_leaves R l e) q
 
   -- yank
-  pub yank-next : checked R l false false ≡ 0 → r ≡ answer_and_ring l.ring (yank_call R l) → Next R (leaves (yank_call R l) (value_of l)) r.ring l.slots l.lens
-  yank-next e q = quiet_next (yank_call R l) e (called_same (value_of l) (checked R l false false) (yank_out (value_of l)) (yank-same (value_of l))) (yank-leaves R l e) q
+  pub yank-next : checked R l false false ≡ 0 → r ≡ answer_and_ring l.ring (yank_call R l)
+      → Next R (leaves (yank_call R l) (value_of l)) r.ring l.slots l.lens
+  yank-next e q =
+      quiet_next (yank_call R l) e (called_same (value_of l) (checked R l false false) (yank_out (value_of l)) (yank-same (value_of l)))
+      (yank-leaves R l e) q
 
   -- yank_pop
-  pub pop_next : checked R l false false ≡ 0 → r ≡ answer_and_ring l.ring (yank_pop_call R l) → Next R (leaves (yank_pop_call R l) (value_of l)) r.ring l.slots l.lens
-  pop_next e q = quiet_next (yank_pop_call R l) e (called_same (value_of l) (checked R l false false) (yank_pop_out (value_of l)) (pop_same (value_of l))) (pop_leaves R l e) q
+  pub pop_next : checked R l false false ≡ 0 → r ≡ answer_and_ring l.ring (yank_pop_call R l)
+      → Next R (leaves (yank_pop_call R l) (value_of l)) r.ring l.slots l.lens
+  pop_next e q =
+      quiet_next (yank_pop_call R l) e
+      (called_same (value_of l) (checked R l false false) (yank_pop_out (value_of l)) (pop_same (value_of l))) (pop_leaves R l e) q
 
   -- ---- kill
   pub kill-next : (text : List ℕ) (m : Mode) (s t : List ℕ) → checked R l false (not (is_text R text)) ≡ 0
-      → Ringed l (kill_by R l text (code.Is m)) r s t → length s ≡ length l.slots
-      → length t ≡ length l.lens → Next R (leaves (kill_by R l text (code.Is m)) (value_of l)) r.ring s t
-  kill-next text m s t e done a b = next R l (kill_by R l text (code.Is m)) r s t (passed R l false (not (is_text R text)) e) (kill-leaves R l text m e) done a b
+      → Ringed l (kill_by R l text (Some m)) r s t → length s ≡ length l.slots
+      → length t ≡ length l.lens → Next R (leaves (kill_by R l text (Some m)) (value_of l)) r.ring s t
+  kill-next text m s t e done a b =
+      next R l (kill_by R l text (Some m)) r s t
+      (passed R l false (not (is_text R text)) e) (kill-leaves R l text m e) done a b
 
 -- ---- new: with any buffers that are long enough
 pub new-next : (R : Repertoire) (g : Ring) (size : ℕ) (r : AnswerAndRing) (slots lens : List ℕ) → size ≤ 16 → 4096 * size ≤ length slots
@@ -110,5 +126,6 @@ pub new-next : (R : Repertoire) (g : Ring) (size : ℕ) (r : AnswerAndRing) (slo
     → Next R (empty size) r.ring slots lens
 unfolding SlotsIn
 new-next R g size r slots lens h bytes numbers e =
-    let q : r ≡ answer_and_ring g (answered 0 0 0 (empty size)) = e ∙ ap (λ (b : Bool). answer_and_ring g (cond b (refused 2) (answered 0 0 0 (empty size)))) (le-ltb 16 size h) in
+    let q : r ≡ answer_and_ring g (answered 0 0 0 (empty size)) = e
+    ∙ ap (λ (b : Bool). answer_and_ring g (cond b (refused 2) (answered 0 0 0 (empty size)))) (le-ltb 16 size h) in
     slots_next R (empty size) r.ring slots lens (new_sound R size h) bytes numbers tt (ap (λ (x : AnswerAndRing). x.ring) q)

@@ -1,12 +1,11 @@
 -- What holds of a lent ring that checks 2 and 8 pass, and the checks one by one. Assumes nothing.
 use Prim.Native.Nat.{◌*◌, ◌≤◌}
-use native.Mathlib.Omega.{arith}
 use mathlib.Core.Path.{◌≡◌, sym, ap, ap₂, ◌∙◌}
 use mathlib.Core.Bool.{Bool, true, false, true≢false}
 use lib.Dec.{ltb}
 use lib.ListN.{length}
-use borrow.Author.Tests.{ltb-false, lt-ltb, le-ltb}
-use Rattle.lists.proofs.Bools.{or_none, by_less}
+use borrow.Author.Tests.{ltb-false, le-ltb}
+use Rattle.lists.proofs.Bools.{or_none}
 use Rattle.repertoire.specs.Repertoire.{Repertoire}
 use Rattle.checks.specs.Checks.{both, refusal, own_tests}
 use Rattle.checks.proofs.Fit.{refusal-passed}
@@ -17,10 +16,6 @@ use Rattle.kill_ring.specs.Calls.{ring_tests, checked}
 -- ---- the slots in use
 pub in_use_all : (r : Ring) → r.count ≤ r.size → in_use r ≡ r.count
 in_use_all r h = rw (le-ltb r.size r.count h)
-
--- at most the size
-pub in_use_most : (r : Ring) → in_use r ≤ r.size
-in_use_most r = by_less (in_use r ≤ r.size) r.size r.count (λ h. rw (lt-ltb r.size r.count h) (omega arith)) (λ h. rw (le-ltb r.size r.count h) h)
 
 -- ---- check 2 in its parts
 pub record Sized (l : Lent) : Type 0 where
@@ -89,32 +84,10 @@ module _ (R : Repertoire) (l : Lent) (code foreign : Bool) where
   pub ring-passed : checked R l code foreign ≡ 0 → checked R l false false ≡ 0
   ring-passed e = let p = own-passed e in ap₂ (checked R l) (sym p.0) (sym p.1) ∙ e
 
-  -- 2
-  pub says-sizes : over_sizes l ≡ true → 2 ≡ checked R l code foreign
+  -- no check refuses
+  pub says-passed : over_sizes l ≡ false → code ≡ false → foreign ≡ false → damaged R l ≡ false → 0 ≡ checked R l code foreign
   unfolding refusal
-  says-sizes e = rw e
-
-  module _ (fine : over_sizes l ≡ false) where
-    -- 3
-    pub says-code : code ≡ true → 3 ≡ checked R l code foreign
-    unfolding refusal
-    says-code e = rw (fine, e)
-
-    module _ (named : code ≡ false) where
-      -- 4
-      pub says-foreign : foreign ≡ true → 4 ≡ checked R l code foreign
-      unfolding refusal
-      says-foreign e = rw (fine, named, e)
-
-      -- 8
-      pub says-damaged : foreign ≡ false → damaged R l ≡ true → 8 ≡ checked R l code foreign
-      unfolding refusal
-      says-damaged e f = rw (fine, named, e, f)
-
-      -- no check refuses
-      pub says-passed : foreign ≡ false → damaged R l ≡ false → 0 ≡ checked R l code foreign
-      unfolding refusal
-      says-passed e f = rw (fine, named, e, f)
+  says-passed fine named e f = rw (fine, named, e, f)
 
 -- a number that names no direction is always refused
 pub code-refused : (R : Repertoire) (l : Lent) (foreign : Bool) → checked R l true foreign ≡ 0 → ⊥

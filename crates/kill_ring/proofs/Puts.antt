@@ -22,13 +22,15 @@ module _ (l t : List ℕ) (a e : ℕ) (before : take a t ≡ take a l) (behind :
   -- a part in front
   part-before : (b n : ℕ) → b + n ≤ a → take n (drop b t) ≡ take n (drop b l)
   part-before b n h =
-      take-drop b n t ∙ ap (drop b) (sym (take-take (b + n) a t h) ∙ ap (take (b + n)) before ∙ take-take (b + n) a l h) ∙ sym (take-drop b n l)
+      take-drop b n t ∙ ap (drop b) (sym (take-take (b + n) a t h) ∙ ap (take (b + n)) before ∙ take-take (b + n) a l h)
+      ∙ sym (take-drop b n l)
 
   -- what lies behind
   drop-behind : (b : ℕ) → e ≤ b → drop b t ≡ drop b l
   drop-behind b h =
       let q : b ≡ e + (b - e) = omega arith in
-      ap (λ (k : ℕ). drop k t) q ∙ sym (drop-drop (b - e) e t) ∙ ap (drop (b - e)) behind ∙ drop-drop (b - e) e l ∙ ap (λ (k : ℕ). drop k l) (sym q)
+      ap (λ (k : ℕ). drop k t) q ∙ sym (drop-drop (b - e) e t) ∙ ap (drop (b - e)) behind ∙ drop-drop (b - e) e l
+      ∙ ap (λ (k : ℕ). drop k l) (sym q)
 
   -- a number in front
   num_before : (w b : ℕ) → b + w ≤ a → num_at w t b ≡ num_at w l b
@@ -42,7 +44,8 @@ module _ (l t : List ℕ) (a e : ℕ) (before : take a t ≡ take a l) (behind :
       byte : get_or t b 0 ≡ get_or l b 0
       byte =
           let q : b ≡ e + (b - e) = omega arith in
-          ap (λ (k : ℕ). get_or t k 0) q ∙ sym (get_or-drop e t (b - e) 0) ∙ ap (λ (k : List ℕ). get_or k (b - e) 0) behind ∙ get_or-drop e l (b - e) 0 ∙ ap (λ (k : ℕ). get_or l k 0) (sym q)
+          ap (λ (k : ℕ). get_or t k 0) q ∙ sym (get_or-drop e t (b - e) 0) ∙ ap (λ (k : List ℕ). get_or k (b - e) 0) behind
+          ∙ get_or-drop e l (b - e) 0 ∙ ap (λ (k : ℕ). get_or l k 0) (sym q)
 
 -- ---- the text: what insert_bytes leaves in the slot's part
 pub put_back : (slots y text : List ℕ) (i used at : ℕ) → 4096 * i + 4096 ≤ length slots → at ≤ used → used + length text ≤ 4096
@@ -54,12 +57,14 @@ put_back slots y text i used at h k f same e =
     let part : List ℕ = drop a slots in
     let long : length y ≡ a + 4096 - a = same ∙ mid_len a (a + 4096) slots h in
     let whole : length (take used part) ≡ used = length-take-le used part (simp length-drop (omega arith)) in
-    let size : length (inserted (take used part) at text) ≡ used + length text = inserted-length (take used part) at text (omega arith) ∙ ap (λ (n : ℕ). n + length text) whole in
+    let size : length (inserted (take used part) at text) ≡ used + length text = inserted-length (take used part) at text (omega arith)
+    ∙ ap (λ (n : ℕ). n + length text) whole in
     record {
       before = take_put a (a + 4096 - a) slots y (omega arith);
       stands =
           ap (λ (n : ℕ). take n (drop a (put_mid a (a + 4096 - a) slots y))) size
-          ∙ ap (take (used + length text)) (drop_at (take a slots) (y ++ post_of a (a + 4096 - a) slots) a (length-take-le a slots (omega arith)))
+          ∙ ap (take (used + length text))
+          (drop_at (take a slots) (y ++ post_of a (a + 4096 - a) slots) a (length-take-le a slots (omega arith)))
           ∙ take-append-le (used + length text) y (post_of a (a + 4096 - a) slots) (omega arith)
           ∙ e
           ∙ ap (λ (t : List ℕ). inserted t at text) (take-take used (a + 4096 - a) part (omega arith));
@@ -102,7 +107,8 @@ At slots lens i s = (len_at lens i ≡ length s) × (take (length s) (drop (4096
 abbrev pub Others : List ℕ → List ℕ → List ℕ → List ℕ → ℕ → Type 0
 Others slots lens slots' lens' i = (j : ℕ) (s : List ℕ) → (j ≡ i → ⊥) → length s ≤ 4096 → At slots lens j s → At slots' lens' j s
 
-pub others : (slots lens slots' lens' : List ℕ) (i n : ℕ) (text : List ℕ) → 2 * i + 2 ≤ length lens → Put slots i text slots' → lens' ≡ sets lens (2 * i) (le 2 n)
+pub others : (slots lens slots' lens' : List ℕ) (i n : ℕ) (text : List ℕ) → 2 * i + 2 ≤ length lens → Put slots i text slots'
+    → lens' ≡ sets lens (2 * i) (le 2 n)
     → Others slots lens slots' lens' i
 others slots lens slots' lens' i n text room put e j s apart short at =
     by_less (At slots' lens' j s) j i
@@ -125,7 +131,8 @@ others slots lens slots' lens' i n text room put e j s apart short at =
 pub put-at : (slots lens slots' lens' : List ℕ) (i n : ℕ) (text : List ℕ) → 2 * i + 2 ≤ length lens → n < 65536 → n ≡ length text
     → Put slots i text slots' → lens' ≡ sets lens (2 * i) (le 2 n)
     → At slots' lens' i text
-put-at slots lens slots' lens' i n text room small size put e = (ap (λ (l : List ℕ). len_at l i) e ∙ len_here lens i n room small ∙ size, put.stands)
+put-at slots lens slots' lens' i n text room small size put e =
+    (ap (λ (l : List ℕ). len_at l i) e ∙ len_here lens i n room small ∙ size, put.stands)
 
 -- each slot has at most 4,096 bytes
 abbrev pub Short : List (List ℕ) → Type 0
@@ -142,10 +149,12 @@ module _ (slots lens slots' lens' : List ℕ) (i : ℕ) (other : Others slots le
       (x.0, x.1, slots-behind (suc j) ss (omega arith) short.1 stands.2)
 
   -- all of them: a text in the place of one, or one more
-  pub slots-put : (j k : ℕ) (ss : List (List ℕ)) (s : List ℕ) → At slots' lens' i s → j + k ≡ i → k ≤ length ss → Short ss → SlotsIn slots lens j ss
+  pub slots-put : (j k : ℕ) (ss : List (List ℕ)) (s : List ℕ) → At slots' lens' i s → j + k ≡ i → k ≤ length ss → Short ss
+      → SlotsIn slots lens j ss
       → SlotsIn slots' lens' j (put_at ss k s)
   unfolding SlotsIn put_at
-  slots-put j zero [] s here e h short stands = let q : i ≡ j = omega arith in let x = subst (λ (m : ℕ). At slots' lens' m s) q here in (x.0, x.1, tt)
+  slots-put j zero [] s here e h short stands =
+      let q : i ≡ j = omega arith in let x = subst (λ (m : ℕ). At slots' lens' m s) q here in (x.0, x.1, tt)
   slots-put j (suc k) [] s here e h short stands = absurd (omega arith)
   slots-put j zero (t ∷ ss) s here e h short stands =
       let q : i ≡ j = omega arith in

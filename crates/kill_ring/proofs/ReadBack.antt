@@ -1,4 +1,5 @@
--- A lent ring that the checks pass holds a sound ring, and a sound ring that the buffers hold is read-back there: checks 2 and 8 pass it. Assumes nothing.
+-- A lent ring that the checks pass holds a sound ring, and a sound ring that the buffers hold is read back there: checks 2 and 8 pass it.
+-- Assumes nothing.
 use Prim.Native.Nat.{ℕ, suc, ◌*◌, ◌≤◌, ◌<◌}
 use native.Mathlib.Omega.{arith}
 use mathlib.Core.Path.{◌≡◌, refl, sym, ap, ap₂, ◌∙◌}
@@ -31,7 +32,8 @@ index_sound i (s ∷ ss) f g = g (omega arith)
 slots_sound : (R : Repertoire) (ss : List (List ℕ)) → any_foreign R ss ≡ false → Short ss → SoundSlots R ss
 unfolding any_foreign
 slots_sound R [] e h = tt
-slots_sound R (s ∷ ss) e h = let o = or_none (not (is_text R s)) (any_foreign R ss) e in (not-false (is_text R s) o.0, h.0, slots_sound R ss o.1 h.1)
+slots_sound R (s ∷ ss) e h =
+    let o = or_none (not (is_text R s)) (any_foreign R ss) e in (not-false (is_text R s) o.0, h.0, slots_sound R ss o.1 h.1)
 
 -- kill never with a size and no slots
 kill_sound : (size : ℕ) (ss : List (List ℕ)) → (length ss ≡ 0 → size ≡ 0) → SoundAction Kill size ss
@@ -46,7 +48,9 @@ ready_sound R l p =
     record {
       size = p.size;
       count = omega (arith, p.count);
-      index = index_sound l.ring.index (value_of l).slots (λ e. index_none R l p (sym count ∙ e)) (λ h. let k = index_in R l p (omega arith) in omega arith);
+      index =
+          index_sound l.ring.index (value_of l).slots (λ e. index_none R l p (sym count ∙ e))
+          (λ h. let k = index_in R l p (omega arith) in omega arith);
       slots = slots_sound R (value_of l).slots p.texts (ready_short R l p);
       action =
           action_cases (λ (x : Action). SoundAction x l.ring.size (value_of l).slots) l.ring.action l.ring.yanked
@@ -70,7 +74,8 @@ texts_pass R (s ∷ ss) h = rw h.0 (texts_pass R ss h.2)
 slots_read : (slots lens : List ℕ) (i : ℕ) (ss : List (List ℕ)) → SlotsIn slots lens i ss → slots_from slots lens i (length ss) ≡ ss
 unfolding SlotsIn slots_from
 slots_read slots lens i [] h = refl
-slots_read slots lens i (s ∷ ss) h = ap₂ (λ (x : List ℕ) (y : List (List ℕ)). x ∷ y) (ap (λ (n : ℕ). take n (drop (4096 * i) slots)) h.0 ∙ h.1)
+slots_read slots lens i (s ∷ ss) h =
+    ap₂ (λ (x : List ℕ) (y : List (List ℕ)). x ∷ y) (ap (λ (n : ℕ). take n (drop (4096 * i) slots)) h.0 ∙ h.1)
     (slots_read slots lens (suc i) ss h.2)
 
 -- and their lengths
@@ -87,7 +92,9 @@ index-passes v h = go v.slots h
   where
     go : (ss : List (List ℕ)) → SoundIndex v.index ss → cond (eqb (length ss) 0) (not (eqb v.index 0)) (leb (length ss) v.index) ≡ false
     go [] e = ap not (eq-eqb v.index 0 e)
-    go (s ∷ ss) k = ap (λ (b : Bool). cond b (not (eqb v.index 0)) (leb (suc (length ss)) v.index)) (eqb-suc-zero (length ss)) ∙ lt-leb (suc (length ss)) v.index k
+    go (s ∷ ss) k =
+        ap (λ (b : Bool). cond b (not (eqb v.index 0)) (leb (suc (length ss)) v.index)) (eqb-suc-zero (length ss))
+        ∙ lt-leb (suc (length ss)) v.index k
 
 -- a sound last action meets none of the tests
 action-breaks : (a : Action) (size : ℕ) (ss : List (List ℕ)) → SoundAction a size ss
@@ -121,13 +128,19 @@ module _ (R : Repertoire) (slots lens : List ℕ) (v : KillRing) (sound : Sound 
   unfolding over_sizes
   passes-sizes =
       rw (le-ltb 16 v.size sound.size, le-ltb (length slots) (4096 * v.size) bytes, le-ltb (length lens) (2 * v.size) numbers)
-      (ap (any_over lens 0) (in_use_all (ring_of v) sound.count) ∙ lengths_pass slots lens 0 v.slots stands (sound_short R v.slots sound.slots))
+      (ap (any_over lens 0) (in_use_all (ring_of v) sound.count)
+      ∙ lengths_pass slots lens 0 v.slots stands (sound_short R v.slots sound.slots))
 
   -- check 8
   pub passes-damaged : damaged R there ≡ false
   unfolding damaged
   passes-damaged =
-      rw (le-ltb v.size (length v.slots) sound.count, index-passes v sound.index, action-passes v sound.action, slots_read slots lens 0 v.slots stands)
+      rw (
+        le-ltb v.size (length v.slots) sound.count,
+        index-passes v sound.index,
+        action-passes v sound.action,
+        slots_read slots lens 0 v.slots stands,
+      )
       (texts_pass R v.slots sound.slots)
 
   -- no check of the ring refuses it

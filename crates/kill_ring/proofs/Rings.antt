@@ -30,7 +30,9 @@ pub put-length : (ss : List (List ℕ)) (i n : ℕ) (s : List ℕ) → length ss
 put-length ss i n s e h =
     by_less (cond (eqb i n) (n + 1) n ≡ length (put_at ss i s)) i n
     (λ k. ap (λ (b : Bool). cond b (n + 1) n) (ne_eqb i n (λ q. omega arith)) ∙ sym e ∙ sym (put_over ss i s (omega arith)))
-    (λ k. let q : i ≡ n = omega arith in ap (λ (b : Bool). cond b (n + 1) n) (eq-eqb i n q) ∙ ap (λ (m : ℕ). m + 1) (sym e) ∙ sym (put-behind ss i s (q ∙ sym e)))
+    (λ k.
+    let q : i ≡ n = omega arith in
+    ap (λ (b : Bool). cond b (n + 1) n) (eq-eqb i n q) ∙ ap (λ (m : ℕ). m + 1) (sym e) ∙ sym (put-behind ss i s (q ∙ sym e)))
 
 -- what stands there then
 pub put_there : (ss : List (List ℕ)) (i : ℕ) (s : List ℕ) → i ≤ length ss → get_or (put_at ss i s) i [] ≡ s

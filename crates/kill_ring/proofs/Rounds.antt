@@ -36,7 +36,8 @@ unfolding kill_out
 kill_answers m text v h k = rw (ne_eqb v.size 0 (λ e. omega arith), le-ltb 4096 (length (kill_text v.action m text v)) k)
 
 -- yank after a kill: the text killed, after a kill joined with what was there
-pub yank-after-kill : (R : Repertoire) (m : Mode) (text : List ℕ) (v : KillRing) → Sound R v → 0 < v.size → length (joined m (joins v.action v) text) ≤ 4096
+pub yank-after-kill : (R : Repertoire) (m : Mode) (text : List ℕ) (v : KillRing) → Sound R v → 0 < v.size
+    → length (joined m (joins v.action v) text) ≤ 4096
     → (w : KillRing) × (kill_out m text v ≡ answered 0 0 0 w) × (yank_out w ≡ answered 0 w.index 0 (yanked w.index w))
     × (slot_at w w.index ≡ joined m (joins v.action v) text)
 yank-after-kill R m text v s h k =
@@ -112,12 +113,15 @@ more (c ∷ ks) i t v h z k =
       stored i x v,
       kill_answers c.mode c.text u z (subst (λ (y : List ℕ). length y ≤ 4096) (sym same) (least (fronts ks) x (backs ks) fit))
           ∙ ap (λ (y : List ℕ). answered 0 0 0 (stored i y u)) same
-          ∙ ap (λ (ss : List (List ℕ)). answered 0 0 0 (record { size = v.size; slots = ss; index = i; action = Kill })) (put_twice v.slots i t x h),
+          ∙ ap (λ (ss : List (List ℕ)). answered 0 0 0 (record { size = v.size; slots = ss; index = i; action = Kill }))
+          (put_twice v.slots i t x h),
       subst (λ (y : List ℕ). Killed (stored i x v) ks (stored i y v)) e (more ks i x v h z fit),
     )
 
--- kills one after the other, appended and prepended: one slot holds them in order, after a kill with what was there, and nothing else is changed
-pub kills_gather : (R : Repertoire) (k : Cut) (ks : List Cut) (v : KillRing) → Sound R v → 0 < v.size → length (gathered (k ∷ ks) (joins v.action v)) ≤ 4096
+-- kills one after the other, appended and prepended: one slot holds them in order, after a kill with what was there, and nothing
+-- else is changed
+pub kills_gather : (R : Repertoire) (k : Cut) (ks : List Cut) (v : KillRing) → Sound R v → 0 < v.size
+    → length (gathered (k ∷ ks) (joins v.action v)) ≤ 4096
     → Killed v (k ∷ ks) (stored (kill_index v.action v) (gathered (k ∷ ks) (joins v.action v)) v)
 kills_gather R k ks v s z h =
     let i = kill_index v.action v in
@@ -147,11 +151,13 @@ abbrev pub popped : KillRing → KillRing
 popped v = yanked (previous_index v) v
 
 -- it is answered 0, and leaves such a ring
-pub pop_answers : (v : KillRing) → Yanked v → (yank_pop_out v ≡ answered 0 (previous_index v) (length (slot_at v v.index)) (popped v)) × Yanked (popped v)
+pub pop_answers : (v : KillRing) → Yanked v
+    → (yank_pop_out v ≡ answered 0 (previous_index v) (length (slot_at v v.index)) (popped v)) × Yanked (popped v)
 unfolding yank_pop_out
 pop_answers v y = (
   ap (λ (a : Action). pop_out a v) y.size
-      ∙ ap (λ (b : Bool). cond b (answered 1 0 0 v) (answered 0 (previous_index v) (length (slot_at v v.index)) (popped v))) (not-empty v.slots v.index y.below),
+      ∙ ap (λ (b : Bool). cond b (answered 1 0 0 v) (answered 0 (previous_index v) (length (slot_at v v.index)) (popped v)))
+      (not-empty v.slots v.index y.below),
   record { below = previous_below v y.below; size = refl },
 )
 

@@ -31,7 +31,8 @@ cond_ind P true x y f g = f refl
 cond_ind P false x y f g = g refl
 
 -- ---- the last action by its number
-pub action_cases : (P : Action → Type 0) (k n : ℕ) → (k ≡ 0 → P Kill) → (k ≡ 1 → P (Yank n)) → ((k ≡ 0 → ⊥) → (k ≡ 1 → ⊥) → P Other) → P (action_of k n)
+pub action_cases : (P : Action → Type 0) (k n : ℕ) → (k ≡ 0 → P Kill) → (k ≡ 1 → P (Yank n)) → ((k ≡ 0 → ⊥) → (k ≡ 1 → ⊥) → P Other)
+    → P (action_of k n)
 action_cases P k n f g h =
     cond_ind P (eqb k 0) Kill (cond (eqb k 1) (Yank n) Other) (λ e. f (eqb-true k 0 e))
     (λ e. cond_ind P (eqb k 1) (Yank n) Other (λ d. g (eqb-true k 1 d)) (λ d. h (eqb-false k 0 e) (eqb-false k 1 d)))
@@ -66,11 +67,14 @@ acted r e =
       size = pick_left (eqb r.action 1) r.yanked b.0;
       none = λ k. eqb-true r.yanked 0 (not-false (eqb r.yanked 0)
           (ap (λ (t : Bool). cond t (ltb 4096 r.yanked) (not (eqb r.yanked 0))) (sym (ne_eqb r.action 1 k)) ∙ b.0));
-      kill = λ k n. eqb-true r.size 0 (and_false (eqb r.action 0) (eqb r.count 0) (eqb r.size 0) b.1 (eq-eqb r.action 0 k) (eq-eqb r.count 0 n));
+      kill =
+          λ k n. eqb-true r.size 0
+          (and_false (eqb r.action 0) (eqb r.count 0) (eqb r.size 0) b.1 (eq-eqb r.action 0 k) (eq-eqb r.count 0 n));
     }
 
 -- the number and the size of the last action are those of the record
-pub action_back : (r : Ring) → Acted r → (action_number (action_of r.action r.yanked) ≡ r.action) × (yank_size (action_of r.action r.yanked) ≡ r.yanked)
+pub action_back : (r : Ring) → Acted r
+    → (action_number (action_of r.action r.yanked) ≡ r.action) × (yank_size (action_of r.action r.yanked) ≡ r.yanked)
 action_back r a =
     action_cases (λ (x : Action). (action_number x ≡ r.action) × (yank_size x ≡ r.yanked)) r.action r.yanked
     (λ k. (sym k, sym (a.none (λ o. omega arith))))
@@ -109,7 +113,8 @@ module _ (R : Repertoire) (l : Lent) (p : Ready R l) where
   pub index_in : 0 < l.ring.count → l.ring.index < l.ring.count
   index_in h =
       leb-false l.ring.count l.ring.index
-      (ap (λ (b : Bool). cond b (not (eqb l.ring.index 0)) (leb l.ring.count l.ring.index)) (sym (ne_eqb l.ring.count 0 (λ e. omega arith))) ∙ p.index)
+      (ap (λ (b : Bool). cond b (not (eqb l.ring.index 0)) (leb l.ring.count l.ring.index))
+      (sym (ne_eqb l.ring.count 0 (λ e. omega arith))) ∙ p.index)
 
   -- 0 where there are no slots
   pub index_none : l.ring.count ≡ 0 → l.ring.index ≡ 0

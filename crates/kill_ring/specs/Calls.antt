@@ -1,7 +1,7 @@
 -- The ring on lent bytes: document 01, "Log and ring", and its checks 2, 3, 4 and 8. A slot has 4,096 bytes in `slots` and its used length in 2 bytes of
 -- `lens`, little-endian. What stands from the count on, and past a slot's used length, is not looked at.
 use Rattle.std.specs.Prelude.{ℕ, zero, suc, ◌*◌, ◌≡◌, Bool, true, false, cond, not, ◌||◌, ◌&&◌, List, [], ◌∷◌, eqb, leb, ltb, length}
-use Rattle.std.specs.Prelude.{get_or, take, drop}
+use Rattle.std.specs.Prelude.{take, drop, Option, None, Some, slice_get}
 use Rattle.repertoire.specs.Repertoire.{Repertoire}
 use Rattle.repertoire.specs.Text.{is_text}
 use Rattle.checks.specs.Checks.{Tests, no_tests, with_sizes, with_damaged, both, refusal, own_tests}
@@ -12,9 +12,8 @@ use Rattle.kill_ring.specs.declared.RingAnswer.{RingAnswer}
 use Rattle.kill_ring.specs.declared.AnswerAndRing.{AnswerAndRing}
 use Rattle.kill_ring.specs.declared.Action.{Action}
 use Rattle.kill_ring.specs.declared.Action.TheVariants.{Kill, Yank, Other}
+use Rattle.kill_ring.specs.declared.Mode.{Mode}
 use Rattle.kill_ring.specs.declared.Mode.TheVariants.{Append, Prepend}
-use Rattle.kill_ring.specs.declared.ModeCode.{ModeCode}
-use Rattle.kill_ring.specs.declared.ModeCode.TheVariants as code
 use Rattle.kill_ring.specs.Ring.{KillRing, empty, reset_out, kill_out, yank_out, yank_pop_out}
 
 -- the two buffers that a call is lent, and the ring's record
@@ -88,11 +87,11 @@ checked R l code foreign = refusal (both (ring_tests R l) (own_tests code foreig
 
 -- ---- the calls
 -- 0 Append, 1 Prepend
-unfoldable pub mode_list : List ModeCode
-mode_list = code.Is Append ∷ code.Is Prepend ∷ []
+unfoldable pub mode_list : List Mode
+mode_list = Append ∷ Prepend ∷ []
 
-abbrev pub mode_of : ℕ → ModeCode
-mode_of k = get_or mode_list k code.Unknown
+abbrev pub mode_of : ℕ → Option Mode
+mode_of k = slice_get mode_list k
 
 -- new is lent no ring that is looked at
 abbrev pub new_call : ℕ → Outcome KillRing
@@ -102,9 +101,9 @@ module _ (R : Repertoire) (l : Lent) where
   abbrev pub reset_call : Outcome KillRing
   reset_call = called (checked R l false false) (reset_out (value_of l))
 
-  abbrev pub kill_by : List ℕ → ModeCode → Outcome KillRing
-  kill_by text (code.Is m) = called (checked R l false (not (is_text R text))) (kill_out m text (value_of l))
-  kill_by text code.Unknown = called (checked R l true (not (is_text R text))) (reset_out (value_of l))
+  abbrev pub kill_by : List ℕ → Option Mode → Outcome KillRing
+  kill_by text (Some m) = called (checked R l false (not (is_text R text))) (kill_out m text (value_of l))
+  kill_by text None = called (checked R l true (not (is_text R text))) (reset_out (value_of l))
 
   abbrev pub kill_call : List ℕ → ℕ → Outcome KillRing
   kill_call text mode = kill_by text (mode_of mode)

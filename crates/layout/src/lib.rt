@@ -6,7 +6,7 @@ ghost use Rattle.repertoire.specs.Repertoire.{catalogue};
 ghost use Rattle.layout.specs.Width.{advance as Width·advance, most_columns, width as Width·width};
 
 use repertoire::char_width;
-use utf8::{Decoded, decode_at};
+use utf8::{Char, decode_at};
 
 // The column behind a character that stands at a column.
 fn advance(col: usize, cp: u32) -> usize
@@ -23,11 +23,7 @@ pub fn width(s: &[u8], col: usize) -> usize
 {
     let mut at = 0;
     let mut column = col;
-    while at < s.len() {
-        let d = decode_at(s, at);
-        let Decoded::Char { cp, len } = d else {
-            return column - col;
-        };
+    while let Some(Char { cp, len }) = decode_at(s, at) {
         column = advance(column, cp);
         at += len;
     }

@@ -1,5 +1,5 @@
 -- An edit by its numbers, and what the calls record. Assumes nothing.
-use mathlib.Core.Path.{◌≡◌, refl, ap₂, ◌∙◌}
+use mathlib.Core.Path.{◌≡◌, refl, sym, ap₂}
 use mathlib.Core.Bool.{Bool, true, false, not, ◌&&◌, ◌||◌}
 use mathlib.Core.List.{List, []}
 use Prim.Native.Nat.{ℕ}
@@ -12,21 +12,25 @@ use Rattle.log_model.specs.Groups as groups
 use Rattle.formats.specs.declared.Format.{Format}
 use Rattle.formats.specs.Formats.{log_format}
 use Rattle.checks.specs.Outcome.{Outcome, called}
+use Rattle.checks.specs.Refused.{number_of}
+use Rattle.checks.specs.declared.Refused.{Refused}
+use Rattle.checks.proofs.Outcomes.{called-refused}
+use Rattle.checks.proofs.Refusals.{never-passes}
+use Rattle.log_records.specs.declared.EditKind.TheVariants.{Insert, Delete, Replace}
 use Rattle.log_state.specs.declared.LogAnswer.{LogAnswer}
 use Rattle.log_state.specs.Outcomes.{record_out}
 use Rattle.log_state.specs.Calls.{edit_of, Numbered, Lent, sizes_of, value_of, checked, says, Logged, Ready}
-use Rattle.log_state.proofs.Answers.{refused_by, passed_by, answered_as, recorded_as}
+use Rattle.log_state.proofs.Answers.{passed_by, answered_as, recorded_as}
 use Rattle.log_state.proofs.Recorded.{only_dropped}
-use Rattle.log_state.proofs.Passed.{own-passed}
 use Rattle.log_state.proofs.Formats.{in_format}
 
-pub an_insert : (p : ℕ) (s : List ℕ) → Numbered (edit_of 3 p [] s) 3 p [] s
+pub an_insert : (p : ℕ) (s : List ℕ) → Numbered (edit_of Insert p [] s) Insert p [] s
 an_insert p s = record { kind = refl; place = refl; old = refl; new = refl }
 
-pub a_delete : (p : ℕ) (s : List ℕ) → Numbered (edit_of 4 p s []) 4 p s []
+pub a_delete : (p : ℕ) (s : List ℕ) → Numbered (edit_of Delete p s []) Delete p s []
 a_delete p s = record { kind = refl; place = refl; old = refl; new = refl }
 
-pub a_replace : (p : ℕ) (o n : List ℕ) → Numbered (edit_of 5 p o n) 5 p o n
+pub a_replace : (p : ℕ) (o n : List ℕ) → Numbered (edit_of Replace p o n) Replace p o n
 a_replace p o n = record { kind = refl; place = refl; old = refl; new = refl }
 
 -- neither text is foreign
@@ -49,30 +53,36 @@ module _ (l : Lent) (own : Bool) (w : List Change → List Change) where
   abbrev pub recording : Format → Outcome groups.Log
   recording F = called (checked catalogue F l own) (record_out F (sizes_of l) (w (value_of catalogue F l).undo) (value_of catalogue F l))
 
-  -- in a format that was found, with the number k that the check gave
-  module _ {F : Format} {k : ℕ} (f : F ≡ log_format) (n : checked catalogue F l own ≡ k) where
-    pub call_refused : (k ≡ 0 → ⊥) → {r : LogAnswer} → r ≡ says k l.log → Logged log_format l (recording log_format) r l.records l.texts
-    call_refused h q =
-        in_format l recording f
-        (answered_as F l (recording F) _ _ _ _ q
-        (refused_by F l k (checked catalogue F l own) (record_out F (sizes_of l) (w (value_of catalogue F l).undo) (value_of catalogue F l)) n h))
-
-    pub call_passed : k ≡ 0 → {r : LogAnswer} {rb tb : List ℕ} → Logged F l (record_out F (sizes_of l) (w (value_of catalogue F l).undo) (value_of catalogue F l)) r rb tb
-        → Logged log_format l (recording log_format) r rb tb
-    call_passed z q =
-        in_format l recording f
-        (passed_by F l k (checked catalogue F l own) (record_out F (sizes_of l) (w (value_of catalogue F l).undo) (value_of catalogue F l)) _ _ _ n z q)
-
-    -- nothing to record: the redo list is dropped
-    pub call_dropped : k ≡ 0 → Ready F l → (value_of catalogue F l).undo ≡ w (value_of catalogue F l).undo → {r : LogAnswer}
-        → r ≡ says 0 (record { undo = l.log.undo; redo = record { records = 0; texts = 0 }; level = l.log.level })
+  -- in a format that was found
+  module _ {F : Format} (f : F ≡ log_format) where
+    -- refused with the number that the check gave
+    pub call_refused : {k : ℕ} → checked catalogue F l own ≡ k → (k ≡ 0 → ⊥) → {r : LogAnswer} → r ≡ says k l.log
         → Logged log_format l (recording log_format) r l.records l.texts
-    call_dropped z h e q = call_passed z (answered_as F l _ _ _ _ _ q (only_dropped F l h _ e))
+    call_refused {k} n h {r} q =
+        in_format l recording f
+        (called-refused (λ (o : Outcome groups.Log). Logged F l o r l.records l.texts)
+        (record_out F (sizes_of l) (w (value_of catalogue F l).undo) (value_of catalogue F l)) k (checked catalogue F l own) n h
+        (record { answer = q; bytes = record { records = refl; texts = refl } }))
 
-    -- the change v is what it makes of the list
-    pub call_recorded : k ≡ 0 → {v : List Change} → v ≡ w (value_of catalogue F l).undo → {r : LogAnswer} {rb tb : List ℕ}
-        → Logged F l (record_out F (sizes_of l) v (value_of catalogue F l)) r rb tb → Logged log_format l (recording log_format) r rb tb
-    call_recorded z {v} e q = call_passed z (recorded_as catalogue F l v (value_of catalogue F l) (w (value_of catalogue F l).undo) _ _ _ e q)
+    -- with a refusal
+    pub call_refused_by : (why : Refused) → number_of why ≡ checked catalogue F l own → {r : LogAnswer} → r ≡ says (number_of why) l.log
+        → Logged log_format l (recording log_format) r l.records l.texts
+    call_refused_by why n q = call_refused (sym n) (never-passes why) q
 
-    pub own_no : k ≡ 0 → own ≡ false
-    own_no z = own-passed F l own (n ∙ z)
+    module _ (n : 0 ≡ checked catalogue F l own) where
+      pub call_passed : {r : LogAnswer} {rb tb : List ℕ} → Logged F l (record_out F (sizes_of l) (w (value_of catalogue F l).undo) (value_of catalogue F l)) r rb tb
+          → Logged log_format l (recording log_format) r rb tb
+      call_passed q =
+          in_format l recording f
+          (passed_by F l (checked catalogue F l own) (record_out F (sizes_of l) (w (value_of catalogue F l).undo) (value_of catalogue F l)) _ _ _ n q)
+
+      -- nothing to record: the redo list is dropped
+      pub call_dropped : Ready F l → (value_of catalogue F l).undo ≡ w (value_of catalogue F l).undo → {r : LogAnswer}
+          → r ≡ says 0 (record { undo = l.log.undo; redo = record { records = 0; texts = 0 }; level = l.log.level })
+          → Logged log_format l (recording log_format) r l.records l.texts
+      call_dropped h e q = call_passed (answered_as F l _ _ _ _ _ q (only_dropped F l h _ e))
+
+      -- the change v is what it makes of the list
+      pub call_recorded : {v : List Change} → v ≡ w (value_of catalogue F l).undo → {r : LogAnswer} {rb tb : List ℕ}
+          → Logged F l (record_out F (sizes_of l) v (value_of catalogue F l)) r rb tb → Logged log_format l (recording log_format) r rb tb
+      call_recorded {v} e q = call_passed (recorded_as catalogue F l v (value_of catalogue F l) (w (value_of catalogue F l).undo) _ _ _ e q)

@@ -9,7 +9,8 @@ ghost use Rattle.log_state.specs.Calls.{lent, Logged, answer_of, begin_call, end
 ghost use Rattle.log_state.specs.Calls.{replace_call, truncate_call, last_insert_call};
 
 use formats::format_for;
-use log_state::{Log, LogAnswer, check, is_single, says};
+use log_records::EditKind;
+use log_state::{Log, LogAnswer, check, is_single, refused, says};
 use repertoire::{check_char, check_text, is_alnum};
 use utf8::encode_at;
 
@@ -19,11 +20,10 @@ pub fn begin(records: &mut [u8], texts: &mut [u8], log: Log) -> LogAnswer
         (begin_call catalogue log_format (lent records.old texts.old log)) result records.new texts.new }
 {
     let f = format_for(0);
-    let c = check(f, records, texts, log, false);
-    if c.number != 0 {
-        return says(c.number, log);
-    }
-    let newest = c.newest;
+    let newest = match check(f, records, texts, log, false) {
+        Ok(newest) => newest,
+        Err(why) => return refused(why, log),
+    };
     log.begin(f, records, texts, newest)
 }
 
@@ -33,11 +33,10 @@ pub fn end(records: &mut [u8], texts: &mut [u8], log: Log) -> LogAnswer
         (end_call catalogue log_format (lent records.old texts.old log)) result records.new texts.new }
 {
     let f = format_for(0);
-    let c = check(f, records, texts, log, false);
-    if c.number != 0 {
-        return says(c.number, log);
-    }
-    let newest = c.newest;
+    let newest = match check(f, records, texts, log, false) {
+        Ok(newest) => newest,
+        Err(why) => return refused(why, log),
+    };
     log.end(f, records, texts, newest)
 }
 
@@ -47,21 +46,20 @@ pub fn insert(records: &mut [u8], texts: &mut [u8], log: Log, idx: usize, ch: u3
         (insert_call catalogue log_format (lent records.old texts.old log) idx ch) result records.new texts.new }
 {
     let f = format_for(0);
-    let c = check(f, records, texts, log, !check_char(ch));
-    if c.number != 0 {
-        return says(c.number, log);
-    }
+    let newest = match check(f, records, texts, log, !check_char(ch)) {
+        Ok(newest) => newest,
+        Err(why) => return refused(why, log),
+    };
     let mut buf = [0u8; 4];
-    let n = encode_at(&mut buf, 0, ch);
+    let n = encode_at(&mut buf, 0, ch).unwrap();
     let s = &buf[..n];
-    let newest = c.newest;
     log.record(
         f,
         records,
         texts,
         newest.last,
         is_alnum(ch),
-        3,
+        EditKind::Insert,
         idx,
         &s[..0],
         s,
@@ -80,14 +78,24 @@ pub fn insert_str(
         (insert_str_call catalogue log_format (lent records.old texts.old log) idx buf.now) result records.new texts.new }
 {
     let f = format_for(0);
-    let c = check(f, records, texts, log, !check_text(buf));
-    if c.number != 0 {
-        return says(c.number, log);
+    match check(f, records, texts, log, !check_text(buf)) {
+        Ok(_) => {}
+        Err(why) => return refused(why, log),
     }
     if buf.len() == 0 {
         return says(0, log.drop_redo());
     }
-    log.record(f, records, texts, 0, false, 3, idx, &buf[..0], buf)
+    log.record(
+        f,
+        records,
+        texts,
+        0,
+        false,
+        EditKind::Insert,
+        idx,
+        &buf[..0],
+        buf,
+    )
 }
 
 // Wrong answers ruled out: a backspaced letter put behind the one cut before; a cut of two letters merged.
@@ -96,21 +104,20 @@ pub fn delete(records: &mut [u8], texts: &mut [u8], log: Log, idx: usize, buf: &
         (delete_call catalogue log_format (lent records.old texts.old log) idx buf.now) result records.new texts.new }
 {
     let f = format_for(0);
-    let c = check(f, records, texts, log, !check_text(buf));
-    if c.number != 0 {
-        return says(c.number, log);
-    }
+    let newest = match check(f, records, texts, log, !check_text(buf)) {
+        Ok(newest) => newest,
+        Err(why) => return refused(why, log),
+    };
     if buf.len() == 0 {
         return says(0, log.drop_redo());
     }
-    let newest = c.newest;
     log.record(
         f,
         records,
         texts,
         newest.last,
         is_single(buf),
-        4,
+        EditKind::Delete,
         idx,
         buf,
         &buf[..0],
@@ -131,12 +138,21 @@ pub fn replace(
         records.new texts.new }
 {
     let f = format_for(0);
-    let c = check(f, records, texts, log, !check_text(old) | !check_text(new));
-    if c.number != 0 {
-        return says(c.number, log);
-    }
-    let newest = c.newest;
-    log.record(f, records, texts, newest.last, true, 5, idx, old, new)
+    let newest = match check(f, records, texts, log, !check_text(old) | !check_text(new)) {
+        Ok(newest) => newest,
+        Err(why) => return refused(why, log),
+    };
+    log.record(
+        f,
+        records,
+        texts,
+        newest.last,
+        true,
+        EditKind::Replace,
+        idx,
+        old,
+        new,
+    )
 }
 
 // Wrong answers ruled out: the redo list dropped; the level lowered by the Begins cut off.
@@ -145,9 +161,9 @@ pub fn truncate(records: &mut [u8], texts: &mut [u8], log: Log, len: usize) -> L
         (truncate_call catalogue log_format (lent records.old texts.old log) len) result records.new texts.new }
 {
     let f = format_for(0);
-    let c = check(f, records, texts, log, false);
-    if c.number != 0 {
-        return says(c.number, log);
+    match check(f, records, texts, log, false) {
+        Ok(_) => {}
+        Err(why) => return refused(why, log),
     }
     log.truncate(f, records, texts, len)
 }
@@ -158,10 +174,9 @@ pub fn last_insert(records: &[u8], texts: &[u8], log: Log) -> LogAnswer
         (last_insert_call catalogue log_format (lent records.now texts.now log)) }
 {
     let f = format_for(0);
-    let c = check(f, records, texts, log, false);
-    if c.number != 0 {
-        return says(c.number, log);
-    }
-    let newest = c.newest;
+    let newest = match check(f, records, texts, log, false) {
+        Ok(newest) => newest,
+        Err(why) => return refused(why, log),
+    };
     log.last_insert(f, records, texts, newest)
 }

@@ -4,10 +4,16 @@ use native.Mathlib.Omega.{arith}
 use mathlib.Core.Path.{◌≡◌, refl, sym, ◌∙◌}
 use mathlib.Core.Bool.{Bool, true, false}
 use lib.Dec.{eqb}
+use denote.Enum.Bare.{sameb}
 use borrow.Author.Tests.{eqb-true, eqb-false, eq-eqb, ne_eqb}
+use Rattle.std.specs.Prelude.{Option, Some, None}
 use Rattle.lists.proofs.Bools.{by_test}
 use Rattle.formats.specs.declared.Format.{Format}
-use Rattle.log_recording.specs.Tails.{tail_for, apart, behind, in_front, noted, InRange}
+use Rattle.log_records.specs.declared.EditKind.{EditKind}
+use Rattle.log_records.specs.declared.EditKind.TheVariants.{Insert, Delete, Replace}
+use Rattle.log_records.specs.declared.EditRecord.{EditRecord}
+use Rattle.log_records.specs.contracts.EditKind.{the_type}
+use Rattle.log_recording.specs.Tails.{tail_for, same_kind, apart, behind, in_front, joined, noted_at, noted, InRange}
 use Rattle.log_recording.specs.declared.Tail.{Tail}
 
 -- does a cut end where the next one begins?
@@ -20,42 +26,69 @@ ends_yes p n q h =
 pub ends_no : (p n q : ℕ) → q < p → false ≡ eqb q (p + n)
 ends_no p n q h = sym (ne_eqb q (p + n) (λ e. omega arith))
 
+-- whether two kinds are one, as the code tests it
+pub same-kinds : (a b : EditKind) → sameb the_type a b ≡ same_kind a b
+same-kinds Insert Insert = refl
+same-kinds Insert Delete = refl
+same-kinds Insert Replace = refl
+same-kinds Delete Insert = refl
+same-kinds Delete Delete = refl
+same-kinds Delete Replace = refl
+same-kinds Replace Insert = refl
+same-kinds Replace Delete = refl
+same-kinds Replace Replace = refl
+
+-- ---- the change x and the newest record y, which is of its kind
+module _ (F : Format) (y x : EditRecord) (t : Tail) where
+  pub follows : y.place + y.new ≡ x.place → behind y x t ≡ joined F y x t
+  unfolding joined
+  follows e = rw (eq-eqb (y.place + y.new) x.place e)
+
+  module _ (elsewhere : y.place + y.new ≡ x.place → ⊥) where
+    pub before : true ≡ sameb the_type x.kind Delete → true ≡ eqb y.place (x.place + x.old) → in_front y x t ≡ joined F y x t
+    unfolding joined
+    before e f = rw (ne_eqb (y.place + y.new) x.place elsewhere, sym (e ∙ same-kinds x.kind Delete), sym f)
+
+    pub no_cut : false ≡ sameb the_type x.kind Delete → apart F x t ≡ joined F y x t
+    unfolding joined
+    no_cut e = rw (ne_eqb (y.place + y.new) x.place elsewhere, sym (e ∙ same-kinds x.kind Delete))
+
+    pub away : true ≡ sameb the_type x.kind Delete → false ≡ eqb y.place (x.place + x.old) → apart F x t ≡ joined F y x t
+    unfolding joined
+    away e f = rw (ne_eqb (y.place + y.new) x.place elsewhere, sym (e ∙ same-kinds x.kind Delete), sym f)
+
+-- ---- the change x, where it may be joined, or not
+module _ (F : Format) (x : EditRecord) (t : Tail) where
+  module _ (y : EditRecord) (e : t.newest ≡ Some y) where
+    pub may_join : (j : Bool) → j ≡ true → true ≡ sameb the_type y.kind x.kind → joined F y x t ≡ noted F j x t
+    unfolding noted
+    may_join j f g = rw (e, f, sym (g ∙ same-kinds y.kind x.kind))
+
+    pub other_kind : (j : Bool) → j ≡ true → false ≡ sameb the_type y.kind x.kind → apart F x t ≡ noted F j x t
+    unfolding noted
+    other_kind j f g = rw (e, f, sym (g ∙ same-kinds y.kind x.kind))
+
+    pub may_not : (j : Bool) → j ≡ false → apart F x t ≡ noted F j x t
+    unfolding noted
+    may_not j f = rw (e, f)
+
+  pub no_edit : (j : Bool) → t.newest ≡ None → apart F x t ≡ noted F j x t
+  unfolding noted
+  no_edit j e = rw e
+
 -- a change that is not joined depends on the used lengths alone
-pub noted_for : (F : Format) (j : Bool) (k p o n : ℕ) (t : Tail) → noted F j k p o n (tail_for j t) ≡ noted F j k p o n t
+pub noted_for : (F : Format) (j : Bool) (x : EditRecord) (t : Tail) → noted F j x (tail_for j t) ≡ noted F j x t
 unfolding noted
-noted_for F true k p o n t = refl
-noted_for F false k p o n t = refl
+noted_for F true x t = refl
+noted_for F false x t = apart_by t.newest
+  where
+    apart_by : (y : Option EditRecord) → apart F x t ≡ noted_at F false x t y
+    apart_by None = refl
+    apart_by (Some y) = refl
 
 pub joined_for : (j : Bool) (t : Tail) → j ≡ true → t ≡ tail_for j t
 joined_for j t e = rw e
 
 pub in_range_for : (j : Bool) (t : Tail) (o n : ℕ) → InRange t o n → InRange (tail_for j t) o n
 in_range_for true t o n h = h
-in_range_for false t o n h = record { records = h.records; texts = h.texts; place = omega arith; within = omega arith; old = h.old; new = h.new }
-
-module _ (F : Format) (k p o n : ℕ) (t : Tail) where
-  pub may_not : (j : Bool) → j ≡ false → apart F k p o n t ≡ noted F j k p o n t
-  unfolding noted
-  may_not j e = rw e
-
-  pub other_kind : (j : Bool) → j ≡ true → (t.kind ≡ k → ⊥) → apart F k p o n t ≡ noted F j k p o n t
-  unfolding noted
-  other_kind j e f = rw (e, ne_eqb t.kind k f)
-
-  module _ (j : Bool) (may : j ≡ true) (same : t.kind ≡ k) where
-    pub follows : t.place + t.new ≡ p → behind o n t ≡ noted F j k p o n t
-    unfolding noted
-    follows e = rw (may, eq-eqb t.kind k same, eq-eqb (t.place + t.new) p e)
-
-    module _ (elsewhere : t.place + t.new ≡ p → ⊥) where
-      pub no_cut : (k ≡ 4 → ⊥) → apart F k p o n t ≡ noted F j k p o n t
-      unfolding noted
-      no_cut f = rw (may, eq-eqb t.kind k same, ne_eqb (t.place + t.new) p elsewhere, ne_eqb k 4 f)
-
-      pub away : k ≡ 4 → eqb t.place (p + o) ≡ false → apart F k p o n t ≡ noted F j k p o n t
-      unfolding noted
-      away e f = rw (may, eq-eqb t.kind k same, ne_eqb (t.place + t.new) p elsewhere, eq-eqb k 4 e, f)
-
-      pub before : k ≡ 4 → eqb t.place (p + o) ≡ true → in_front p o n t ≡ noted F j k p o n t
-      unfolding noted
-      before e f = rw (may, eq-eqb t.kind k same, ne_eqb (t.place + t.new) p elsewhere, eq-eqb k 4 e, f)
+in_range_for false t o n h = record { records = h.records; texts = h.texts; newest = tt; old = h.old; new = h.new }

@@ -5,6 +5,7 @@ use mathlib.Core.Path.{◌≡◌, refl, sym, ap}
 use mathlib.Core.List.{List, [], ◌∷◌, ◌++◌, append-nil}
 use mathlib.Core.Bool.{true}
 use lib.ListN.{length, length-append}
+use Rattle.std.specs.Prelude.{Some, IfSome}
 use Rattle.lists.proofs.Bools.{and_both}
 use Rattle.repertoire.specs.Repertoire.{Repertoire}
 use Rattle.repertoire.specs.Text.{is_text}
@@ -17,18 +18,17 @@ use Rattle.log_model.specs.UndoBytes.{undo_records, undo_texts}
 use Rattle.numbers.proofs.Numbers.{length-le}
 use Rattle.log_model.proofs.UndoBytes.{texts-size}
 use Rattle.log_records.specs.Written.{record_bytes, edit_size}
-use Rattle.log_records.specs.Records.{kind_number}
+use Rattle.log_records.specs.declared.EditRecord.{EditRecord}
+use Rattle.log_records.specs.Records.{edit_kind, edit_record}
 use Rattle.log_recording.specs.Tails.{tail, tail_of}
 
 -- ---- the record and the texts of an edit
-pub record-bytes : (F : Format) (x : Edit) → record_of F (edit x) ≡ record_bytes F (kind_number x) (place x) (length (old x)) (length (new x))
-unfolding record_bytes
+pub record-bytes : (F : Format) (x : Edit) → record_of F (edit x) ≡ record_bytes F (edit_record x)
 record-bytes F (insert p s) = refl
 record-bytes F (delete p s) = refl
 record-bytes F (replace p o n) = refl
 
-pub record-size : (F : Format) (x : Edit) → length (record_of F (edit x)) ≡ edit_size F (kind_number x)
-unfolding edit_size
+pub record-size : (F : Format) (x : Edit) → length (record_of F (edit x)) ≡ edit_size F (edit_kind x)
 record-size F (insert p s) = simp (length-append, length-le) (omega arith)
 record-size F (delete p s) = simp (length-append, length-le) (omega arith)
 record-size F (replace p o n) = simp (length-append, length-le) (omega arith)
@@ -37,11 +37,6 @@ pub texts_are : (x : Edit) → texts_of (edit x) ≡ old x ++ new x
 texts_are (insert p s) = refl
 texts_are (delete p s) = sym (append-nil s)
 texts_are (replace p o n) = refl
-
-pub kind_low : (x : Edit) → (3 ≤ kind_number x) × (kind_number x ≤ 5)
-kind_low (insert p s) = (omega arith, omega arith)
-kind_low (delete p s) = (omega arith, omega arith)
-kind_low (replace p o n) = (omega arith, omega arith)
 
 -- the texts of an edit are of the repertoire
 module _ (R : Repertoire) where
@@ -69,35 +64,30 @@ representable_place w (replace p o n) h = h.0
 -- ---- the tail of a list
 module _ (F : Format) where
   pub tail-edit : (x : Edit) (u : List Change) → tail_of F (edit x ∷ u) ≡ tail (length (undo_records F (edit x ∷ u))) (length (undo_texts (edit x ∷ u)))
-      (kind_number x) (place x) (length (old x)) (length (new x))
+      (Some (edit_record x))
   unfolding tail_of
   tail-edit x u = refl
 
   pub tail-records : (u : List Change) → (tail_of F u).records ≡ length (undo_records F u)
   unfolding tail_of
-  tail-records [] = refl
-  tail-records (begin ∷ u) = refl
-  tail-records (end ∷ u) = refl
-  tail-records (edit x ∷ u) = refl
+  tail-records u = refl
 
   pub tail-texts : (u : List Change) → (tail_of F u).texts ≡ length (undo_texts u)
   unfolding tail_of
-  tail-texts [] = refl
-  tail-texts (begin ∷ u) = refl
-  tail-texts (end ∷ u) = refl
-  tail-texts (edit x ∷ u) = refl
+  tail-texts u = refl
 
-  -- the newest record's texts are among the list's
-  pub tail_within : (u : List Change) → (tail_of F u).old + (tail_of F u).new ≤ (tail_of F u).texts
-  unfolding tail_of
-  tail_within [] = omega arith
-  tail_within (begin ∷ u) = omega arith
-  tail_within (end ∷ u) = omega arith
-  tail_within (edit x ∷ u) = omega (arith, texts-size (edit x) u, ap length (texts_are x), length-append (old x) (new x))
+  -- the newest record's texts are among the list's, and its place is a number of the format
+  pub record Bounded (u : List Change) (y : EditRecord) : Type 0 where
+    pub within : y.old + y.new ≤ length (undo_texts u)
+    pub place : y.place < top F.width
 
-  pub tail-place : (R : Repertoire) (u : List Change) → AllGood R F.width u → 0 < top F.width → (tail_of F u).place < top F.width
+  pub tail_bounded : (R : Repertoire) (u : List Change) → AllGood R F.width u → IfSome (tail_of F u).newest (Bounded u)
   unfolding tail_of
-  tail-place R [] h z = z
-  tail-place R (begin ∷ u) h z = z
-  tail-place R (end ∷ u) h z = z
-  tail-place R (edit x ∷ u) h z = representable_place F.width x h.0.0
+  tail_bounded R [] h = tt
+  tail_bounded R (begin ∷ u) h = tt
+  tail_bounded R (end ∷ u) h = tt
+  tail_bounded R (edit x ∷ u) h =
+      record {
+        within = omega (arith, texts-size (edit x) u, ap length (texts_are x), length-append (old x) (new x));
+        place = representable_place F.width x h.0.0;
+      }

@@ -1,46 +1,46 @@
 // Recording a change: the dry run, which says where its record and its texts go, and the writing. undo.rs, Changeset.
 #![tactic(auto)]
 
-ghost use Rattle.std.specs.Prelude.{◌≡◌, true, ◌+◌, ◌≤◌, eqb, length};
+ghost use Rattle.std.specs.Prelude.{◌≡◌, true, ◌+◌, ◌≤◌, eqb, length, Some};
 ghost use Rattle.repertoire.specs.Repertoire.{catalogue};
 ghost use Rattle.formats.specs.Formats.{Fit};
 ghost use Rattle.log_records.specs.Walks.{LastAt};
 ghost use Rattle.log_records.specs.Written.{edit_size};
-ghost use Rattle.log_recording.specs.Tails.{tail, TailAt, TailFor, apart as Tails·apart, noted, InRange, Wrote};
+ghost use Rattle.log_recording.specs.Tails.{as_edit, tail_after, TailAt, TailFor, apart as Tails·apart, joined, noted, InRange, Wrote};
 
 use buffer::insert_bytes;
 use formats::Format;
-use log_records::{edit_size, read_record, write_record};
+use log_records::{EditKind, EditRecord, Kind, Record, edit_size, read_record, write_record};
 
-// An undo list by its used lengths and its newest record: 3 Insert, 4 Delete, 5 Replace, 0 any other or none.
+// An undo list by its used lengths, and its newest record where that is an edit's.
 #[derive(Clone, Copy)]
 pub struct Tail {
     pub records: usize,
     pub texts: usize,
-    pub kind: usize,
-    pub place: usize,
-    pub old: usize,
-    pub new: usize,
+    pub newest: Option<EditRecord>,
 }
 
-// The list after a change, and where in the texts the change's old text goes.
+// The list after a change: its newest record, its used lengths, and where in the texts the change's old text goes.
 #[derive(Clone, Copy)]
 pub struct Noted {
-    pub tail: Tail,
+    pub edit: EditRecord,
+    pub records: usize,
+    pub texts: usize,
     pub at: usize,
 }
 
-// A list whose newest record is no edit, or that has none.
-fn no_edit(records: usize, texts: usize) -> Tail
-    ensures { result ≡ tail records texts 0 0 0 0 }
+// A record, where it is an edit's.
+fn as_edit(r: Record) -> Option<EditRecord>
+    ensures { result ≡ as_edit r }
 {
-    Tail {
-        records,
-        texts,
-        kind: 0,
-        place: 0,
-        old: 0,
-        new: 0,
+    match r.kind {
+        Kind::Edit(kind) => Some(EditRecord {
+            kind,
+            place: r.place,
+            old: r.old,
+            new: r.new,
+        }),
+        Kind::Begin | Kind::End => None,
     }
 }
 
@@ -50,18 +50,10 @@ pub fn tail_at(f: Format, records: &[u8], last: usize, texts: usize) -> Tail
     requires last_at { LastAt catalogue f records.now last }
     ensures { TailAt catalogue f records.now texts result }
 {
-    let used = records.len();
-    let r = read_record(f, records, last);
-    if r.kind <= 2 {
-        return no_edit(used, texts);
-    }
     Tail {
-        records: used,
+        records: records.len(),
         texts,
-        kind: r.kind,
-        place: r.place,
-        old: r.old,
-        new: r.new,
+        newest: read_record(f, records, last).and_then(as_edit),
     }
 }
 
@@ -71,10 +63,14 @@ pub fn tail_for(f: Format, joins: bool, records: &[u8], last: usize, texts: usiz
     requires last_at { joins ≡ true → LastAt catalogue f records.now last }
     ensures { TailFor catalogue f joins records.now texts result }
 {
-    if !joins {
-        return no_edit(records.len(), texts);
+    if joins {
+        return tail_at(f, records, last, texts);
     }
-    tail_at(f, records, last, texts)
+    Tail {
+        records: records.len(),
+        texts,
+        newest: None,
+    }
 }
 
 // Does a cut of size bytes at a place end at next?
@@ -87,77 +83,83 @@ fn ends_at(place: usize, size: usize, next: usize) -> bool
     next - place == size
 }
 
+impl Noted {
+    // The list's tail.
+    pub fn tail(self) -> Tail
+        ensures { result ≡ tail_after self }
+    {
+        Tail {
+            records: self.records,
+            texts: self.texts,
+            newest: Some(self.edit),
+        }
+    }
+}
+
 impl Tail {
     // The change in a record of its own.
-    fn apart(self, f: Format, kind: usize, place: usize, old: usize, new: usize) -> Noted
+    fn apart(self, f: Format, edit: EditRecord) -> Noted
         requires fit { Fit f }
-        requires in_range { InRange self old new }
-        ensures { result ≡ Tails·apart f kind place old new self }
+        requires in_range { InRange self edit.old edit.new }
+        ensures { result ≡ Tails·apart f edit self }
     {
         Noted {
-            tail: Tail {
-                records: self.records + edit_size(f, kind),
-                texts: self.texts + (old + new),
-                kind,
-                place,
-                old,
-                new,
-            },
+            edit,
+            records: self.records + edit_size(f, edit.kind),
+            texts: self.texts + (edit.old + edit.new),
             at: self.texts,
         }
     }
 
-    // A change of a kind at a place, whose old and new text are so many bytes long: the dry run of recording it.
-    pub fn note(
-        self,
-        f: Format,
-        joins: bool,
-        kind: usize,
-        place: usize,
-        old: usize,
-        new: usize,
-    ) -> Noted
+    // The change joined to the newest record, which is of its kind, where it follows it or is a cut in front of it.
+    fn joined(self, f: Format, newest: EditRecord, edit: EditRecord) -> Noted
         requires fit { Fit f }
-        requires in_range { InRange self old new }
-        ensures { result ≡ noted f joins kind place old new self }
+        requires in_range { InRange self edit.old edit.new }
+        requires newest { self.newest ≡ Some newest }
+        ensures { result ≡ joined f newest edit self }
     {
-        if !joins {
-            return self.apart(f, kind, place, old, new);
-        }
-        if self.kind != kind {
-            return self.apart(f, kind, place, old, new);
-        }
-        let texts = self.texts + (old + new);
-        if self.place + self.new == place {
+        if newest.place + newest.new == edit.place {
             return Noted {
-                tail: Tail {
-                    records: self.records,
-                    texts,
-                    kind: self.kind,
-                    place: self.place,
-                    old: self.old + old,
-                    new: self.new + new,
+                edit: EditRecord {
+                    kind: newest.kind,
+                    place: newest.place,
+                    old: newest.old + edit.old,
+                    new: newest.new + edit.new,
                 },
-                at: self.texts - self.new,
+                records: self.records,
+                texts: self.texts + (edit.old + edit.new),
+                at: self.texts - newest.new,
             };
         }
-        if kind != 4 {
-            return self.apart(f, kind, place, old, new);
-        }
-        if !ends_at(place, old, self.place) {
-            return self.apart(f, kind, place, old, new);
-        }
-        Noted {
-            tail: Tail {
+        if edit.kind == EditKind::Delete && ends_at(edit.place, edit.old, newest.place) {
+            return Noted {
+                edit: EditRecord {
+                    kind: newest.kind,
+                    place: edit.place,
+                    old: edit.old + newest.old,
+                    new: edit.new + newest.new,
+                },
                 records: self.records,
-                texts,
-                kind: self.kind,
-                place,
-                old: old + self.old,
-                new: new + self.new,
-            },
-            at: self.texts - (self.old + self.new),
+                texts: self.texts + (edit.old + edit.new),
+                at: self.texts - (newest.old + newest.new),
+            };
         }
+        self.apart(f, edit)
+    }
+
+    // A change by its kind, its place and the lengths of its texts: the dry run of recording it.
+    pub fn note(self, f: Format, joins: bool, edit: EditRecord) -> Noted
+        requires fit { Fit f }
+        requires in_range { InRange self edit.old edit.new }
+        ensures { result ≡ noted f joins edit self }
+    {
+        let Some(newest) = self.newest else {
+            return self.apart(f, edit);
+        };
+        if joins && newest.kind == edit.kind {
+            return self.joined(f, newest, edit);
+        }
+        self.apart(f, edit)
     }
 }
 
@@ -172,15 +174,11 @@ pub fn write_noted(
     new: &[u8],
 )
     requires fit { Fit f }
-    requires le_kind { (3 ≤ n.tail.kind) × (n.tail.kind ≤ 5) }
-    requires kind_bound { (edit_size f n.tail.kind ≤ n.tail.records) × (n.tail.records ≤ length records.old) }
+    requires kind_bound { (edit_size f n.edit.kind ≤ n.records) × (n.records ≤ length records.old) }
     requires at_le_used { (n.at ≤ used) × (used + length old.now + length new.now ≤ length texts.old) }
     ensures { Wrote f n used old.now new.now records.old texts.old records.new texts.new }
 {
-    let t = n.tail;
-    let kind = t.kind;
-    let at = t.records - edit_size(f, kind);
-    write_record(f, records, at, kind, t.place, t.old, t.new);
+    write_record(f, records, n.records - edit_size(f, n.edit.kind), n.edit);
     insert_bytes(texts, used, n.at, old);
     let end = used + old.len();
     insert_bytes(texts, end, end, new);

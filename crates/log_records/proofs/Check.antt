@@ -1,13 +1,15 @@
 -- The check of a list at a record, by the tests of the code. Assumes nothing.
 use Prim.Native.Nat.{ℕ, ◌+◌, ◌≤◌, ◌<◌}
 use native.Mathlib.Omega.{arith}
-use mathlib.Core.Path.{◌≡◌, refl, sym, ap, subst, ◌∙◌}
+use mathlib.Core.Path.{◌≡◌, refl, sym, ap, ◌∙◌}
 use mathlib.Core.List.{List}
 use mathlib.Core.Bool.{Bool, true, false, not, ◌&&◌, ◌||◌, and-true}
 use lib.Dec.{leb, eqb}
 use lib.ListN.{length, get_or, take, drop, take-append-drop}
 use lib.Seq.{drop-drop, get_or-drop}
 use borrow.Author.Tests.{leb-true, le-leb, eqb-true}
+use Rattle.std.specs.Prelude.{Some, None}
+use Rattle.std.proofs.lemmas.Option.{none-some}
 use Rattle.lists.proofs.Bools.{and_both, by_test, never}
 use Rattle.utf8.specs.Utf8.{tail}
 use Rattle.utf8.specs.Chars.{no_tail}
@@ -16,18 +18,20 @@ use Rattle.repertoire.specs.Text.{is_text}
 use Rattle.repertoire.proofs.Text.{text_nil, text-append, text-front}
 use Rattle.formats.specs.declared.Format.{Format}
 use Rattle.log_model.specs.Layout.{ok_change, first_len, size_of, texts_at, change_at, whole_at, is_some, decode_at, decode}
-use Rattle.log_model.proofs.Decode.{KindIs, is-begin, is-end, is-insert, is-delete, is-replace, kind-is, change_begin, change_end}
-use Rattle.log_model.proofs.Decode.{change_insert, change_delete, change_replace, Whole, whole_false, some_end, some_bad, some_step}
+use Rattle.log_model.proofs.Decode.{change_begin, change_end, change_insert, change_delete, change_replace, Whole, whole_false}
+use Rattle.log_model.proofs.Decode.{some_end, some_bad, some_step}
 use Rattle.log_model.proofs.Texts.{whole-text}
 use Rattle.log_model.proofs.Walk.{Come, come_end}
+use Rattle.log_records.specs.declared.EditKind.TheVariants.{Insert, Delete, Replace}
+use Rattle.log_records.specs.declared.Kind.{Kind}
+use Rattle.log_records.specs.declared.Kind.TheVariants.{Begin, End, Edit}
 use Rattle.log_records.specs.declared.Record.{Record}
 use Rattle.log_records.specs.declared.Newest.{Newest}
-use Rattle.log_records.specs.Records.{record_by, IsWhole, record_at}
+use Rattle.log_records.specs.Records.{record_by, record_at}
 use Rattle.log_records.specs.Check.{is_text_at, are_texts_at}
 use Rattle.log_records.specs.Walks.{passing, NewestAt}
-use Rattle.log_records.proofs.Records.{by_begin, by_end, by_insert, by_delete, by_replace, is_whole, some_kind, size_is, texts-size-is}
-use Rattle.log_records.proofs.Records.{no_texts_of, whole_by}
-use Rattle.log_records.proofs.Walks.{NewestOf, newest, newest_none, pass_count, newest_on}
+use Rattle.log_records.proofs.Records.{kind_byte, read_as, stands, read, whole_by, size_is, texts-size-is}
+use Rattle.log_records.proofs.Walks.{NewestOf, newest, newest_none, pass_count, passes, newest_on}
 
 -- ---- n bytes at t
 module _ (R : Repertoire) (ts : List ℕ) (t n : ℕ) where
@@ -108,12 +112,6 @@ module _ (R : Repertoire) (ts : List ℕ) (t o n : ℕ) (text : is_text R (drop 
         let w : t + (o + n) ≡ t + o = omega arith in
         middle_says z true (sym z ∙ ap (no_tail ts) w))
 
--- both are empty
-none_both : (R : Repertoire) (ts : List ℕ) (t o n : ℕ) → o ≡ 0 → n ≡ 0 → t ≤ length ts → true ≡ are_texts_at R ts t o n
-none_both R ts t o n e f h =
-    let a = none_at R ts t o e h in
-    second-says R ts t o n true (sym a) (none_at R ts (t + o) n f (omega arith))
-
 -- one of them is empty, or both
 module _ (R : Repertoire) (ts : List ℕ) (t : ℕ) where
   two_none : true ≡ two R ts t 0 0
@@ -132,45 +130,45 @@ module _ (R : Repertoire) (F : Format) (rs ts : List ℕ) (at t : ℕ) where
   abbrev two_of : Record → Bool
   two_of r = two R ts t r.old r.new
 
-  fine_by : (k : ℕ) → KindIs F k → ok_change R (change_at F rs ts at t k) ≡ two_of (record_by F rs at k)
-  fine_by k (is-begin e) = ap (ok_change R) (change_begin F rs ts at t k e) ∙ two_none R ts t ∙ sym (ap two_of (by_begin F rs at k e))
-  fine_by k (is-end e) = ap (ok_change R) (change_end F rs ts at t k e) ∙ two_none R ts t ∙ sym (ap two_of (by_end F rs at k e))
-  fine_by k (is-insert e) = ap (ok_change R) (change_insert F rs ts at t k e) ∙ two-new R ts t (first_len F rs at) ∙ sym (ap two_of (by_insert F rs at k e))
-  fine_by k (is-delete e) = ap (ok_change R) (change_delete F rs ts at t k e) ∙ two-old R ts t (first_len F rs at) ∙ sym (ap two_of (by_delete F rs at k e))
-  fine_by k (is-replace e) = ap (ok_change R) (change_replace F rs ts at t k e) ∙ sym (ap two_of (by_replace F rs at k e))
+  fine_by : (k : Kind) → ok_change R (change_at F rs ts at t (kind_byte F k)) ≡ two_of (record_by F rs at k)
+  fine_by Begin = ap (ok_change R) (change_begin F rs ts at t 1 refl) ∙ two_none R ts t
+  fine_by End = ap (ok_change R) (change_end F rs ts at t 2 refl) ∙ two_none R ts t
+  fine_by (Edit Insert) = ap (ok_change R) (change_insert F rs ts at t (3 + F.offset) refl) ∙ two-new R ts t (first_len F rs at)
+  fine_by (Edit Delete) = ap (ok_change R) (change_delete F rs ts at t (4 + F.offset) refl) ∙ two-old R ts t (first_len F rs at)
+  fine_by (Edit Replace) = ap (ok_change R) (change_replace F rs ts at t (5 + F.offset) refl)
 
-  module _ (r : Record) (e : r ≡ record_at F rs at) where
-    fine_is : IsWhole F rs at → ok_change R (change_at F rs ts at t (get_or rs at 0)) ≡ two_of r
-    fine_is w = fine_by (get_or rs at 0) (kind-is F (get_or rs at 0) w.0) ∙ sym (ap two_of (e ∙ is_whole F rs at w))
+  -- no record
+  pub no_record : None ≡ record_at F rs at → whole_at R F rs ts at t ≡ false
+  no_record z =
+      whole_false R F rs ts at t
+      (λ q. let s = stands F rs at (q.kind, q.body) in none-some (record_by F rs at s.0) (z ∙ read_as F rs at s.0 s.1))
 
-    -- no record
-    pub no_record : r.kind ≡ 0 → whole_at R F rs ts at t ≡ false
-    no_record z = whole_false R F rs ts at t (λ q. omega (arith, some_kind F rs at r e (q.kind, q.body)))
+  module _ (r : Record) (e : Some r ≡ record_at F rs at) where
+    fine_is : ok_change R (change_at F rs ts at t (get_or rs at 0)) ≡ two_of r
+    fine_is =
+        let q = (read F rs at r e) in
+        ap (λ (b : ℕ). ok_change R (change_at F rs ts at t b)) q.1.0.byte ∙ fine_by q.0 ∙ sym (ap two_of q.1.1)
 
     -- its texts do not stand there
     texts-of : Whole R F rs ts at t → are_texts_at R ts t r.old r.new ≡ true
-    texts-of q =
-        let w : IsWhole F rs at = (q.kind, q.body) in
-        texts-at R ts t r.old r.new (omega (arith, q.room, texts-size-is F rs at r e w)) (sym (fine_is w) ∙ q.fine)
+    texts-of q = texts-at R ts t r.old r.new (omega (arith, q.room, texts-size-is F rs at r e)) (sym fine_is ∙ q.fine)
 
     pub no_texts : are_texts_at R ts t r.old r.new ≡ false → whole_at R F rs ts at t ≡ false
     no_texts z = whole_false R F rs ts at t (λ q. never ⊥ (are_texts_at R ts t r.old r.new) (texts-of q) z)
 
     -- it is passed
-    module _ (k : r.kind ≡ 0 → ⊥) (z : are_texts_at R ts t r.old r.new ≡ true) where
-      stands : IsWhole F rs at
-      stands = whole_by F rs at r e k
-
+    module _ (z : are_texts_at R ts t r.old r.new ≡ true) where
       sizes : (r.size ≡ size_of F (get_or rs at 0)) × (r.old + r.new ≡ texts_at F rs at (get_or rs at 0))
-      sizes = (size_is F rs at r e stands, texts-size-is F rs at r e stands)
+      sizes = (size_is F rs at r e, texts-size-is F rs at r e)
 
       all : Whole R F rs ts at t
       all =
+          let w = whole_by F rs at r e in
           let b = at-texts R ts t r.old r.new z in
-          record { kind = stands.0; body = stands.1; room = omega (arith, sizes.1, b.0); fine = fine_is stands ∙ b.1 }
+          record { kind = w.0; body = w.1; room = omega (arith, sizes.1, b.0); fine = fine_is ∙ b.1 }
 
-      pub further : (at < at + r.size) × (at + r.size ≤ length rs) × (t + (r.old + r.new) ≤ length ts)
-      further = (omega (arith, stands.0, sizes.0), omega (arith, stands.1, sizes.0), (at-texts R ts t r.old r.new z).0)
+      pub further : t + (r.old + r.new) ≤ length ts
+      further = (at-texts R ts t r.old r.new z).0
 
       text_on : is_text R (drop t ts) ≡ true → is_text R (drop (t + (r.old + r.new)) ts) ≡ true
       text_on h = rw sizes.1 (sym (whole-text R F rs ts at t all) ∙ h)
@@ -189,8 +187,9 @@ pub record Looks (R : Repertoire) (F : Format) (rs ts : List ℕ) (n : Newest) (
   pub newest : Come R F rs at (NewestOf F n)
 
 module _ (R : Repertoire) (F : Format) (rs ts : List ℕ) where
-  pub looks_first : is_text R ts ≡ true → Looks R F rs ts (newest 0 0 0 0 0) 0 0
-  looks_first e = record { records = omega arith; texts = omega arith; text = e; decodes = refl; count = omega arith; begins = omega arith; newest = newest_none R F rs }
+  pub looks_first : (n : Newest) → n ≡ newest 0 0 0 0 0 → is_text R ts ≡ true → Looks R F rs ts n 0 0
+  looks_first n g e =
+      rw g (record { records = omega arith; texts = omega arith; text = e; decodes = refl; count = omega arith; begins = omega arith; newest = newest_none R F rs })
 
   module _ (n : Newest) (at t : ℕ) (l : Looks R F rs ts n at t) where
     -- no whole record stands there
@@ -198,31 +197,22 @@ module _ (R : Repertoire) (F : Format) (rs ts : List ℕ) where
     looks_bad h e = sym (some_bad R F rs ts at t h e) ∙ l.decodes
 
     -- the record r is passed
-    pub looks_on : (r : Record) → r ≡ record_at F rs at → at < length rs → (r.kind ≡ 0 → ⊥) → are_texts_at R ts t r.old r.new ≡ true
-        → (m : Newest) → m ≡ passing r.kind at (at + r.size) n
+    pub looks_on : (r : Record) → Some r ≡ record_at F rs at → are_texts_at R ts t r.old r.new ≡ true → (m : Newest) → m ≡ passing r.kind at (at + r.size) n
         → Looks R F rs ts m (at + r.size) (t + (r.old + r.new))
-    looks_on r e h k z m g =
-        let f = further R F rs ts at t r e k z in
+    looks_on r e z m g =
+        let f = passes R F rs at r e in
         let c = pass_count r.kind at (at + r.size) n l.begins in
         let a = ap (λ (x : Newest). x.count) g in
         let b = ap (λ (x : Newest). x.begins) g in
         record {
-          records = f.1;
-          texts = f.2;
-          text = text_on R F rs ts at t r e k z l.text;
-          decodes = decode_on R F rs ts at t r e k z ∙ l.decodes;
-          count = omega (arith, l.count, f.0, c.0, a);
+          records = f.2;
+          texts = further R F rs ts at t r e z;
+          text = text_on R F rs ts at t r e z l.text;
+          decodes = decode_on R F rs ts at t r e z ∙ l.decodes;
+          count = omega (arith, l.count, f.1, c.0, a);
           begins = omega (arith, c.0, c.1, a, b);
-          newest = newest_on R F rs at r h e (whole_by F rs at r e k) n m g l.newest;
+          newest = newest_on R F rs at r e n m g l.newest;
         }
-
-    -- a Begin or an End is passed: it has no texts
-    pub looks_bare : (r : Record) → r ≡ record_at F rs at → at < length rs → (r.kind ≡ 0 → ⊥) → r.kind ≤ 2 → (m : Newest) → m ≡ passing r.kind at (at + r.size) n
-        → Looks R F rs ts m (at + r.size) t
-    looks_bare r e h k b m g =
-        let w = no_texts_of F rs at r e (whole_by F rs at r e k) b in
-        let z : t + (r.old + r.new) ≡ t = omega (arith, w) in
-        subst (Looks R F rs ts m (at + r.size)) z (looks_on r e h k (sym (none_both R ts t r.old r.new w.0 w.1 l.texts)) m g)
 
     -- all records are passed
     pub looks_end : length rs ≤ at → (eqb t (length ts) ≡ is_some (decode R F rs ts)) × NewestAt R F rs n

@@ -1,13 +1,15 @@
--- The record at a place by its numbers: as the code reads them by the byte of kind k, and as the change c that stands there has them. Assumes nothing.
+-- The record at a place by its numbers: as the code reads them by the kind that its first byte names, and as the change c that stands there has
+-- them. Assumes nothing.
 use Prim.Native.Nat.{ℕ, ◌+◌, ◌-◌, ◌≤◌, ◌<◌}
 use native.Mathlib.Omega.{arith}
-use mathlib.Core.Path.{◌≡◌, refl, sym, ap, ap₂, subst, ◌∙◌}
-use mathlib.Core.Bool.{Bool, true, false, cond, ◌&&◌, ◌||◌}
+use mathlib.Core.Path.{◌≡◌, refl, sym, ap, subst, ◌∙◌}
 use mathlib.Core.List.{List, [], ◌∷◌, ◌++◌, reverse, append_assoc, reverse-append, reverse-cons, reverse-reverse}
-use lib.Dec.{eqb, leb, ltb}
 use lib.ListN.{length, get_or, drop, length-take, length-append}
-use borrow.Author.Tests.{eqb-true, eqb-false, eq-eqb, ne_eqb, lt-ltb, le-leb, ltb-true, leb-true}
-use Rattle.lists.proofs.Bools.{or_none, by_test, by_less}
+use borrow.Author.Tests.{eq-eqb, ne_eqb, le-leb, lt-leb}
+use Rattle.std.specs.Prelude.{Option, Some, None}
+use Rattle.std.proofs.lemmas.Option.{same_Some, none-some}
+use Rattle.std.proofs.lemmas.List.{get_or_past}
+use Rattle.lists.proofs.Bools.{by_less}
 use Rattle.repertoire.specs.Repertoire.{Repertoire}
 use Rattle.numbers.specs.Numbers.{num_at}
 use Rattle.formats.specs.declared.Format.{Format}
@@ -15,226 +17,249 @@ use Rattle.log_model.specs.Change.{Change, begin, end, edit, insert, delete, rep
 use Rattle.log_model.specs.Layout.{kind_of, first_len, second_len, record_of, texts_of, encode_records, encode_texts, size_of, texts_at}
 use Rattle.log_model.specs.Layout.{Layout}
 use Rattle.log_model.specs.UndoBytes.{undo_records}
-use Rattle.log_model.proofs.Decode.{KindIs, is-begin, is-end, is-insert, is-delete, is-replace, kind-is, is_replacement, size-begin}
-use Rattle.log_model.proofs.Decode.{size-end, size-replace, size_mid, size_high, texts-begin, texts-end, texts-insert, texts-delete}
-use Rattle.log_model.proofs.Decode.{texts-replace, change_insert, change_delete, change_replace, Reads}
+use Rattle.log_model.proofs.Decode.{KindIs, is-begin, is-end, is-insert, is-delete, is-replace, kind-is, size-begin, size-end, size-insert}
+use Rattle.log_model.proofs.Decode.{size-delete, size-replace, size_none, texts-begin, texts-end, texts-insert, texts-delete, texts-replace}
+use Rattle.log_model.proofs.Decode.{change_insert, change_delete, change_replace, Reads}
 use Rattle.log_model.proofs.Walk.{Here, reads_at, whole-at}
+use Rattle.log_records.specs.declared.EditKind.{EditKind}
+use Rattle.log_records.specs.declared.EditKind.TheVariants.{Insert, Delete, Replace}
+use Rattle.log_records.specs.declared.Kind.{Kind}
+use Rattle.log_records.specs.declared.Kind.TheVariants.{Begin, End, Edit}
 use Rattle.log_records.specs.declared.Record.{Record}
-use Rattle.log_records.specs.Records.{numbers, no_record, numbers_of, record_by, IsWhole, record_at, Read, Carries}
+use Rattle.log_records.specs.Written.{edit_byte}
+use Rattle.log_records.specs.Records.{numbers, numbers_of, kind_by, kind_size, record_by, IsWhole, record_if, record_at, Carries}
 
--- ---- the numbers by the byte of kind
-module _ (F : Format) (rs : List ℕ) (at k : ℕ) where
-  pub by_begin : k ≡ 1 → record_by F rs at k ≡ numbers 1 0 0 0 (size_of F k)
-  unfolding record_by
-  by_begin h = simp (eq-eqb k 1 h)
+-- ---- the kind by its byte
+module _ (F : Format) where
+  abbrev pub kind_byte : Kind → ℕ
+  kind_byte Begin = 1
+  kind_byte End = 2
+  kind_byte (Edit k) = edit_byte F k
 
-  pub by_end : k ≡ 2 → record_by F rs at k ≡ numbers 2 0 0 0 (size_of F k)
-  unfolding record_by
-  by_end h = simp (ne_eqb k 1 (λ x. omega arith), eq-eqb k 2 h)
+  pub names : (k : Kind) → kind_by F (kind_byte k) ≡ Some k
+  unfolding kind_by
+  names Begin = refl
+  names End = refl
+  names (Edit Insert) = simp (ne_eqb (3 + F.offset) 1 (λ x. omega arith), ne_eqb (3 + F.offset) 2 (λ x. omega arith), eq-eqb (3 + F.offset) (3 + F.offset) refl)
+  names (Edit Delete) =
+      simp (
+        ne_eqb (4 + F.offset) 1 (λ x. omega arith),
+        ne_eqb (4 + F.offset) 2 (λ x. omega arith),
+        ne_eqb (4 + F.offset) (3 + F.offset) (λ x. omega arith),
+        eq-eqb (4 + F.offset) (4 + F.offset) refl,
+      )
+  names (Edit Replace) =
+      simp (
+        ne_eqb (5 + F.offset) 1 (λ x. omega arith),
+        ne_eqb (5 + F.offset) 2 (λ x. omega arith),
+        ne_eqb (5 + F.offset) (3 + F.offset) (λ x. omega arith),
+        ne_eqb (5 + F.offset) (4 + F.offset) (λ x. omega arith),
+        eq-eqb (5 + F.offset) (5 + F.offset) refl,
+      )
 
-  pub by_insert : k ≡ 3 + F.offset → record_by F rs at k ≡ numbers 3 (num_at F.width rs (at + 1)) 0 (first_len F rs at) (size_of F k)
-  unfolding record_by
-  by_insert h = simp (ne_eqb k 1 (λ x. omega arith), ne_eqb k 2 (λ x. omega arith), eq-eqb k (3 + F.offset) h)
+  pub kind_len : (k : Kind) → size_of F (kind_byte k) ≡ kind_size F k
+  kind_len Begin = size-begin F 1 refl
+  kind_len End = size-end F 2 refl
+  kind_len (Edit Insert) = size-insert F (3 + F.offset) refl
+  kind_len (Edit Delete) = size-delete F (4 + F.offset) refl
+  kind_len (Edit Replace) = size-replace F (5 + F.offset) refl
 
-  pub by_delete : k ≡ 4 + F.offset → record_by F rs at k ≡ numbers 4 (num_at F.width rs (at + 1)) (first_len F rs at) 0 (size_of F k)
-  unfolding record_by
-  by_delete h = simp (ne_eqb k 1 (λ x. omega arith), ne_eqb k 2 (λ x. omega arith), ne_eqb k (3 + F.offset) (λ x. omega arith), eq-eqb k (4 + F.offset) h)
+  pub kind_pos : (k : Kind) → 0 < kind_size F k
+  kind_pos Begin = omega arith
+  kind_pos End = omega arith
+  kind_pos (Edit Insert) = omega arith
+  kind_pos (Edit Delete) = omega arith
+  kind_pos (Edit Replace) = omega arith
 
-  pub by_replace : k ≡ 5 + F.offset → record_by F rs at k ≡ numbers 5 (num_at F.width rs (at + 1)) (first_len F rs at) (second_len F rs at) (size_of F k)
-  unfolding record_by
-  by_replace h =
-      simp (ne_eqb k 1 (λ x. omega arith), ne_eqb k 2 (λ x. omega arith), ne_eqb k (3 + F.offset) (λ x. omega arith), ne_eqb k (4 + F.offset) (λ x. omega arith))
+-- the byte b names the kind k
+pub record Named (F : Format) (b : ℕ) (k : Kind) : Type 0 where
+  pub byte : b ≡ kind_byte F k
+  pub is : kind_by F b ≡ Some k
 
--- its kind, its size and the size of its texts
-module _ (F : Format) (rs : List ℕ) (at k : ℕ) where
-  kind-read : KindIs F k → 0 < (record_by F rs at k).kind
-  kind-read (is-begin e) = rw (by_begin F rs at k e) (omega arith)
-  kind-read (is-end e) = rw (by_end F rs at k e) (omega arith)
-  kind-read (is-insert e) = rw (by_insert F rs at k e) (omega arith)
-  kind-read (is-delete e) = rw (by_delete F rs at k e) (omega arith)
-  kind-read (is-replace e) = rw (by_replace F rs at k e) (omega arith)
+module _ (F : Format) (b : ℕ) where
+  named : (k : Kind) → b ≡ kind_byte F k → Named F b k
+  named k e = record { byte = e; is = ap (kind_by F) e ∙ names F k }
 
-  size-read : KindIs F k → (record_by F rs at k).size ≡ size_of F k
-  size-read (is-begin e) = rw (by_begin F rs at k e)
-  size-read (is-end e) = rw (by_end F rs at k e)
-  size-read (is-insert e) = rw (by_insert F rs at k e)
-  size-read (is-delete e) = rw (by_delete F rs at k e)
-  size-read (is-replace e) = rw (by_replace F rs at k e)
+  -- a byte with a size names one
+  kind-named : KindIs F b → (k : Kind) × Named F b k
+  kind-named (is-begin e) = (Begin, named Begin e)
+  kind-named (is-end e) = (End, named End e)
+  kind-named (is-insert e) = (Edit Insert, named (Edit Insert) e)
+  kind-named (is-delete e) = (Edit Delete, named (Edit Delete) e)
+  kind-named (is-replace e) = (Edit Replace, named (Edit Replace) e)
 
-  texts-read : KindIs F k → (record_by F rs at k).old + (record_by F rs at k).new ≡ texts_at F rs at k
-  texts-read (is-begin e) = rw (by_begin F rs at k e, texts-begin F rs at k e)
-  texts-read (is-end e) = rw (by_end F rs at k e, texts-end F rs at k e)
-  texts-read (is-insert e) = rw (by_insert F rs at k e, texts-insert F rs at k e) (omega arith)
-  texts-read (is-delete e) = rw (by_delete F rs at k e, texts-delete F rs at k e) (omega arith)
-  texts-read (is-replace e) = rw (by_replace F rs at k e, texts-replace F rs at k e)
+  -- and one without a size names none
+  no_kind : size_of F b ≡ 0 → kind_by F b ≡ None
+  unfolding kind_by
+  no_kind z =
+      simp (
+        ne_eqb b 1 (λ e. omega (arith, size-begin F b e)),
+        ne_eqb b 2 (λ e. omega (arith, size-end F b e)),
+        ne_eqb b (3 + F.offset) (λ e. omega (arith, size-insert F b e)),
+        ne_eqb b (4 + F.offset) (λ e. omega (arith, size-delete F b e)),
+        ne_eqb b (5 + F.offset) (λ e. omega (arith, size-replace F b e)),
+      )
 
-  -- a Begin and an End have no texts
-  bare_texts : KindIs F k → (record_by F rs at k).kind ≤ 2 → ((record_by F rs at k).old ≡ 0) × ((record_by F rs at k).new ≡ 0)
-  bare_texts (is-begin e) h = let w = by_begin F rs at k e in (ap (λ (x : Record). x.old) w, ap (λ (x : Record). x.new) w)
-  bare_texts (is-end e) h = let w = by_end F rs at k e in (ap (λ (x : Record). x.old) w, ap (λ (x : Record). x.new) w)
-  bare_texts (is-insert e) h = absurd (omega (arith, ap (λ (x : Record). x.kind) (by_insert F rs at k e)))
-  bare_texts (is-delete e) h = absurd (omega (arith, ap (λ (x : Record). x.kind) (by_delete F rs at k e)))
-  bare_texts (is-replace e) h = absurd (omega (arith, ap (λ (x : Record). x.kind) (by_replace F rs at k e)))
+  pub by_kind : (k : Kind) → Some k ≡ kind_by F b → b ≡ kind_byte F k
+  by_kind k e =
+      by_less (b ≡ kind_byte F k) 0 (size_of F b)
+      (λ h. let (m, n) = kind-named (kind-is F b h) in n.byte ∙ ap (kind_byte F) (same_Some m k (sym n.is ∙ sym e)))
+      (λ h. absurd (none-some k (sym (no_kind (omega arith)) ∙ sym e)))
+
+  -- its size
+  pub size_by_kind : (k : Kind) (n : ℕ) → Some k ≡ kind_by F b → n ≡ kind_size F k → n ≡ size_of F b
+  size_by_kind k n e f = f ∙ sym (ap (size_of F) (by_kind k e) ∙ kind_len F k)
+
+-- the size of its texts
+texts-read : (F : Format) (rs : List ℕ) (at : ℕ) (k : Kind) → (record_by F rs at k).old + (record_by F rs at k).new ≡ texts_at F rs at (kind_byte F k)
+texts-read F rs at Begin = sym (texts-begin F rs at 1 refl)
+texts-read F rs at End = sym (texts-end F rs at 2 refl)
+texts-read F rs at (Edit Insert) = omega (arith, texts-insert F rs at (3 + F.offset) refl)
+texts-read F rs at (Edit Delete) = omega (arith, texts-delete F rs at (4 + F.offset) refl)
+texts-read F rs at (Edit Replace) = sym (texts-replace F rs at (5 + F.offset) refl)
+
+kind-read : (F : Format) (rs : List ℕ) (at : ℕ) (k : Kind) → (record_by F rs at k).kind ≡ k
+kind-read F rs at Begin = refl
+kind-read F rs at End = refl
+kind-read F rs at (Edit Insert) = refl
+kind-read F rs at (Edit Delete) = refl
+kind-read F rs at (Edit Replace) = refl
+
+names_change : (F : Format) (c : Change) → kind_by F (kind_of F c) ≡ Some (numbers_of F c).kind
+names_change F begin = names F Begin
+names_change F end = names F End
+names_change F (edit (insert p s)) = names F (Edit Insert)
+names_change F (edit (delete p s)) = names F (Edit Delete)
+names_change F (edit (replace p o n)) = names F (Edit Replace)
+
+size-read : (F : Format) (rs : List ℕ) (at : ℕ) (k : Kind) → (record_by F rs at k).size ≡ kind_size F k
+size-read F rs at Begin = refl
+size-read F rs at End = refl
+size-read F rs at (Edit Insert) = refl
+size-read F rs at (Edit Delete) = refl
+size-read F rs at (Edit Replace) = refl
 
 -- ---- whether a whole record stands at the place
+-- a whole record of the kind k
+pub record Stands (F : Format) (rs : List ℕ) (at : ℕ) (k : Kind) : Type 0 where
+  pub byte : get_or rs at 0 ≡ kind_byte F k
+  pub room : at + kind_size F k ≤ length rs
+
 module _ (F : Format) (rs : List ℕ) (at : ℕ) where
-  pub is_whole : IsWhole F rs at → record_at F rs at ≡ record_by F rs at (get_or rs at 0)
+  -- it is read
+  pub read_as : (k : Kind) → Stands F rs at k → record_at F rs at ≡ Some (record_by F rs at k)
   unfolding record_at
-  is_whole h = rw (lt-ltb 0 (size_of F (get_or rs at 0)) h.0, le-leb (at + size_of F (get_or rs at 0)) (length rs) h.1)
+  read_as k s = ap (record_if F rs at) (ap (kind_by F) s.byte ∙ names F k) ∙ rw (le-leb (at + kind_size F k) (length rs) s.room)
 
-  not-whole : (IsWhole F rs at → ⊥) → no_record ≡ record_at F rs at
+  -- a whole record has a kind
+  pub stands : IsWhole F rs at → (k : Kind) × Stands F rs at k
+  stands w =
+      let (k, n) = kind-named F (get_or rs at 0) (kind-is F (get_or rs at 0) w.0) in
+      (k, record { byte = n.byte; room = omega (arith, w.1, ap (size_of F) n.byte, kind_len F k) })
+
+  -- and its byte names that
+  pub some_kind : IsWhole F rs at → None ≡ kind_by F (get_or rs at 0) → ⊥
+  some_kind w e = let (k, s) = stands w in none-some k (e ∙ ap (kind_by F) s.byte ∙ names F k)
+
+  whole : (k : Kind) → Stands F rs at k → IsWhole F rs at
+  whole k s =
+      let e = ap (size_of F) s.byte ∙ kind_len F k in
+      (omega (arith, e, kind_pos F k), omega (arith, e, s.room))
+
+  -- no kind, or no room for the record
+  pub no_kind_at : None ≡ kind_by F (get_or rs at 0) → None ≡ record_at F rs at
   unfolding record_at
-  not-whole h = go (ltb 0 (size_of F (get_or rs at 0))) refl (leb (at + size_of F (get_or rs at 0)) (length rs)) refl
-    where
-      go : (a : Bool) → ltb 0 (size_of F (get_or rs at 0)) ≡ a → (b : Bool) → leb (at + size_of F (get_or rs at 0)) (length rs) ≡ b
-          → no_record ≡ cond (a && b) (record_by F rs at (get_or rs at 0)) no_record
-      go true e true f = absurd (h (ltb-true 0 (size_of F (get_or rs at 0)) e, leb-true (at + size_of F (get_or rs at 0)) (length rs) f))
-      go true e false f = refl
-      go false e b f = refl
+  no_kind_at e = ap (record_if F rs at) e
 
-  whole_or : (P : Type 0) → (IsWhole F rs at → P) → ((IsWhole F rs at → ⊥) → P) → P
-  whole_or P f g =
-      by_less P 0 (size_of F (get_or rs at 0))
-      (λ x. by_less P (length rs) (at + size_of F (get_or rs at 0)) (λ y. g (λ h. omega (arith, h.1))) (λ y. f (x, y)))
-      (λ x. g (λ h. omega (arith, h.0)))
+  pub no_room : (k : Kind) → Some k ≡ kind_by F (get_or rs at 0) → length rs < at + kind_size F k → None ≡ record_at F rs at
+  unfolding record_at
+  no_room k e h = sym (rw (lt-leb (at + kind_size F k) (length rs) h)) ∙ ap (record_if F rs at) e
 
-  -- where one does, r has its kind, its size and the size of its texts
-  module _ (r : Record) (e : r ≡ record_at F rs at) where
-    pub some_kind : IsWhole F rs at → 0 < r.kind
-    some_kind h = rw (e ∙ is_whole h) (kind-read F rs at (get_or rs at 0) (kind-is F (get_or rs at 0) h.0))
+  pub no_byte : length rs ≤ at → None ≡ record_at F rs at
+  no_byte h =
+      no_kind_at (sym (no_kind F (get_or rs at 0) (ap (size_of F) (get_or_past rs at 0 h)
+      ∙ size_none F 0 (λ e. omega arith) (λ e. omega arith) (λ e. omega arith) (λ e. omega arith) (λ e. omega arith))))
 
-    pub size_is : IsWhole F rs at → r.size ≡ size_of F (get_or rs at 0)
-    size_is h = ap (λ (x : Record). x.size) (e ∙ is_whole h) ∙ size-read F rs at (get_or rs at 0) (kind-is F (get_or rs at 0) h.0)
+  -- as the code finds it: by the kind k that the byte names, whose size is n
+  pub stands-at : (k : Kind) (n : ℕ) → Some k ≡ kind_by F (get_or rs at 0) → n ≡ kind_size F k → n ≤ length rs - at → Stands F rs at k
+  stands-at k n e f h = record { byte = by_kind F (get_or rs at 0) k e; room = omega (arith, kind_pos F k) }
 
-    pub texts-size-is : IsWhole F rs at → r.old + r.new ≡ texts_at F rs at (get_or rs at 0)
-    texts-size-is h = ap (λ (x : Record). x.old + x.new) (e ∙ is_whole h) ∙ texts-read F rs at (get_or rs at 0) (kind-is F (get_or rs at 0) h.0)
+  module _ (k : Kind) (s : Stands F rs at k) where
+    read_with : (r : Record) → r ≡ record_by F rs at k → Some r ≡ record_at F rs at
+    read_with r e = ap Some e ∙ sym (read_as k s)
 
-    pub no_texts_of : IsWhole F rs at → r.kind ≤ 2 → (r.old ≡ 0) × (r.new ≡ 0)
-    no_texts_of h b =
-        let f = e ∙ is_whole h in
-        let t = bare_texts F rs at (get_or rs at 0) (kind-is F (get_or rs at 0) h.0) (omega (arith, ap (λ (x : Record). x.kind) f)) in
-        (ap (λ (x : Record). x.old) f ∙ t.0, ap (λ (x : Record). x.new) f ∙ t.1)
+    pub bare_read : (n : ℕ) → n ≡ kind_size F k → ((x : EditKind) → k ≡ Edit x → ⊥) → Some (numbers k 0 0 0 n) ≡ record_at F rs at
+    bare_read n f h = read_with (numbers k 0 0 0 n) (bare k n f h)
+      where
+        bare : (j : Kind) (m : ℕ) → m ≡ kind_size F j → ((x : EditKind) → j ≡ Edit x → ⊥) → numbers j 0 0 0 m ≡ record_by F rs at j
+        bare Begin m f h = rw f
+        bare End m f h = rw f
+        bare (Edit x) m f h = absurd (h x refl)
 
-    -- it has a kind only there
-    pub whole_by : (r.kind ≡ 0 → ⊥) → IsWhole F rs at
-    whole_by h = whole_or (IsWhole F rs at) (λ w. w) (λ w. absurd (h (ap (λ (x : Record). x.kind) (e ∙ sym (not-whole w)))))
+    module _ (x : EditKind) (e : k ≡ Edit x) (p m n : ℕ) (f : p ≡ num_at F.width rs (at + 1)) (g : m ≡ first_len F rs at) (h : n ≡ kind_size F k) where
+      pub insert-read : x ≡ Insert → Some (numbers (Edit x) p 0 m n) ≡ record_at F rs at
+      insert-read z = read_with (numbers (Edit x) p 0 m n) (rw (h, f, g, e, z))
 
--- ---- as the code tests the byte of kind k, whose size is n
--- no whole record
-module _ (F : Format) (rs : List ℕ) (at : ℕ) where
-  pub no_byte : length rs ≤ at → no_record ≡ record_at F rs at
-  no_byte h = not-whole F rs at (λ w. omega (arith, w.0, w.1))
+      pub delete-read : x ≡ Delete → Some (numbers (Edit x) p m 0 n) ≡ record_at F rs at
+      delete-read z = read_with (numbers (Edit x) p m 0 n) (rw (h, f, g, e, z))
 
-  module _ (k n : ℕ) (e : k ≡ get_or rs at 0) (f : n ≡ size_of F k) where
-    pub no_kind : n ≡ 0 → no_record ≡ record_at F rs at
-    no_kind z = not-whole F rs at (λ w. omega (arith, w.0, ap (size_of F) e))
+      pub replace-read : (o : ℕ) → o ≡ second_len F rs at → x ≡ Replace → Some (numbers (Edit x) p m o n) ≡ record_at F rs at
+      replace-read o i z = read_with (numbers (Edit x) p m o n) (rw (h, f, g, i, e, z))
 
-    pub no_body : length rs - at < n → no_record ≡ record_at F rs at
-    no_body z = not-whole F rs at (λ w. omega (arith, w.1, ap (size_of F) e))
+  -- r is read there
+  module _ (r : Record) (e : Some r ≡ record_at F rs at) where
+    pub read : (k : Kind) × (Stands F rs at k × (r ≡ record_by F rs at k))
+    read = go (kind_by F (get_or rs at 0)) refl
+      where
+        go : (o : Option Kind) → o ≡ kind_by F (get_or rs at 0) → (k : Kind) × (Stands F rs at k × (r ≡ record_by F rs at k))
+        go None f = absurd (none-some r (no_kind_at f ∙ sym e))
+        go (Some k) f =
+            by_less ((j : Kind) × (Stands F rs at j × (r ≡ record_by F rs at j))) (length rs) (at + kind_size F k)
+            (λ h. absurd (none-some r (no_room k f h ∙ sym e)))
+            (λ h. let s : Stands F rs at k = record { byte = by_kind F (get_or rs at 0) k f; room = h } in (k, (s, same_Some r (record_by F rs at k) (e ∙ read_as k s))))
 
-pub none_read : (F : Format) (rs : List ℕ) (at : ℕ) (r : Record) → r ≡ no_record → no_record ≡ record_at F rs at → Read F rs at r
-none_read F rs at r e f =
-    record {
-      same = e ∙ f;
-      kind = omega (arith, ap (λ (x : Record). x.kind) e);
-      size = omega (arith, ap (λ (x : Record). x.size) e);
-      place = omega (arith, ap (λ (x : Record). x.place) e);
-      old = omega (arith, ap (λ (x : Record). x.old) e);
-      new = omega (arith, ap (λ (x : Record). x.new) e);
-    }
+    -- a whole record stands there, and r has its size and the size of its texts
+    pub whole_by : IsWhole F rs at
+    whole_by = let (k, q) = read in whole k q.0
 
--- a whole record
-pub record Sized (F : Format) (rs : List ℕ) (at k n : ℕ) : Type 0 where
-  pub kind : k ≡ get_or rs at 0
-  pub size : n ≡ size_of F (get_or rs at 0)
-  pub whole : IsWhole F rs at
+    pub size_is : r.size ≡ size_of F (get_or rs at 0)
+    size_is =
+        let (k, q) = read in
+        ap (λ (x : Record). x.size) q.1 ∙ size-read F rs at k ∙ sym (ap (size_of F) q.0.byte ∙ kind_len F k)
 
-pub sized : (F : Format) (rs : List ℕ) (at k n : ℕ) → k ≡ get_or rs at 0 → n ≡ size_of F k → (n ≡ 0 → ⊥) → n ≤ length rs - at → Sized F rs at k n
-sized F rs at k n e f g h =
-    let s = f ∙ ap (size_of F) e in
-    record { kind = e; size = s; whole = (omega (arith, s), omega (arith, s)) }
+    pub texts-size-is : r.old + r.new ≡ texts_at F rs at (get_or rs at 0)
+    texts-size-is =
+        let (k, q) = read in
+        ap (λ (x : Record). x.old + x.new) q.1 ∙ texts-read F rs at k ∙ sym (ap (texts_at F rs at) q.0.byte)
 
--- Begin and End
-pub bare_read : (F : Format) (rs : List ℕ) (at k : ℕ) → k ≡ get_or rs at 0 → (eqb k 1 || eqb k 2) ≡ true → at < length rs → numbers k 0 0 0 1 ≡ record_at F rs at
-bare_read F rs at k e g h =
-    by_test (numbers k 0 0 0 1 ≡ record_at F rs at) (eqb k 1)
-    (λ y. let z : get_or rs at 0 ≡ 1 = sym e ∙ eqb-true k 1 y in
-    let w = size-begin F (get_or rs at 0) z in
-    ap₂ (λ (i j : ℕ). numbers i 0 0 0 j) (eqb-true k 1 y) (sym w) ∙ sym (is_whole F rs at (omega (arith, w), omega (arith, w)) ∙ by_begin F rs at (get_or rs at 0) z))
-    (λ n. let y : eqb k 2 ≡ true = rw n at g in
-    let z : get_or rs at 0 ≡ 2 = sym e ∙ eqb-true k 2 y in
-    let w = size-end F (get_or rs at 0) z in
-    ap₂ (λ (i j : ℕ). numbers i 0 0 0 j) (eqb-true k 2 y) (sym w) ∙ sym (is_whole F rs at (omega (arith, w), omega (arith, w)) ∙ by_end F rs at (get_or rs at 0) z))
-
-pub bare_kind : (k : ℕ) → (eqb k 1 || eqb k 2) ≡ true → k ≤ 5
-bare_kind k g =
-    by_test (k ≤ 5) (eqb k 1)
-    (λ y. omega (arith, eqb-true k 1 y))
-    (λ n. let z : k ≡ 2 = eqb-true k 2 (rw n at g) in omega arith)
-
--- neither of them
-edit-kind : (F : Format) (k : ℕ) → (eqb k 1 || eqb k 2) ≡ false → KindIs F k → 2 < k
-edit-kind F k g (is-begin z) = absurd (eqb-false k 1 (or_none (eqb k 1) (eqb k 2) g).0 z)
-edit-kind F k g (is-end z) = absurd (eqb-false k 2 (or_none (eqb k 1) (eqb k 2) g).1 z)
-edit-kind F k g (is-insert z) = omega arith
-edit-kind F k g (is-delete z) = omega arith
-edit-kind F k g (is-replace z) = omega arith
-
-module _ (F : Format) (rs : List ℕ) (at k n : ℕ) (s : Sized F rs at k n) where
-  known : KindIs F (get_or rs at 0)
-  known = kind-is F (get_or rs at 0) s.whole.0
-
-  -- two numbers at least
-  pub two-fit : (eqb k 1 || eqb k 2) ≡ false → at + 1 + F.width + F.width ≤ length rs
-  two-fit g =
-      let h = edit-kind F (get_or rs at 0) (rw s.kind at g) known in
-      by_less (at + 1 + F.width + F.width ≤ length rs) (4 + F.offset) (get_or rs at 0)
-      (λ x. omega (arith, s.whole.1, size_high F (get_or rs at 0) known x))
-      (λ x. omega (arith, s.whole.1, size_mid F (get_or rs at 0) known h x))
-
-  -- Insert, Delete
-  pub insert-read : (p m : ℕ) → k ≡ 3 + F.offset → p ≡ num_at F.width rs (at + 1) → m ≡ first_len F rs at → numbers 3 p 0 m n ≡ record_at F rs at
-  insert-read p m z f g = rw (f, g, s.size) (sym (is_whole F rs at s.whole ∙ by_insert F rs at (get_or rs at 0) (sym s.kind ∙ z)))
-
-  pub delete-read : (p m : ℕ) → k ≡ 4 + F.offset → p ≡ num_at F.width rs (at + 1) → m ≡ first_len F rs at → numbers 4 p m 0 n ≡ record_at F rs at
-  delete-read p m z f g = rw (f, g, s.size) (sym (is_whole F rs at s.whole ∙ by_delete F rs at (get_or rs at 0) (sym s.kind ∙ z)))
-
-  -- Replace: no other kind is left
-  module _ (g : (eqb k 1 || eqb k 2) ≡ false) (a : k ≡ 3 + F.offset → ⊥) (b : k ≡ 4 + F.offset → ⊥) where
-    third : get_or rs at 0 ≡ 5 + F.offset
-    third =
-        let e = s.kind in
-        is_replacement F (get_or rs at 0) known (edit-kind F (get_or rs at 0) (rw e at g) known) (λ z. a (e ∙ z)) (λ z. b (e ∙ z))
-
-    pub three-fit : at + 1 + F.width + F.width + F.width ≤ length rs
-    three-fit = omega (arith, s.whole.1, size-replace F (get_or rs at 0) third)
-
-    pub replace-read : (p m o : ℕ) → p ≡ num_at F.width rs (at + 1) → m ≡ first_len F rs at → o ≡ second_len F rs at → numbers 5 p m o n ≡ record_at F rs at
-    replace-read p m o f g i = rw (f, g, i, s.size) (sym (is_whole F rs at s.whole ∙ by_replace F rs at (get_or rs at 0) third))
+    -- its kind is that of the change that stands there
+    pub kind_at : (c : Change) → get_or rs at 0 ≡ kind_of F c → r.kind ≡ (numbers_of F c).kind
+    kind_at c f =
+        let (k, q) = read in
+        ap (λ (x : Record). x.kind) q.1 ∙ kind-read F rs at k ∙ same_Some k (numbers_of F c).kind (sym (ap (kind_by F) q.0.byte ∙ names F k) ∙ ap (kind_by F) f ∙ names_change F c)
 
 -- ---- the change c stands there
 module _ (F : Format) (rs : List ℕ) (at : ℕ) (w : IsWhole F rs at) where
-  -- its kind
-  pub kind_at : (c : Change) → get_or rs at 0 ≡ kind_of F c → (record_at F rs at).kind ≡ (numbers_of F c).kind
-  kind_at begin e = ap (λ (x : Record). x.kind) (is_whole F rs at w ∙ by_begin F rs at (get_or rs at 0) e)
-  kind_at end e = ap (λ (x : Record). x.kind) (is_whole F rs at w ∙ by_end F rs at (get_or rs at 0) e)
-  kind_at (edit (insert p s)) e = ap (λ (x : Record). x.kind) (is_whole F rs at w ∙ by_insert F rs at (get_or rs at 0) e)
-  kind_at (edit (delete p s)) e = ap (λ (x : Record). x.kind) (is_whole F rs at w ∙ by_delete F rs at (get_or rs at 0) e)
-  kind_at (edit (replace p o n)) e = ap (λ (x : Record). x.kind) (is_whole F rs at w ∙ by_replace F rs at (get_or rs at 0) e)
+  module _ (k : Kind) (e : get_or rs at 0 ≡ kind_byte F k) where
+    stands-as : Stands F rs at k
+    stands-as = record { byte = e; room = omega (arith, w.1, ap (size_of F) e, kind_len F k) }
 
-  -- all its numbers
+    sized-as : (n : ℕ) → size_of F (get_or rs at 0) ≡ n → kind_size F k ≡ n
+    sized-as n f = sym (ap (size_of F) e ∙ kind_len F k) ∙ f
+
+  -- its numbers
   module _ (ts : List ℕ) (t : ℕ) where
-    pub record_is : (c : Change) → Reads F c rs ts at t → record_at F rs at ≡ numbers_of F c
-    record_is begin q = is_whole F rs at w ∙ by_begin F rs at (get_or rs at 0) q.kind ∙ ap (numbers 1 0 0 0) q.size
-    record_is end q = is_whole F rs at w ∙ by_end F rs at (get_or rs at 0) q.kind ∙ ap (numbers 2 0 0 0) q.size
+    pub record_is : (c : Change) → Reads F c rs ts at t → record_at F rs at ≡ Some (numbers_of F c)
+    record_is begin q = read_as F rs at Begin (stands-as Begin q.kind)
+    record_is end q = read_as F rs at End (stands-as End q.kind)
     record_is (edit (insert p s)) q =
         let e = ap (λ (x : Change). (numbers_of F x).place) (sym (change_insert F rs ts at t (get_or rs at 0) q.kind) ∙ q.change) in
         let f = sym (texts-insert F rs at (get_or rs at 0) q.kind) ∙ q.texts in
-        is_whole F rs at w ∙ by_insert F rs at (get_or rs at 0) q.kind ∙ rw (e, f, q.size)
+        read_as F rs at (Edit Insert) (stands-as (Edit Insert) q.kind) ∙ rw (e, f, sized-as (Edit Insert) q.kind _ q.size)
     record_is (edit (delete p s)) q =
         let e = ap (λ (x : Change). (numbers_of F x).place) (sym (change_delete F rs ts at t (get_or rs at 0) q.kind) ∙ q.change) in
         let f = sym (texts-delete F rs at (get_or rs at 0) q.kind) ∙ q.texts in
-        is_whole F rs at w ∙ by_delete F rs at (get_or rs at 0) q.kind ∙ rw (e, f, q.size)
+        read_as F rs at (Edit Delete) (stands-as (Edit Delete) q.kind) ∙ rw (e, f, sized-as (Edit Delete) q.kind _ q.size)
     record_is (edit (replace p o n)) q =
         let g = sym (change_replace F rs ts at t (get_or rs at 0) q.kind) ∙ q.change in
         let e = ap (λ (x : Change). (numbers_of F x).place) g in
@@ -245,11 +270,11 @@ module _ (F : Format) (rs : List ℕ) (at : ℕ) (w : IsWhole F rs at) where
         let j = sym (texts-replace F rs at (get_or rs at 0) q.kind) ∙ q.texts ∙ length-append o n in
         let x : first_len F rs at ≡ length o = omega arith in
         let y : second_len F rs at ≡ length n = omega arith in
-        is_whole F rs at w ∙ by_replace F rs at (get_or rs at 0) q.kind ∙ rw (e, x, y, q.size)
+        read_as F rs at (Edit Replace) (stands-as (Edit Replace) q.kind) ∙ rw (e, x, y, sized-as (Edit Replace) q.kind _ q.size)
 
 -- in a list laid out in the bytes: behind the records of the changes us
 module _ (R : Repertoire) (F : Format) (rs ts : List ℕ) where
-  pub record_behind : (us vs : List Change) (c : Change) (at : ℕ) → Layout R F rs ts (us ++ (c ∷ vs)) → at ≡ length (encode_records F us) → record_at F rs at ≡ numbers_of F c
+  pub record_behind : (us vs : List Change) (c : Change) (at : ℕ) → Layout R F rs ts (us ++ (c ∷ vs)) → at ≡ length (encode_records F us) → record_at F rs at ≡ Some (numbers_of F c)
   record_behind us vs c at l e =
       let t = length (encode_texts us) in
       let w = whole-at R F rs ts us vs c at t l e refl in
@@ -257,7 +282,7 @@ module _ (R : Repertoire) (F : Format) (rs ts : List ℕ) where
 
   -- in the list newest first: behind the records of the changes v
   pub record_back : (us ws v : List Change) (c : Change) (at : ℕ) → Layout R F rs ts us → reverse us ≡ ws ++ (c ∷ v) → at ≡ length (undo_records F v)
-      → record_at F rs at ≡ numbers_of F c
+      → record_at F rs at ≡ Some (numbers_of F c)
   unfolding undo_records
   record_back us ws v c at l e f =
       let g : us ≡ reverse v ++ (c ∷ reverse ws) = sym (reverse-reverse us) ∙ ap reverse e ∙ reverse-append ws (c ∷ v)
@@ -265,7 +290,7 @@ module _ (R : Repertoire) (F : Format) (rs ts : List ℕ) where
       record_behind (reverse v) (reverse ws) c at (subst (Layout R F rs ts) g l) f
 
   -- number i of the changes
-  pub record_here : (cs : List Change) (i at t : ℕ) → Here R F rs ts cs i at t → record_at F rs at ≡ numbers_of F (get_or cs i begin)
+  pub record_here : (cs : List Change) (i at t : ℕ) → Here R F rs ts cs i at t → record_at F rs at ≡ Some (numbers_of F (get_or cs i begin))
   record_here cs i at t h = record_is F rs at (h.all.kind, h.all.body) ts t (get_or cs i begin) h.reads
 
 -- the lengths in a record are those of its texts, and its size is that of its bytes

@@ -2,13 +2,13 @@
 use Prim.Native.Nat.{ℕ, ◌+◌, ◌≤◌, ◌<◌}
 use native.Mathlib.Omega.{arith}
 use mathlib.Core.Path.{◌≡◌, refl, sym, ap, ap₂, ◌∙◌}
-use mathlib.Core.Bool.{false, cond}
+use mathlib.Core.Bool.{false}
 use mathlib.Core.List.{List, [], ◌∷◌, ◌++◌, reverse}
-use lib.Dec.{eqb}
 use lib.ListN.{length, get_or, take, drop, length-append}
 use lib.Seq.{take_all, length-take-le}
-use borrow.Author.Tests.{eq-eqb, ne_eqb}
-use Rattle.lists.proofs.Bools.{by_test}
+use Rattle.std.specs.Prelude.{Some, None}
+use Rattle.std.proofs.lemmas.Option.{none-some}
+use Rattle.lists.proofs.Bools.{by_less}
 use Rattle.repertoire.specs.Repertoire.{Repertoire}
 use Rattle.log_model.specs.Change.{Change, begin, end, edit, insert, delete, replace}
 use Rattle.formats.specs.declared.Format.{Format}
@@ -22,10 +22,12 @@ use Rattle.log_model.proofs.Newest.{reverse_snoc, undo-reverse, undo_nil, passed
 use Rattle.log_model.proofs.Walk.{past, before-end, Upto, Next, Come, come_start, come_next, come_whole}
 use Rattle.log_records.specs.declared.Span.{Span}
 use Rattle.log_records.specs.declared.Newest.{Newest}
+use Rattle.log_records.specs.declared.Kind.{Kind}
+use Rattle.log_records.specs.declared.Kind.TheVariants.{Begin, End, Edit}
 use Rattle.log_records.specs.declared.Record.{Record}
-use Rattle.log_records.specs.Records.{numbers_of, IsWhole, record_at}
+use Rattle.log_records.specs.Records.{numbers_of, record_by, record_at}
 use Rattle.log_records.specs.Walks.{first_of, newest_of, passing, Walks, LastAt, NewestAt}
-use Rattle.log_records.proofs.Records.{size_is, texts-size-is, kind_at}
+use Rattle.log_records.proofs.Records.{whole_by, size_is, texts-size-is, kind_at, stands, read_as}
 
 -- ---- what a walk keeps of the changes us
 -- their number, and the size of their texts
@@ -45,6 +47,9 @@ module _ (F : Format) where
 abbrev pub newest : ℕ → ℕ → ℕ → ℕ → ℕ → Newest
 newest c l b o s = record { count = c; last = l; begins = b; begun = o; inside = s }
 
+pub newest-same : (c l b o s c' l' b' o' s' : ℕ) → c ≡ c' → l ≡ l' → b ≡ b' → o ≡ o' → s ≡ s' → newest c l b o s ≡ newest c' l' b' o' s'
+newest-same c l b o s c' l' b' o' s' e f g h i = rw (e, f, g, h, i)
+
 newest_nil : (F : Format) → newest 0 0 0 0 0 ≡ newest_of F []
 newest_nil F = sym (rw (passed_nil is_begin, passed_nil is_end, undo_nil F))
 
@@ -62,29 +67,14 @@ module _ (R : Repertoire) (F : Format) (rs : List ℕ) where
   pub newest_last : (n : Newest) → NewestAt R F rs n → LastAt R F rs n.last
   newest_last n h ts us l = ap (λ (x : Newest). x.last) (h ts us l)
 
--- ---- a record more, by its kind k
-module _ (k at next : ℕ) (n : Newest) where
-  pub pass_begin : k ≡ 1 → newest (n.count + 1) at (n.begins + 1) n.begun at ≡ passing k at next n
-  unfolding passing
-  pass_begin e = simp (eq-eqb k 1 e, ne_eqb k 2 (λ x. omega arith))
-
-  pub pass_end : (k ≡ 1 → ⊥) → k ≡ 2 → newest (n.count + 1) at 0 next n.inside ≡ passing k at next n
-  unfolding passing
-  pass_end f e = simp (ne_eqb k 1 f, eq-eqb k 2 e)
-
-  pub pass_edit : (k ≡ 1 → ⊥) → (k ≡ 2 → ⊥) → newest (n.count + 1) at 0 next at ≡ passing k at next n
-  unfolding passing
-  pass_edit f g = simp (ne_eqb k 1 f, ne_eqb k 2 g)
-
-  -- no more Begins than records
-  pub pass_count : n.begins ≤ n.count → ((passing k at next n).count ≡ n.count + 1) × ((passing k at next n).begins ≤ n.count + 1)
-  unfolding passing
-  pass_count h = (refl, by_test (cond (eqb k 1) (n.begins + 1) 0 ≤ n.count + 1) (eqb k 1) (λ e. rw e (omega arith)) (λ e. rw e (omega arith)))
+-- ---- a record more: no more Begins than records
+pub pass_count : (k : Kind) (at next : ℕ) (n : Newest) → n.begins ≤ n.count
+    → ((passing k at next n).count ≡ n.count + 1) × ((passing k at next n).begins ≤ n.count + 1)
+pass_count Begin at next n h = (refl, omega arith)
+pass_count End at next n h = (refl, omega arith)
+pass_count (Edit k) at next n h = (refl, omega arith)
 
 -- ---- what stands at the end, with one change more
-newest-same : (c l b o s c' l' b' o' s' : ℕ) → c ≡ c' → l ≡ l' → b ≡ b' → o ≡ o' → s ≡ s' → newest c l b o s ≡ newest c' l' b' o' s'
-newest-same c l b o s c' l' b' o' s' e f g h i = rw (e, f, g, h, i)
-
 module _ (F : Format) (u : List Change) (at next : ℕ) (p : at ≡ length (undo_records F u)) where
   -- where the records of a list end, and where its newest begins
   abbrev end_of : List Change → ℕ
@@ -101,7 +91,6 @@ module _ (F : Format) (u : List Change) (at next : ℕ) (p : at ≡ length (undo
       newest-same _ _ _ _ _ _ _ _ _ _ (omega arith) p (omega (arith, ap length a)) (q ∙ sym (ap end_of a)) (p ∙ sym (ap last_of b))
 
   newest_more : (c : Change) → next ≡ end_of (c ∷ u) → passing (numbers_of F c).kind at next (newest_of F u) ≡ newest_of F (c ∷ u)
-  unfolding passing
   newest_more begin q =
       let a = passed_over is_begin begin u refl in
       let b = passed_up_to is_end begin u refl in
@@ -125,36 +114,43 @@ module _ (F : Format) (rs : List ℕ) (at : ℕ) (us : List Change) (c : Change)
   last_more : LastOf F at (us ++ (c ∷ []))
   last_more = x.place ∙ sym (rw (reverse_snoc us c, undo-reverse F us))
 
-  newest-next : (next : ℕ) (n m : Newest) (k : ℕ) → next ≡ at + size_of F (get_or rs at 0) → k ≡ (numbers_of F c).kind → m ≡ passing k at next n
+  newest-next : (next : ℕ) (n m : Newest) (k : Kind) → next ≡ at + size_of F (get_or rs at 0) → k ≡ (numbers_of F c).kind → m ≡ passing k at next n
       → NewestOf F n us → NewestOf F m (us ++ (c ∷ []))
   newest-next next n m k e f g h =
       let p : at ≡ length (undo_records F (reverse us)) = x.place ∙ sym (ap length (undo-reverse F us)) in
       let q : next ≡ length (undo_records F (c ∷ reverse us)) = e ∙ x.behind ∙ sym (ap length (undo-reverse F (us ++ (c ∷ []))))
       ∙ ap (λ (v : List Change). length (undo_records F v)) (reverse_snoc us c) in
-      g ∙ ap₂ (λ (i : ℕ) (v : Newest). passing i at next v) f h ∙ newest_more F (reverse us) at next p c q ∙ sym (ap (newest_of F) (reverse_snoc us c))
+      g ∙ ap₂ (λ (i : Kind) (v : Newest). passing i at next v) f h ∙ newest_more F (reverse us) at next p c q ∙ sym (ap (newest_of F) (reverse_snoc us c))
 
 -- ---- the record r is passed
-module _ (R : Repertoire) (F : Format) (rs : List ℕ) (at : ℕ) (r : Record) (h : at < length rs) (e : r ≡ record_at F rs at) where
-  -- a whole record stands where a walk over a list has come to
-  pub passes : (P : List Change → Type 0) → Listed R F rs → Come R F rs at P → (0 < r.size) × (at + r.size ≤ length rs)
-  passes P l w =
-      let q = come_whole R F rs at P l h w in
-      (omega (arith, size_is F rs at r e q, q.0), omega (arith, size_is F rs at r e q, q.1))
+module _ (R : Repertoire) (F : Format) (rs : List ℕ) (at : ℕ) (r : Record) (e : Some r ≡ record_at F rs at) where
+  -- a whole record stands there
+  pub passes : (at < length rs) × (0 < r.size) × (at + r.size ≤ length rs)
+  passes =
+      let q = whole_by F rs at r e in
+      let z = size_is F rs at r e in
+      (omega (arith, q.0, q.1), omega (arith, z, q.0), omega (arith, z, q.1))
 
-  module _ (q : IsWhole F rs at) where
-    pub counts_on : (i t : ℕ) → Come R F rs at (CountOf i t) → Come R F rs (at + r.size) (CountOf (i + 1) (t + (r.old + r.new)))
-    counts_on i t =
-        come_next R F rs at r.size (CountOf i t) (CountOf (i + 1) (t + (r.old + r.new))) h (size_is F rs at r e q)
-        (λ us c x. count_more F rs at us c x i t (r.old + r.new) (texts-size-is F rs at r e q))
+  pub counts_on : (i t : ℕ) → Come R F rs at (CountOf i t) → Come R F rs (at + r.size) (CountOf (i + 1) (t + (r.old + r.new)))
+  counts_on i t =
+      come_next R F rs at r.size (CountOf i t) (CountOf (i + 1) (t + (r.old + r.new))) passes.0 (size_is F rs at r e)
+      (λ us c x. count_more F rs at us c x i t (r.old + r.new) (texts-size-is F rs at r e))
 
-    pub last_on : (last : ℕ) → Come R F rs at (LastOf F last) → Come R F rs (at + r.size) (LastOf F at)
-    last_on last = come_next R F rs at r.size (LastOf F last) (LastOf F at) h (size_is F rs at r e q) (λ us c x y. last_more F rs at us c x)
+  pub last_on : (last : ℕ) → Come R F rs at (LastOf F last) → Come R F rs (at + r.size) (LastOf F at)
+  last_on last = come_next R F rs at r.size (LastOf F last) (LastOf F at) passes.0 (size_is F rs at r e) (λ us c x y. last_more F rs at us c x)
 
-    pub newest_on : (n m : Newest) → m ≡ passing r.kind at (at + r.size) n → Come R F rs at (NewestOf F n) → Come R F rs (at + r.size) (NewestOf F m)
-    newest_on n m g =
-        come_next R F rs at r.size (NewestOf F n) (NewestOf F m) h (size_is F rs at r e q)
-        (λ us c x. newest-next F rs at us c x (at + r.size) n m r.kind (ap (λ (i : ℕ). at + i) (size_is F rs at r e q))
-        (ap (λ (y : Record). y.kind) e ∙ kind_at F rs at q c x.kind) g)
+  pub newest_on : (n m : Newest) → m ≡ passing r.kind at (at + r.size) n → Come R F rs at (NewestOf F n) → Come R F rs (at + r.size) (NewestOf F m)
+  newest_on n m g =
+      come_next R F rs at r.size (NewestOf F n) (NewestOf F m) passes.0 (size_is F rs at r e)
+      (λ us c x. newest-next F rs at us c x (at + r.size) n m r.kind (ap (λ (i : ℕ). at + i) (size_is F rs at r e)) (kind_at F rs at r e c x.kind) g)
+
+-- a walk over a list ends where no whole record stands
+pub past_all : (R : Repertoire) (F : Format) (rs : List ℕ) (at : ℕ) (P : List Change → Type 0) → Listed R F rs → Come R F rs at P → None ≡ record_at F rs at
+    → length rs ≤ at
+past_all R F rs at P l w e =
+    by_less (length rs ≤ at) at (length rs)
+    (λ h. let q = stands F rs at (come_whole R F rs at P l h w) in absurd (none-some (record_by F rs at q.0) (e ∙ read_as F rs at q.0 q.1)))
+    (λ h. h)
 
 -- ---- the first n changes
 module _ (R : Repertoire) (F : Format) (rs : List ℕ) (n i at t : ℕ) where

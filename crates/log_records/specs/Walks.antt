@@ -1,11 +1,13 @@
 -- What a walk over the records of a list finds: records can only be read from the front.
-use Rattle.std.specs.Prelude.{ℕ, ◌+◌, ◌-◌, ◌≡◌, cond, List, [], ◌∷◌, reverse, eqb, length, get_or, take, drop}
+use Rattle.std.specs.Prelude.{ℕ, ◌+◌, ◌-◌, ◌≡◌, List, [], ◌∷◌, reverse, length, get_or, take, drop}
 use Rattle.repertoire.specs.Repertoire.{Repertoire}
 use Rattle.log_model.specs.Change.{Change}
 use Rattle.formats.specs.declared.Format.{Format}
 use Rattle.log_model.specs.Layout.{record_of, encode_records, encode_texts, Layout}
 use Rattle.log_model.specs.Groups.{is_begin, is_end, passed}
 use Rattle.log_model.specs.UndoBytes.{undo_records}
+use Rattle.log_records.specs.declared.Kind.{Kind}
+use Rattle.log_records.specs.declared.Kind.TheVariants.{Begin, End, Edit}
 use Rattle.log_records.specs.declared.Span.{Span}
 use Rattle.log_records.specs.declared.Newest.{Newest}
 
@@ -25,15 +27,10 @@ newest_of F u =
     }
 
 -- a record more, of the kind k, from at up to next
-unfoldable pub passing : ℕ → ℕ → ℕ → Newest → Newest
-passing k at next n =
-    record {
-      count = n.count + 1;
-      last = at;
-      begins = cond (eqb k 1) (n.begins + 1) 0;
-      begun = cond (eqb k 1) n.begun next;
-      inside = cond (eqb k 2) n.inside at;
-    }
+abbrev pub passing : Kind → ℕ → ℕ → Newest → Newest
+passing Begin at next n = record { count = n.count + 1; last = at; begins = n.begins + 1; begun = n.begun; inside = at }
+passing End at next n = record { count = n.count + 1; last = at; begins = 0; begun = next; inside = n.inside }
+passing (Edit k) at next n = record { count = n.count + 1; last = at; begins = 0; begun = next; inside = at }
 
 -- at the last byte of each record of a list, newest first, stands the record's size
 abbrev pub SizesOf : Format → List ℕ → List Change → Type 0

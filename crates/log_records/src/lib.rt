@@ -2,124 +2,161 @@
 // from its front, and written record by record.
 #![tactic(auto)]
 
-ghost use Rattle.std.specs.Prelude.{◌≡◌, true, ◌+◌, ◌≤◌, ◌<◌, length, drop};
+ghost use Rattle.std.specs.Prelude.{◌≡◌, true, ◌+◌, ◌≤◌, ◌<◌, length, drop, is_some, IfSome};
 ghost use Rattle.std.proofs.lemmas.List.Edits.{sets};
 ghost use Rattle.repertoire.specs.Repertoire.{catalogue};
 ghost use Rattle.repertoire.specs.Text.{is_text};
-ghost use Rattle.log_model.specs.Layout.{size_of, decode, is_some};
+ghost use Rattle.log_model.specs.Layout.{decode, is_some as Layout·is_some};
 ghost use Rattle.log_model.specs.Holds.{Listed};
 ghost use Rattle.formats.specs.Formats.{Fit, records_max};
-ghost use Rattle.log_records.specs.Records.{no_record, Read};
+ghost use Rattle.log_records.specs.Records.{kind_by, kind_size, Read};
 ghost use Rattle.log_records.specs.Check.{are_texts_at};
 ghost use Rattle.log_records.specs.Walks.{Walks, LastAt, NewestAt, passing, SizesWritten};
-ghost use Rattle.log_records.specs.Written.{record_bytes, edit_size};
+ghost use Rattle.log_records.specs.Written.{edit_byte, record_bytes, edit_size};
 
 use formats::Format;
-use numbers::{read_num, wide, write_num};
+use numbers::{read_num, write_num};
 use repertoire::check_text;
 use utf8::is_boundary;
 
-// A record by its numbers: the kind 1 to 5, the place, the lengths of the old and of the new text, and its size in bytes.
+// The bytes of a Begin and of an End.
+pub const BEGIN: u8 = 1;
+
+pub const END: u8 = 2;
+
+// The kinds of edits, by their bytes in a record of a format that does not raise them.
+#[derive(Clone, Copy, PartialEq, Eq)]
+pub enum EditKind {
+    Insert = 3,
+    Delete = 4,
+    Replace = 5,
+}
+
+// The kinds of records: a group's Begin and End, and the edits.
+#[derive(Clone, Copy)]
+pub enum Kind {
+    Begin,
+    End,
+    Edit(EditKind),
+}
+
+// A record by its numbers: its kind, the place, the lengths of the old and of the new text, and its size in bytes.
 #[derive(Clone, Copy)]
 pub struct Record {
-    pub kind: usize,
+    pub kind: Kind,
     pub place: usize,
     pub old: usize,
     pub new: usize,
     pub size: usize,
 }
 
-fn no_record() -> Record
-    ensures { result ≡ no_record }
-{
-    Record {
-        kind: 0,
-        place: 0,
-        old: 0,
-        new: 0,
-        size: 0,
+// An edit's record by its numbers.
+#[derive(Clone, Copy)]
+pub struct EditRecord {
+    pub kind: EditKind,
+    pub place: usize,
+    pub old: usize,
+    pub new: usize,
+}
+
+impl EditKind {
+    // Its byte in a record.
+    fn byte(self, f: Format) -> u8
+        requires { Fit f }
+        ensures { result ≡ edit_byte f self }
+    {
+        self as u8 + f.offset as u8
     }
 }
 
-// The size of a record by its byte of kind; 0 for a byte that is no kind.
-fn record_size(f: Format, kind: usize) -> usize
+// The size of an edit's record.
+pub fn edit_size(f: Format, kind: EditKind) -> usize
     requires { Fit f }
-    ensures { (result ≡ size_of f kind) × (result ≤ 13) }
+    ensures { (result ≡ edit_size f kind) × (result ≤ 13) }
 {
     let w = f.width;
-    let o = f.offset;
-    if kind == 1 {
-        return 1;
+    match kind {
+        EditKind::Insert | EditKind::Delete => 1 + w + w,
+        EditKind::Replace => 1 + w + w + w,
     }
-    if kind == 2 {
-        return 1;
-    }
-    if kind == 3 + o {
-        return 1 + w + w;
-    }
-    if kind == 4 + o {
-        return 1 + w + w;
-    }
-    if kind == 5 + o {
-        return 1 + w + w + w;
-    }
-    0
 }
 
-// The record at a place; kind and size are 0 where no whole record stands there. A Begin and an End have no body.
-pub fn read_record(f: Format, records: &[u8], at: usize) -> Record
+impl Kind {
+    // The kind that a record's first byte names.
+    #[tactic(auto, unfolding(crate::specs::Records::kind_by))]
+    fn named(f: Format, byte: u8) -> Option<Kind>
+        requires { Fit f }
+        ensures { result ≡ kind_by f byte }
+    {
+        match byte {
+            BEGIN => Some(Kind::Begin),
+            END => Some(Kind::End),
+            _ if byte == EditKind::Insert.byte(f) => Some(Kind::Edit(EditKind::Insert)),
+            _ if byte == EditKind::Delete.byte(f) => Some(Kind::Edit(EditKind::Delete)),
+            _ if byte == EditKind::Replace.byte(f) => Some(Kind::Edit(EditKind::Replace)),
+            _ => None,
+        }
+    }
+
+    // The size of a record of this kind: a Begin and an End have no body.
+    fn size(self, f: Format) -> usize
+        requires { Fit f }
+        ensures { (result ≡ kind_size f self) × (result ≤ 13) }
+    {
+        match self {
+            Kind::Begin | Kind::End => 1,
+            Kind::Edit(kind) => edit_size(f, kind),
+        }
+    }
+}
+
+// The record at a place, where a whole one stands there.
+pub fn read_record(f: Format, records: &[u8], at: usize) -> Option<Record>
     requires { Fit f }
     ensures { Read f records.now at result }
 {
     if records.len() <= at {
-        return no_record();
+        return None;
     }
-    let kind = wide(records[at]);
-    if (kind == 1) | (kind == 2) {
-        return Record {
+    let kind = Kind::named(f, records[at])?;
+    let size = kind.size(f);
+    if records.len() - at < size {
+        return None;
+    }
+    let Kind::Edit(edit) = kind else {
+        return Some(Record {
             kind,
             place: 0,
             old: 0,
             new: 0,
-            size: 1,
-        };
-    }
-    let size = record_size(f, kind);
-    if size == 0 {
-        return no_record();
-    }
-    if records.len() - at < size {
-        return no_record();
-    }
+            size,
+        });
+    };
     let w = f.width;
-    let o = f.offset;
     let place = read_num(records, at + 1, w);
     let first = read_num(records, at + 1 + w, w);
-    if kind == 3 + o {
-        return Record {
-            kind: 3,
+    match edit {
+        EditKind::Insert => Some(Record {
+            kind,
             place,
             old: 0,
             new: first,
             size,
-        };
-    }
-    if kind == 4 + o {
-        return Record {
-            kind: 4,
+        }),
+        EditKind::Delete => Some(Record {
+            kind,
             place,
             old: first,
             new: 0,
             size,
-        };
-    }
-    let second = read_num(records, at + 1 + w + w, w);
-    Record {
-        kind: 5,
-        place,
-        old: first,
-        new: second,
-        size,
+        }),
+        EditKind::Replace => Some(Record {
+            kind,
+            place,
+            old: first,
+            new: read_num(records, at + 1 + w + w, w),
+            size,
+        }),
     }
 }
 
@@ -145,7 +182,7 @@ fn are_texts_at(texts: &[u8], t: usize, old: usize, new: usize) -> bool
 
 // A list by its records: how many they are and where the newest begins; how many Begins stand last and where the first of them
 // begins (begun); where the newest that is no End begins (inside).
-#[derive(Clone, Copy)]
+#[derive(Clone, Copy, Default)]
 pub struct Newest {
     pub count: usize,
     pub last: usize,
@@ -156,96 +193,62 @@ pub struct Newest {
 
 impl Newest {
     // A record more, from a place up to the next.
-    fn pass(self, kind: usize, at: usize, next: usize) -> Newest
+    fn pass(self, kind: Kind, at: usize, next: usize) -> Newest
         requires { (self.count < 18446744073709551615) × (self.begins ≤ self.count) }
         ensures { result ≡ passing kind at next self }
     {
         let count = self.count + 1;
-        if kind == 1 {
-            return Newest {
+        match kind {
+            Kind::Begin => Newest {
                 count,
                 last: at,
                 begins: self.begins + 1,
                 begun: self.begun,
                 inside: at,
-            };
-        }
-        if kind == 2 {
-            return Newest {
+            },
+            Kind::End => Newest {
                 count,
                 last: at,
                 begins: 0,
                 begun: next,
                 inside: self.inside,
-            };
-        }
-        Newest {
-            count,
-            last: at,
-            begins: 0,
-            begun: next,
-            inside: at,
+            },
+            Kind::Edit(_) => Newest {
+                count,
+                last: at,
+                begins: 0,
+                begun: next,
+                inside: at,
+            },
         }
     }
 }
 
-// Whether bytes are a list, and if so what stands at its end.
-#[derive(Clone, Copy)]
-pub struct Looked {
-    pub sound: bool,
-    pub newest: Newest,
-}
-
-// Are records and texts the layout of a list of changes? One pass over each: the texts are looked at as one text, and of each
-// record's texts it is then asked where they end. A Begin and an End have none.
-pub fn check_list(f: Format, records: &[u8], texts: &[u8]) -> Looked
+// Are records and texts the layout of a list of changes? Then what stands at its end. One pass over each: the texts are looked at
+// as one text, and of each record's texts it is then asked where they end.
+pub fn check_list(f: Format, records: &[u8], texts: &[u8]) -> Option<Newest>
     requires { Fit f }
-    ensures sound { result.sound ≡ is_some (decode catalogue f records.now texts.now) }
-    ensures newest { result.sound ≡ true → NewestAt catalogue f records.now result.newest }
+    ensures sound { is_some result ≡ Layout·is_some (decode catalogue f records.now texts.now) }
+    ensures newest { IfSome result (λ n. NewestAt catalogue f records.now n) }
 {
-    let mut newest = Newest {
-        count: 0,
-        last: 0,
-        begins: 0,
-        begun: 0,
-        inside: 0,
-    };
     if !check_text(texts) {
-        return Looked {
-            sound: false,
-            newest,
-        };
+        return None;
     }
+    let mut newest = Newest::default();
     let mut at: usize = 0;
     let mut t: usize = 0;
+    // A turn passes a record, whose kind says how long it is: no index is counted.
     while at < records.len() {
-        let r = read_record(f, records, at);
-        if r.kind == 0 {
-            return Looked {
-                sound: false,
-                newest,
-            };
+        let r = read_record(f, records, at)?;
+        if !are_texts_at(texts, t, r.old, r.new) {
+            return None;
         }
         let next = at + r.size;
-        if r.kind <= 2 {
-            newest = newest.pass(r.kind, at, next);
-            at = next;
-            continue;
-        }
-        if !are_texts_at(texts, t, r.old, r.new) {
-            return Looked {
-                sound: false,
-                newest,
-            };
-        }
         newest = newest.pass(r.kind, at, next);
         at = next;
         t += r.old + r.new;
     }
-    Looked {
-        sound: t == texts.len(),
-        newest,
-    }
+    if t == texts.len() { Some(newest) } else { None }
 }
 
 // Where a walk over records ends: how many it passed, and the size of those records and of their texts.
@@ -266,15 +269,10 @@ pub fn walk(f: Format, records: &[u8], n: usize) -> Span
     let mut count: usize = 0;
     let mut at: usize = 0;
     let mut t: usize = 0;
-    while at < records.len() {
+    while let Some(r) = read_record(f, records, at) {
         if count == n {
-            return Span {
-                count,
-                records: at,
-                texts: t,
-            };
+            break;
         }
-        let r = read_record(f, records, at);
         at += r.size;
         t += r.old + r.new;
         count += 1;
@@ -294,8 +292,7 @@ pub fn last_start(f: Format, records: &[u8]) -> usize
 {
     let mut at: usize = 0;
     let mut last: usize = 0;
-    while at < records.len() {
-        let r = read_record(f, records, at);
+    while let Some(r) = read_record(f, records, at) {
         last = at;
         at += r.size;
     }
@@ -312,8 +309,12 @@ pub fn write_sizes(f: Format, records: &[u8], sizes: &mut [u8]) -> usize
 {
     let mut count: usize = 0;
     let mut at: usize = 0;
+    // A turn passes a record, as in check_list.
     while at < records.len() {
-        let size = record_size(f, wide(records[at]));
+        let Some(kind) = Kind::named(f, records[at]) else {
+            break;
+        };
+        let size = kind.size(f);
         at += size;
         sizes[at - 1] = size as u8;
         count += 1;
@@ -321,41 +322,21 @@ pub fn write_sizes(f: Format, records: &[u8], sizes: &mut [u8]) -> usize
     count
 }
 
-// The size of an edit's record: kind 3, 4 or 5.
-pub fn edit_size(f: Format, kind: usize) -> usize
-    requires { Fit f }
-    ensures { (result ≡ edit_size f kind) × (result ≤ 13) }
-{
-    let w = f.width;
-    if kind == 5 { 1 + w + w + w } else { 1 + w + w }
-}
-
-// An edit's record at a place: kind 3 Insert, 4 Delete, 5 Replace.
-pub fn write_record(
-    f: Format,
-    records: &mut [u8],
-    at: usize,
-    kind: usize,
-    place: usize,
-    old: usize,
-    new: usize,
-)
+// An edit's record at a place.
+pub fn write_record(f: Format, records: &mut [u8], at: usize, edit: EditRecord)
     requires fit { Fit f }
-    requires le_kind { (3 ≤ kind) × (kind ≤ 5) }
-    requires kind_in_bounds { at + edit_size f kind ≤ length records.old }
-    ensures { records.new ≡ sets records.old at (record_bytes f kind place old new) }
+    requires kind_in_bounds { at + edit_size f edit.kind ≤ length records.old }
+    ensures { records.new ≡ sets records.old at (record_bytes f edit) }
 {
     let w = f.width;
-    let o = f.offset;
-    records[at] = (kind + o) as u8;
-    write_num(records, at + 1, place, w);
-    if kind == 3 {
-        write_num(records, at + 1 + w, new, w);
-        return;
+    records[at] = edit.kind.byte(f);
+    write_num(records, at + 1, edit.place, w);
+    match edit.kind {
+        EditKind::Insert => write_num(records, at + 1 + w, edit.new, w),
+        EditKind::Delete => write_num(records, at + 1 + w, edit.old, w),
+        EditKind::Replace => {
+            write_num(records, at + 1 + w, edit.old, w);
+            write_num(records, at + 1 + w + w, edit.new, w);
+        }
     }
-    write_num(records, at + 1 + w, old, w);
-    if kind == 4 {
-        return;
-    }
-    write_num(records, at + 1 + w + w, new, w);
 }

@@ -8,7 +8,8 @@ use lib.ListN.{length, take, length-append}
 use lib.Seq.{length-take-le}
 use Rattle.repertoire.specs.Repertoire.{Repertoire}
 use Rattle.checks.specs.Outcome.{Outcome, refused, answered, called}
-use Rattle.checks.proofs.Outcomes.{called-refused, called-passed}
+use Rattle.checks.specs.Refused.{number_of}
+use Rattle.checks.specs.declared.Refused.{Refused}
 use Rattle.log_model.specs.Change.{Change, turn}
 use Rattle.formats.specs.declared.Format.{Format}
 use Rattle.log_model.specs.Layout.{encode_records, encode_texts}
@@ -20,6 +21,7 @@ use Rattle.log_state.specs.declared.Log.{Log}
 use Rattle.log_state.specs.declared.LogAnswer.{LogAnswer}
 use Rattle.log_state.specs.Outcomes.{record_out}
 use Rattle.log_state.specs.Calls.{Lent, sizes_of, says, log_of, answer_of, Stored, Logged}
+use Rattle.log_state.proofs.Refusals.{why_called, all_called}
 
 -- the state of a log by its numbers
 abbrev pub state : ℕ → ℕ → ℕ → ℕ → ℕ → Log
@@ -30,19 +32,20 @@ module _ (F : Format) (l : Lent) where
   pub refuses : (k : ℕ) → Logged F l (refused k) (says k l.log) l.records l.texts
   refuses k = record { answer = refl; bytes = record { records = refl; texts = refl } }
 
-  -- checks 2 to 8
-  pub refused_by : (k n : ℕ) (o : Outcome groups.Log) → n ≡ k → (k ≡ 0 → ⊥) → Logged F l (called n o) (says k l.log) l.records l.texts
-  refused_by k n o e h = called-refused (λ (x : Outcome groups.Log). Logged F l x (says k l.log) l.records l.texts) o k n e h (refuses k)
+  -- a check refuses, or the checks pass
+  pub refused_by : (why : Refused) (n : ℕ) (o : Outcome groups.Log) → number_of why ≡ n → Logged F l (called n o) (says (number_of why) l.log) l.records l.texts
+  refused_by why n o e =
+      subst (λ (x : Outcome groups.Log). Logged F l x (says (number_of why) l.log) l.records l.texts) (why_called o n why e) (refuses (number_of why))
 
-  pub passed_by : (k n : ℕ) (o : Outcome groups.Log) (r : LogAnswer) (rb tb : List ℕ) → n ≡ k → k ≡ 0 → Logged F l o r rb tb → Logged F l (called n o) r rb tb
-  passed_by k n o r rb tb e h q = called-passed (λ (x : Outcome groups.Log). Logged F l x r rb tb) o k n e h q
+  pub passed_by : (n : ℕ) (o : Outcome groups.Log) (r : LogAnswer) (rb tb : List ℕ) → 0 ≡ n → Logged F l o r rb tb → Logged F l (called n o) r rb tb
+  passed_by n o r rb tb e = subst (λ (x : Outcome groups.Log). Logged F l x r rb tb) (all_called o n e)
 
   -- a call that writes nothing
-  pub refused_says : (k n : ℕ) (o : Outcome groups.Log) → n ≡ k → (k ≡ 0 → ⊥) → says k l.log ≡ answer_of F l (called n o)
-  refused_says k n o e h = (refused_by k n o e h).answer
+  pub refused_says : (why : Refused) (n : ℕ) (o : Outcome groups.Log) → number_of why ≡ n → says (number_of why) l.log ≡ answer_of F l (called n o)
+  refused_says why n o e = (refused_by why n o e).answer
 
-  pub passed-says : (k n : ℕ) (o : Outcome groups.Log) (r : LogAnswer) → n ≡ k → k ≡ 0 → r ≡ answer_of F l o → r ≡ answer_of F l (called n o)
-  passed-says k n o r e h q = called-passed (λ (x : Outcome groups.Log). r ≡ answer_of F l x) o k n e h q
+  pub passed-says : (n : ℕ) (o : Outcome groups.Log) (r : LogAnswer) → 0 ≡ n → r ≡ answer_of F l o → r ≡ answer_of F l (called n o)
+  passed-says n o r e q = q ∙ ap (answer_of F l) (all_called o n e)
 
   -- the answer as a function gave it
   pub answered_as : (o : Outcome groups.Log) (r r' : LogAnswer) (rb tb : List ℕ) → r ≡ r' → Logged F l o r' rb tb → Logged F l o r rb tb

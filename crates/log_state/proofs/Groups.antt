@@ -2,14 +2,18 @@
 use Prim.Native.Nat.{ℕ, ◌+◌, ◌-◌, ◌≤◌, ◌<◌}
 use native.Mathlib.Omega.{arith}
 use mathlib.Core.Path.{◌≡◌, refl, sym, ap, ap₂, subst, ◌∙◌}
-use mathlib.Core.Bool.{true, false, cond, ◌||◌}
+use mathlib.Core.Bool.{true, false, cond}
 use mathlib.Core.List.{List, [], ◌∷◌, ◌++◌, map, reverse, reverse-cons, reverse-reverse, reverse-append}
+use mathlib.Core.Logic.{⊎_elim}
 use mathlib.Core.Option.{Option}
-use lib.Dec.{ltb, eqb}
+use lib.Dec.{ltb}
 use lib.ListN.{length, take, drop, set, replicate, length-append, length-replicate, take-append-drop}
 use lib.Seq.{sets, length-sets, length-take-le, take-take, take_at}
-use borrow.Author.Tests.{lt-ltb, le-ltb, ne_eqb}
+use borrow.Author.Tests.{lt-ltb, le-ltb}
 use Rattle.lists.proofs.Stores.{take-sets}
+use Rattle.std.specs.Prelude as std
+use Rattle.std.specs.Prelude.{MatchOption}
+use Rattle.std.proofs.lemmas.Option.{none-some, same_Some}
 use Rattle.repertoire.specs.Repertoire.{catalogue}
 use Rattle.checks.specs.Outcome.{Outcome, answered}
 use Rattle.log_model.specs.Change.{insert, delete, replace, Change, begin, end, edit, turn}
@@ -26,13 +30,13 @@ use Rattle.log_model.proofs.Groups.{ended-least, truncated-is, ends-passed}
 use Rattle.log_model.proofs.Newest.{turned_back}
 use Rattle.log_records.specs.Walks.{first_of, Walks, NewestAt}
 use Rattle.log_records.specs.declared.Newest.{Newest}
-use Rattle.log_records.specs.Records.{record_at}
+use Rattle.log_records.specs.Records.{numbers_of, record_at}
 use Rattle.log_records.specs.declared.Record.{Record}
 use Rattle.log_records.specs.declared.Span.{Span}
 use Rattle.buffer.specs.Edit.{cut}
 use Rattle.log_state.specs.declared.Log.{Log}
 use Rattle.log_state.specs.Outcomes.{places_out, begin_out, end_out, truncate_out, last_insert_out}
-use Rattle.log_state.specs.Calls.{Lent, sizes_of, says, log_of, answer_of, undos, redos, value_of, Logged, Ready}
+use Rattle.log_state.specs.Calls.{Lent, sizes_of, says, log_of, answer_of, undos, redos, value_of, put_in, Logged, Ready}
 use Rattle.log_state.proofs.Answers.{state, refuses, answers, holds_state}
 use Rattle.log_state.proofs.Recorded.{lays, good, holding, records-used, texts-used}
 use Rattle.log_state.proofs.Newest.{EndsAt, begins_are, InsideBy, inside}
@@ -220,62 +224,67 @@ module _ (F : Format) (l : Lent) (h : Ready F l) where
       holds_state catalogue F l.records l.texts ur ut l.log.redo.records l.log.redo.texts l.log.level u
       (map turn (redos catalogue F l)) (rw (turned_back (redos catalogue F l)) (holding F l h))
 
-  -- the newest record that is no End is r
-  module _ (n : Newest) (q : NewestAt catalogue F (take ur l.records) n) (r : Record)
-      (x : r ≡ record_at F (take ur l.records) n.inside) where
+  -- y is the length of the text that the newest record that is no End put in
+  module _ (n : Newest) (q : NewestAt catalogue F (take ur l.records) n) (r : std.Option Record)
+      (x : r ≡ record_at F (take ur l.records) n.inside) (y : std.Option ℕ) (g : MatchOption r (y ≡ std.None) (λ z. y ≡ put_in z)) where
     abbrev rest : List Change
     rest = passed is_end u
 
     texts-rest : ut ≡ length (undo_texts rest)
     texts-rest = texts-used F l h ∙ ap length (ends-passed u).1
 
-    is_inside : InsideBy F r rest
-    is_inside = inside F (take ur l.records) n q r x (take ut l.texts) us (lays F l h)
+    abbrev put_by : List Change → std.Option ℕ
+    put_by [] = std.None
+    put_by (c ∷ w) = put_in (numbers_of F c)
 
-    new_in : (w : List Change) → InsideBy F r w → r.new ≤ length (undo_texts w)
-    new_in [] g = omega (arith, g.1)
-    new_in (begin ∷ w) g = omega (arith, ap (λ (z : Record). z.new) g)
-    new_in (end ∷ w) g = omega (arith, ap (λ (z : Record). z.new) g)
-    new_in (edit (insert p s) ∷ w) g = omega (arith, ap (λ (z : Record). z.new) g, texts-size (edit (insert p s)) w)
-    new_in (edit (delete p s) ∷ w) g = omega (arith, ap (λ (z : Record). z.new) g)
-    new_in (edit (replace p o s) ∷ w) g =
-        omega (arith, ap (λ (z : Record). z.new) g, texts-size (edit (replace p o s)) w, length-append o s)
+    put-is : (w : List Change) → (o : std.Option Record) → InsideBy F o w → (z : std.Option ℕ) → MatchOption o (z ≡ std.None) (λ a. z ≡ put_in a) → z ≡ put_by w
+    put-is [] o i z m =
+        ⊎_elim (λ e. subst (λ a. MatchOption a (z ≡ std.None) (λ b. z ≡ put_in b)) e m) (λ e. subst (λ a. MatchOption a (z ≡ std.None) (λ b. z ≡ put_in b)) e m) i
+    put-is (c ∷ w) o i z m = subst (λ a. MatchOption a (z ≡ std.None) (λ b. z ≡ put_in b)) i m
 
-    pub new-within : r.new ≤ ut
-    new-within = omega (arith, new_in rest is_inside, texts-rest)
+    is_put : y ≡ put_by rest
+    is_put = put-is rest r (inside F (take ur l.records) n q r x (take ut l.texts) us (lays F l h)) y g
 
-    abbrev told : Outcome groups.Log
-    told =
-        cond (eqb r.kind 3 || eqb r.kind 5) (answered 0 (ut - r.new) ut (value_of catalogue F l))
-        (answered 1 0 0 (value_of catalogue F l))
+    put_within : (w : List Change) → (k : ℕ) → std.Some k ≡ put_by w → k ≤ length (undo_texts w)
+    put_within [] k e = absurd (none-some k (sym e))
+    put_within (begin ∷ w) k e = absurd (none-some k (sym e))
+    put_within (end ∷ w) k e = absurd (none-some k (sym e))
+    put_within (edit (insert p s) ∷ w) k e = omega (arith, same_Some k (length s) e, texts-size (edit (insert p s)) w)
+    put_within (edit (delete p s) ∷ w) k e = absurd (none-some k (sym e))
+    put_within (edit (replace p o s) ∷ w) k e = omega (arith, same_Some k (length s) e, texts-size (edit (replace p o s)) w, length-append o s)
 
-    answer-is : (w : List Change) → passed is_end w ≡ w → ut ≡ length (undo_texts w) → InsideBy F r w
-        → places_out (last_insert_at w) (value_of catalogue F l) ≡ told
+    pub new-within : (k : ℕ) → y ≡ std.Some k → k ≤ ut
+    new-within k e = omega (arith, put_within rest k (sym e ∙ is_put), texts-rest)
+
+    abbrev told_by : std.Option ℕ → Outcome groups.Log
+    told_by std.None = answered 1 0 0 (value_of catalogue F l)
+    told_by (std.Some k) = answered 0 (ut - k) ut (value_of catalogue F l)
+
+    answer-is : (w : List Change) → passed is_end w ≡ w → ut ≡ length (undo_texts w) → places_out (last_insert_at w) (value_of catalogue F l) ≡ told_by (put_by w)
     unfolding last_insert_at passed
-    answer-is [] f e g = rw (ne_eqb r.kind 3 (λ z. omega (arith, g.0)), ne_eqb r.kind 5 (λ z. omega (arith, g.0)))
-    answer-is (begin ∷ w) f e g = rw (ap (λ (z : Record). z.kind) g)
-    answer-is (end ∷ w) f e g = absurd (omega (arith, ap length f, passed_short is_end w))
-    answer-is (edit (delete p s) ∷ w) f e g = rw (ap (λ (z : Record). z.kind) g)
-    answer-is (edit (insert p s) ∷ w) f e g =
-        let a : length (undo_texts w) ≡ ut - r.new = omega (arith, ap (λ (z : Record). z.new) g, texts-size (edit (insert p s)) w) in
+    answer-is [] f e = refl
+    answer-is (begin ∷ w) f e = refl
+    answer-is (end ∷ w) f e = absurd (omega (arith, ap length f, passed_short is_end w))
+    answer-is (edit (delete p s) ∷ w) f e = refl
+    answer-is (edit (insert p s) ∷ w) f e =
+        let a : length (undo_texts w) ≡ ut - length s = omega (arith, texts-size (edit (insert p s)) w) in
         let b : length (undo_texts w) + length s ≡ ut = omega (arith, texts-size (edit (insert p s)) w) in
-        ap₂ (λ (i j : ℕ). answered 0 i j (value_of catalogue F l)) a b ∙ rw (ap (λ (z : Record). z.kind) g)
-    answer-is (edit (replace p o s) ∷ w) f e g =
+        ap₂ (λ (i j : ℕ). answered 0 i j (value_of catalogue F l)) a b
+    answer-is (edit (replace p o s) ∷ w) f e =
         let t = texts-size (edit (replace p o s)) w in
-        let a : length (undo_texts w) + length o ≡ ut - r.new = omega (arith, ap (λ (z : Record). z.new) g, t, length-append o s) in
+        let a : length (undo_texts w) + length o ≡ ut - length s = omega (arith, t, length-append o s) in
         let b : length (undo_texts w) + length o + length s ≡ ut = omega (arith, t, length-append o s) in
-        ap₂ (λ (i j : ℕ). answered 0 i j (value_of catalogue F l)) a b ∙ rw (ap (λ (z : Record). z.kind) g)
+        ap₂ (λ (i j : ℕ). answered 0 i j (value_of catalogue F l)) a b
 
-    -- by its kind: 3 Insert, 5 Replace, or another
-    outcome : last_insert_out (value_of catalogue F l) ≡ told
+    outcome : last_insert_out (value_of catalogue F l) ≡ told_by y
     outcome =
         ap (λ (z : Option Places). places_out z (value_of catalogue F l)) (ends-passed u).0
-        ∙ answer-is rest (passed_twice is_end u) texts-rest is_inside
+        ∙ answer-is rest (passed_twice is_end u) texts-rest ∙ ap told_by (sym is_put)
 
-    pub finds : (eqb r.kind 3 || eqb r.kind 5) ≡ true
-        → record { number = 0; from = ut - r.new; to = ut; log = l.log } ≡ answer_of F l (last_insert_out (value_of catalogue F l))
-    finds e = rw (outcome, e) (ap (λ (g : Log). record { number = 0; from = ut - r.new; to = ut; log = g }) state_now)
+    pub finds : (k : ℕ) → y ≡ std.Some k → record { number = 0; from = ut - k; to = ut; log = l.log } ≡ answer_of F l (last_insert_out (value_of catalogue F l))
+    finds k e =
+        ap (λ (g : Log). record { number = 0; from = ut - k; to = ut; log = g }) state_now
+        ∙ sym (ap (answer_of F l) (outcome ∙ ap told_by e))
 
-    pub finds_none : (eqb r.kind 3 || eqb r.kind 5) ≡ false
-        → says 1 l.log ≡ answer_of F l (last_insert_out (value_of catalogue F l))
-    finds_none e = rw (outcome, e) (ap (says 1) state_now)
+    pub finds_none : y ≡ std.None → says 1 l.log ≡ answer_of F l (last_insert_out (value_of catalogue F l))
+    finds_none e = ap (says 1) state_now ∙ sym (ap (answer_of F l) (outcome ∙ ap told_by e))

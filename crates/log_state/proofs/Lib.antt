@@ -7,3 +7,4 @@ pub mod Groups
 pub mod Single
 pub mod Examples
 pub mod Formats
+pub mod Refusals

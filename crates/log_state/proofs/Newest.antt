@@ -2,8 +2,10 @@
 use Prim.Native.Nat.{ℕ, ◌-◌, ◌≤◌}
 use native.Mathlib.Omega.{arith}
 use mathlib.Core.Path.{◌≡◌, refl, sym, ap, subst, ◌∙◌}
+use mathlib.Core.Logic.{◌⊎◌, inl, inr}
 use mathlib.Core.List.{List, [], ◌∷◌, ◌++◌, reverse, reverse-cons}
 use lib.ListN.{length, take, drop, take-append-drop}
+use Rattle.std.specs.Prelude.{Option, Some, None}
 use Rattle.repertoire.specs.Repertoire.{catalogue}
 use Rattle.formats.specs.declared.Format.{Format}
 use Rattle.log_model.specs.Change.{Change, begin, end, edit}
@@ -34,10 +36,10 @@ oldest_end (edit x ∷ ws) c e = absurd (omega (arith, ap length e))
 abbrev pub EndsAt : Format → List ℕ → ℕ → ℕ → Type 0
 EndsAt F rs m r = (ts : List ℕ) (us : List Change) → Layout catalogue F rs ts us → r ≡ length (undo_records F (drop m (reverse us)))
 
--- r is the newest record of a list, newest first; no edit where there is none
-abbrev pub InsideBy : Format → Record → List Change → Type 0
-InsideBy F r [] = (r.kind ≤ 2) × (r.new ≡ 0)
-InsideBy F r (c ∷ v) = r ≡ numbers_of F c
+-- r is the newest record of a list, newest first; none or an End where there is none
+abbrev pub InsideBy : Format → Option Record → List Change → Type 0
+InsideBy F r [] = (r ≡ None) ⊎ (r ≡ Some (numbers_of F end))
+InsideBy F r (c ∷ v) = r ≡ Some (numbers_of F c)
 
 module _ (F : Format) (rs : List ℕ) (n : Newest) (q : NewestAt catalogue F rs n) where
   module _ (ts : List ℕ) (us : List Change) (l : Layout catalogue F rs ts us) where
@@ -73,7 +75,7 @@ module _ (F : Format) (rs : List ℕ) (n : Newest) (q : NewestAt catalogue F rs 
         ∙ ap (λ (v : List Change). length (encode_records F v)) (sym (truncated-is k us) ∙ ap (λ (i : ℕ). reverse (drop i (reverse us))) d)
 
   -- ---- the newest record that is no End, read where it begins
-  module _ (r : Record) (x : r ≡ record_at F rs n.inside) (ts : List ℕ) (us : List Change) (l : Layout catalogue F rs ts us) where
+  module _ (r : Option Record) (x : r ≡ record_at F rs n.inside) (ts : List ℕ) (us : List Change) (l : Layout catalogue F rs ts us) where
     abbrev u : List Change
     u = reverse us
 
@@ -81,13 +83,10 @@ module _ (F : Format) (rs : List ℕ) (n : Newest) (q : NewestAt catalogue F rs 
     all-ends : (vs : List Change) → us ≡ vs → passed is_end u ≡ [] → n.inside ≡ 0 → InsideBy F r []
     all-ends [] e p z =
         let o : length rs ≡ 0 = ap length l.records ∙ ap (λ (v : List Change). length (encode_records F v)) e in
-        let y = x ∙ sym (no_byte F rs n.inside (omega (arith, o))) in
-        (omega (arith, ap (λ (a : Record). a.kind) y), ap (λ (a : Record). a.new) y)
+        inl (x ∙ sym (no_byte F rs n.inside (omega (arith, o))))
     all-ends (c ∷ vs) e p z =
         let d = oldest_end (reverse vs) c (sym (ap (passed is_end) (ap reverse e ∙ reverse-cons c vs)) ∙ p) in
-        let y : r ≡ numbers_of F end =
-        x ∙ record_behind catalogue F rs ts [] vs c n.inside (subst (Layout catalogue F rs ts) e l) z ∙ ap (numbers_of F) d in
-        (omega (arith, ap (λ (a : Record). a.kind) y), ap (λ (a : Record). a.new) y)
+        inr (x ∙ record_behind catalogue F rs ts [] vs c n.inside (subst (Layout catalogue F rs ts) e l) z ∙ ap (λ (y : Change). Some (numbers_of F y)) d)
 
     inside_as : (v : List Change) → passed is_end u ≡ v → InsideBy F r v
     inside_as v p = go v p (ap (λ (a : Newest). a.inside) (q ts us l) ∙ ap (λ (w : List Change). length (undo_records F (drop 1 w))) p)

@@ -1,15 +1,15 @@
 -- What holds of a lent log that checks 2 and 8 pass. Assumes nothing.
-use Prim.Native.Nat.{ℕ, zero, suc, ◌+◌, ◌≤◌}
+use Prim.Native.Nat.{ℕ, zero, suc, ◌+◌, ◌≤◌, ◌<◌}
 use native.Mathlib.Omega.{arith}
-use mathlib.Core.Path.{◌≡◌, refl, ap, ap₂, ◌∙◌}
-use mathlib.Core.Bool.{Bool, true, false, not, ◌&&◌, ◌||◌}
+use mathlib.Core.Path.{◌≡◌, refl}
+use mathlib.Core.Bool.{Bool, true, false, not, ◌||◌}
 use mathlib.Core.List.{List, [], ◌∷◌}
 use mathlib.Core.Option.{Option, some, none}
-use lib.Dec.{ltb, leb}
+use lib.Dec.{ltb}
 use lib.ListN.{length, take, drop}
 use lib.Seq.{get_or-drop}
-use borrow.Author.Tests.{ltb-false, lt-ltb, le-ltb, lt-leb, le-leb}
-use Rattle.lists.proofs.Bools.{never, or_none, by_less, and_both}
+use borrow.Author.Tests.{ltb-false, lt-ltb, le-ltb}
+use Rattle.lists.proofs.Bools.{never, or_none}
 use Rattle.repertoire.specs.Repertoire.{catalogue}
 use Rattle.log_model.specs.Change.{Change}
 use Rattle.formats.specs.Formats.{Fit}
@@ -105,17 +105,15 @@ module _ (F : Format) (l : Lent) (foreign : Bool) where
     says-passed e f = rw (fine, e, f)
 
 -- ---- check 8 by its tests: the level v, and whether each of the two lists is one
-low_level : (v : ℕ) → leb v 255 ≡ not (ltb 255 v)
-low_level v = by_less _ 255 v (λ h. rw (lt-ltb 255 v h, lt-leb v 255 h)) (λ h. rw (le-ltb 255 v h, le-leb v 255 h))
+pub high_level : (v : ℕ) (x y : Bool) → 255 < v → false ≡ not (ltb 255 v || (not x || not y))
+high_level v x y h = rw (lt-ltb 255 v h)
 
-pub sound_is : (v : ℕ) (a b x y : Bool) → a ≡ x → b ≡ y → leb v 255 && (a && b) ≡ not (ltb 255 v || (not x || not y))
-sound_is v a b x y e f = ap₂ (λ (c d : Bool). leb v 255 && (c && d)) e f ∙ ap (λ (c : Bool). c && (x && y)) (low_level v) ∙ tests (ltb 255 v) x y
-  where
-    tests : (a x y : Bool) → not a && (x && y) ≡ not (a || (not x || not y))
-    tests true x y = refl
-    tests false true true = refl
-    tests false true false = refl
-    tests false false y = refl
+module _ (v : ℕ) (h : v ≤ 255) where
+  pub sound_is : (x y : Bool) → true ≡ x → true ≡ y → true ≡ not (ltb 255 v || (not x || not y))
+  sound_is x y e f = rw (le-ltb 255 v h, ← e, ← f)
 
-pub both_sound : (a x y : Bool) → a && (x && y) ≡ true → x ≡ true
-both_sound a x y e = (and_both x y (and_both a (x && y) e).1).0
+  pub undo_bad : (x y : Bool) → false ≡ x → false ≡ not (ltb 255 v || (not x || not y))
+  undo_bad x y e = rw (le-ltb 255 v h, ← e)
+
+  pub redo_bad : (x y : Bool) → true ≡ x → false ≡ y → false ≡ not (ltb 255 v || (not x || not y))
+  redo_bad x y e f = rw (le-ltb 255 v h, ← e, ← f)

@@ -6,8 +6,9 @@ use mathlib.Core.Bool.{Bool, true}
 use mathlib.Core.List.{List, reverse, reverse-reverse}
 use lib.ListN.{length, take}
 use lib.Seq.{length-take-le}
+use Rattle.std.proofs.lemmas.Option.{IfSome_then}
 use Rattle.repertoire.specs.Repertoire.{catalogue}
-use Rattle.log_model.specs.Change.{Edit, Change, edit, place, old, new}
+use Rattle.log_model.specs.Change.{Edit, Change, edit, old, new}
 use Rattle.numbers.specs.Numbers.{top}
 use Rattle.formats.specs.declared.Format.{Format}
 use Rattle.log_model.specs.Layout.{ok_change, AllGood, Layout}
@@ -16,13 +17,15 @@ use Rattle.log_model.specs.Holds.{Holds, Listed}
 use Rattle.log_model.specs.UndoBytes.{undo_records, undo_texts, fits}
 use Rattle.log_model.proofs.Holds.{front, cleared}
 use Rattle.log_model.proofs.UndoBytes.{good-newest, fits_yes}
-use Rattle.log_records.specs.Records.{kind_number}
+use Rattle.log_records.specs.declared.EditKind.{EditKind}
+use Rattle.log_records.specs.declared.EditRecord.{EditRecord}
+use Rattle.log_records.specs.Records.{edit_record}
 use Rattle.log_recording.specs.Tails.{tail_of, tail_for, TailFor, noted, InRange, Wrote}
 use Rattle.log_recording.specs.declared.Tail.{Tail}
 use Rattle.log_recording.specs.declared.Noted.{Noted}
 use Rattle.log_recording.proofs.Joins.{noted_for, in_range_for}
-use Rattle.log_recording.proofs.Numbers.{kind_low, tail-records, tail-texts, tail_within, tail-place}
-use Rattle.log_recording.proofs.Put.{Put, put, put_holds, put-kind, put-size, put-texts, room_yes, no_records, no_texts, no_place}
+use Rattle.log_recording.proofs.Numbers.{tail-records, tail-texts, tail_bounded}
+use Rattle.log_recording.proofs.Put.{Put, put, put_holds, put-size, put-texts, room_yes, no_records, no_texts, no_place}
 use Rattle.log_records.specs.Written.{edit_size}
 use Rattle.log_state.specs.Outcomes.{record_out}
 use Rattle.log_state.specs.Calls.{Lent, sizes_of, says, undos, redos, value_of, Logged, Ready, Numbered}
@@ -70,7 +73,7 @@ module _ (F : Format) (l : Lent) (h : Ready F l) where
       (reverse (value_of catalogue F l).undo) (redos catalogue F l) holding))
 
   -- ---- a change x of the kind k at the place p, whose old and new text are o and n
-  module _ (j : Bool) (k p : ℕ) (o n : List ℕ) (x : Edit) (d : Numbered x k p o n) (ok : ok_change catalogue (edit x) ≡ true) where
+  module _ (j : Bool) (k : EditKind) (p : ℕ) (o n : List ℕ) (x : Edit) (d : Numbered x k p o n) (ok : ok_change catalogue (edit x) ≡ true) where
     abbrev u : List Change
     u = (value_of catalogue F l).undo
 
@@ -83,7 +86,7 @@ module _ (F : Format) (l : Lent) (h : Ready F l) where
     pub full_texts : length l.texts < l.log.undo.texts + (length o + length n) → refusing
     full_texts a =
         log_full catalogue F l (note j x u) (value_of catalogue F l)
-        (no_texts F x u (note j x u) (noted F j (kind_number x) (place x) (length (old x)) (length (new x)) (tail_of F u)) (put F j x u) (sizes_of l)
+        (no_texts F x u (note j x u) (noted F j (edit_record x) (tail_of F u)) (put F j x u) (sizes_of l)
         (omega (arith, texts-used, lengths)))
 
     module _ (t : Tail) (is-tail : TailFor catalogue F j (take l.log.undo.records l.records) l.log.undo.texts t) where
@@ -98,46 +101,49 @@ module _ (F : Format) (l : Lent) (h : Ready F l) where
           (record {
             records = omega (arith, tail-records F u, records-used, h.hold.room, h.records);
             texts = omega (arith, tail-texts F u, texts-used, h.hold.space, h.texts);
-            place = omega (arith, tail-place F catalogue u good w);
-            within = tail_within F u;
+            newest = IfSome_then (tail_of F u).newest (tail_bounded F catalogue u good)
+                (λ y b. record { place = omega (arith, b.place); within = omega (arith, b.within, tail-texts F u) });
             old = omega (arith, h.texts);
             new = omega (arith, h.texts);
           }))
 
-      module _ (m : Noted) (is-noted : m ≡ noted F j k p (length o) (length n) t) where
+      -- the change by its numbers
+      abbrev noting : EditRecord
+      noting = record { kind = k; place = p; old = length o; new = length n }
+
+      is_noting : edit_record x ≡ noting
+      is_noting = rw (d.kind, d.place, d.old, d.new)
+
+      module _ (m : Noted) (is-noted : m ≡ noted F j noting t) where
         pub is-put : Put F x u (note j x u) m
         is-put =
             subst (λ (z : Noted). Put F x u (note j x u) z)
-            (ap₂ (λ (a b : ℕ). noted F j a b (length (old x)) (length (new x)) (tail_of F u)) d.kind d.place
-            ∙ ap₂ (λ (a b : List ℕ). noted F j k p (length a) (length b) (tail_of F u)) d.old d.new
-            ∙ sym (ap (noted F j k p (length o) (length n)) tail-is ∙ noted_for F j k p (length o) (length n) (tail_of F u)) ∙ sym is-noted)
+            (ap (λ (y : EditRecord). noted F j y (tail_of F u)) is_noting
+            ∙ sym (ap (noted F j noting) tail-is ∙ noted_for F j noting (tail_of F u)) ∙ sym is-noted)
             (put F j x u)
 
-        pub full_records : length l.records < m.tail.records → refusing
+        pub full_records : length l.records < m.records → refusing
         full_records a = log_full catalogue F l (note j x u) (value_of catalogue F l) (no_records F x u (note j x u) m is-put (sizes_of l) a)
 
-        pub full_place : top F.width ≤ m.tail.place → refusing
+        pub full_place : top F.width ≤ m.edit.place → refusing
         full_place a = log_full catalogue F l (note j x u) (value_of catalogue F l) (no_place F x u (note j x u) m is-put (sizes_of l) a)
 
         -- what writing asks
-        pub kind_fits : (3 ≤ m.tail.kind) × (m.tail.kind ≤ 5)
-        kind_fits = subst (λ (i : ℕ). (3 ≤ i) × (i ≤ 5)) (sym (put-kind F x u (note j x u) m is-put)) (kind_low is-put.head)
-
-        pub size_fits : edit_size F m.tail.kind ≤ m.tail.records
+        pub size_fits : edit_size F m.edit.kind ≤ m.records
         size_fits = omega (arith, put-size F x u (note j x u) m is-put)
 
         pub at-fits : m.at ≤ l.log.undo.texts
         at-fits = omega (arith, is-put.at, texts-used)
 
-        pub takes : (rb tb : List ℕ) → l.log.undo.texts + (length o + length n) ≤ length l.texts → m.tail.records ≤ length l.records → m.tail.place < top F.width
+        pub takes : (rb tb : List ℕ) → l.log.undo.texts + (length o + length n) ≤ length l.texts → m.records ≤ length l.records → m.edit.place < top F.width
             → Wrote F m l.log.undo.texts o n l.records l.texts rb tb → length tb ≡ length l.texts
-            → Logged F l (record_out F (sizes_of l) (note j x u) (value_of catalogue F l)) (says 0 (state m.tail.records m.tail.texts 0 0 l.log.level)) rb tb
+            → Logged F l (record_out F (sizes_of l) (note j x u) (value_of catalogue F l)) (says 0 (state m.records m.texts 0 0 l.log.level)) rb tb
         takes rb tb a b c w e =
             let z = put-texts F x u (note j x u) m is-put in
             let w' : Wrote F m l.log.undo.texts (old x) (new x) l.records l.texts rb tb =
             subst (λ (s : List ℕ). Wrote F m l.log.undo.texts s (new x) l.records l.texts rb tb) (sym d.old)
             (subst (λ (s : List ℕ). Wrote F m l.log.undo.texts o s l.records l.texts rb tb) (sym d.new) w) in
-            log_takes catalogue F l (note j x u) (value_of catalogue F l) rb tb m.tail.records m.tail.texts
+            log_takes catalogue F l (note j x u) (value_of catalogue F l) rb tb m.records m.texts
             (room_yes F x u (note j x u) m is-put (sizes_of l) catalogue good ok c (omega (arith, h.texts, h.fit.lengths)) b (omega (arith, z, texts-used, lengths)))
             (put_holds catalogue F l.records l.texts rb tb l.log.undo.records l.log.undo.texts l.log.redo.records
             l.log.redo.texts x u (redos catalogue F l) (note j x u) m holding is-put ok w'

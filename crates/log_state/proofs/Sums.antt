@@ -2,7 +2,7 @@
 use mathlib.Core.Path.{◌≡◌, sym, ap, ap₂, ◌∙◌}
 use mathlib.Core.Bool.{Bool, cond}
 use mathlib.Core.List.{List}
-use Prim.Native.Nat.{ℕ, ◌+◌, ◌-◌, ◌≤◌}
+use Prim.Native.Nat.{ℕ, ◌+◌, ◌-◌, ◌≤◌, min}
 use native.Mathlib.Omega.{arith}
 use borrow.Author.Tests.{lt-ltb, le-ltb}
 use lib.Dec.{ltb}
@@ -18,11 +18,12 @@ over_sum len a b h =
     by_less _ (len - a) b (λ l. lt-ltb (len - a) b l ∙ sym (lt-ltb len (a + b) (omega arith)))
     (λ l. le-ltb (len - a) b l ∙ sym (le-ltb len (a + b) (omega arith)))
 
--- a number lowered by another, never below 0
-pub lowered : (n a m : ℕ) → m ≡ cond (ltb a n) a n → (m ≤ n) × (n - m ≡ n - a)
-lowered n a m e =
-    by_less _ a n (λ l. let f : m ≡ a = e ∙ rw (lt-ltb a n l) in (omega arith, omega arith))
-    (λ l. let f : m ≡ n = e ∙ rw (le-ltb a n l) in (omega arith, omega arith))
+-- the lesser of two numbers
+pub least_is : (a b m : ℕ) → m ≡ min a b → m ≡ cond (ltb a b) a b
+least_is a b m e =
+    by_less _ a b
+    (λ h. let f : m ≡ a = omega arith in f ∙ sym (rw (lt-ltb a b h)))
+    (λ h. let f : m ≡ b = omega arith in f ∙ sym (rw (le-ltb a b h)))
 
 -- the part from a to a + n
 part-sum : (a n : ℕ) (l : List ℕ) → take (a + n - a) (drop a l) ≡ take n (drop a l)

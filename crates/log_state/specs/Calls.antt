@@ -14,7 +14,14 @@ use Rattle.log_model.specs.Recording.{record_insert, record_insert_str, record_d
 use Rattle.log_model.specs.Holds.{Holds}
 use Rattle.log_model.specs.Groups as groups
 use Rattle.log_model.specs.UndoBytes.{Sizes}
-use Rattle.log_records.specs.Records.{kind_number}
+use Rattle.std.specs.Prelude as std
+use Rattle.log_records.specs.declared.EditKind.{EditKind}
+use Rattle.log_records.specs.declared.EditKind.TheVariants.{Insert, Delete, Replace}
+use Rattle.log_records.specs.declared.Kind.{Kind}
+use Rattle.log_records.specs.declared.Kind.TheVariants.{Begin, End}
+use Rattle.log_records.specs.declared.Kind.TheVariants.{Edit as Kind·Edit}
+use Rattle.log_records.specs.declared.Record.{Record}
+use Rattle.log_records.specs.Records.{edit_kind}
 use Rattle.log_state.specs.declared.Log.{Log}
 use Rattle.log_state.specs.declared.Used.{Used}
 use Rattle.log_state.specs.declared.LogAnswer.{LogAnswer}
@@ -129,12 +136,25 @@ pub record Ready (F : Format) (l : Lent) : Type 0 where
   pub hold : Holds catalogue F l.records l.texts l.log.undo.records l.log.undo.texts l.log.redo.records l.log.redo.texts
       (undos catalogue F l) (redos catalogue F l)
 
--- ---- an edit by its numbers and texts: 3 Insert, 4 Delete, 5 Replace
-abbrev pub edit_of : ℕ → ℕ → List ℕ → List ℕ → Edit
-edit_of k p o n = cond (eqb k 3) (insert p n) (cond (eqb k 4) (delete p o) (replace p o n))
+-- ---- an edit by its kind, its place and its texts
+abbrev pub edit_of : EditKind → ℕ → List ℕ → List ℕ → Edit
+edit_of Insert p o n = insert p n
+edit_of Delete p o n = delete p o
+edit_of Replace p o n = replace p o n
 
-pub record Numbered (x : Edit) (k p : ℕ) (o n : List ℕ) : Type 0 where
-  pub kind : kind_number x ≡ k
+pub record Numbered (x : Edit) (k : EditKind) (p : ℕ) (o n : List ℕ) : Type 0 where
+  pub kind : edit_kind x ≡ k
   pub place : place x ≡ p
   pub old : old x ≡ o
   pub new : new x ≡ n
+
+-- the length of the text that a record put in, an Insert or a Replace
+abbrev pub new_in : Kind → ℕ → std.Option ℕ
+new_in Begin n = std.None
+new_in End n = std.None
+new_in (Kind·Edit Insert) n = std.Some n
+new_in (Kind·Edit Delete) n = std.None
+new_in (Kind·Edit Replace) n = std.Some n
+
+abbrev pub put_in : Record → std.Option ℕ
+put_in r = new_in r.kind r.new

@@ -2,11 +2,13 @@
 // lent log, and what is done with one that they pass, in any format of its records.
 #![tactic(auto)]
 
-ghost use Rattle.std.specs.Prelude.{◌≡◌, true, false, cond, not, List, reverse, ℕ, ◌+◌, ◌-◌, ◌≤◌, ◌<◌, ltb, length, take, drop};
+ghost use Rattle.std.specs.Prelude.{◌≡◌, true, false, not, List, reverse, ℕ, ◌+◌, ◌-◌, ◌≤◌, ◌<◌, ltb, length, take, drop};
+ghost use Rattle.std.specs.Prelude.{is_some, IfSome, IfOk, OnOk};
 ghost use Rattle.repertoire.specs.Repertoire.{catalogue};
 ghost use Rattle.repertoire.specs.Text.{is_text};
 ghost use Rattle.cluster.specs.Clusters.{clusters_of};
 ghost use Rattle.checks.specs.Checks.{refusal as Checks·refusal, both, own_tests};
+ghost use Rattle.checks.specs.Refused.{number_of, refused_by};
 ghost use Rattle.log_model.specs.Change.{Change, edit};
 ghost use Rattle.log_model.specs.UndoBytes.{undo_records};
 ghost use Rattle.log_model.specs.Holds.{Listed};
@@ -17,18 +19,21 @@ ghost use Rattle.log_model.specs.Recording.{note, is_single};
 ghost use Rattle.formats.specs.Formats.{Fit, records_max};
 ghost use Rattle.log_state.specs.Logs.{over_sizes, damaged, log_tests};
 ghost use Rattle.log_state.specs.Outcomes.{begin_out, end_out, record_out, truncate_out, last_insert_out};
-ghost use Rattle.log_state.specs.Calls.{lent, sizes_of, value_of, says as Calls·says, Logged, Ready, edit_of, Numbered, answer_of};
+ghost use Rattle.log_state.specs.Calls.{lent, sizes_of, value_of, says as Calls·says, Logged, Ready, edit_of, Numbered, answer_of, put_in};
 
 use buffer::{cut_bytes, fill};
+use checks::Refused;
 use cluster::next_cluster;
 use formats::Format;
 use log_recording::{tail_for, write_noted};
-use log_records::{Looked, Newest, check_list, read_record, walk};
+use log_records::{
+    BEGIN, END, EditKind, EditRecord, Kind, Newest, Record, check_list, read_record, walk,
+};
 use numbers::top_of;
 
 // The used lengths of a list in the two buffers.
 #[repr(C)]
-#[derive(Clone, Copy)]
+#[derive(Clone, Copy, Default)]
 pub struct Used {
     pub records: usize,
     pub texts: usize,
@@ -36,7 +41,7 @@ pub struct Used {
 
 // The used lengths of the two lists and the group level.
 #[repr(C)]
-#[derive(Clone, Copy)]
+#[derive(Clone, Copy, Default)]
 pub struct Log {
     pub undo: Used,
     pub redo: Used,
@@ -71,28 +76,26 @@ pub fn over_sizes(f: Format, records: &[u8], texts: &[u8], log: Log) -> bool
     is_over(texts.len(), u.texts, r.texts)
 }
 
-// Check 8 of a lent log that check 2 passes, and what stands at the end of its undo list.
-pub fn look(f: Format, records: &[u8], texts: &[u8], log: Log) -> Looked
+// Check 8 of a lent log that check 2 passes: what stands at the end of its undo list.
+pub fn look(f: Format, records: &[u8], texts: &[u8], log: Log) -> Option<Newest>
     requires fit { Fit f }
     requires records_in_bounds { (log.undo.records + log.redo.records ≤ length records.now) × (log.undo.texts + log.redo.texts ≤ length texts.now) }
-    ensures sound { result.sound ≡ not (damaged catalogue f log records.now texts.now) }
-    ensures newest { result.sound ≡ true → NewestAt catalogue f (take log.undo.records records.now) result.newest }
+    ensures sound { is_some result ≡ not (damaged catalogue f log records.now texts.now) }
+    ensures newest { IfSome result (λ n. NewestAt catalogue f (take log.undo.records records.now) n) }
 {
-    let u = log.undo;
-    let r = log.redo;
-    let ur = u.records;
-    let ut = u.texts;
-    let undo = check_list(f, &records[..ur], &texts[..ut]);
-    let re = ur + r.records;
-    let te = ut + r.texts;
-    let redo = check_list(f, &records[ur..re], &texts[ut..te]);
-    let newest = undo.newest;
-    Looked {
-        sound: (log.level <= 255) & (undo.sound & redo.sound),
-        newest,
+    if 255 < log.level {
+        return None;
     }
+    let ur = log.undo.records;
+    let ut = log.undo.texts;
+    let newest = check_list(f, &records[..ur], &texts[..ut])?;
+    let re = ur + log.redo.records;
+    let te = ut + log.redo.texts;
+    check_list(f, &records[ur..re], &texts[ut..te])?;
+    Some(newest)
 }
 
+// As a LineAnswer, with the log in place of the line. C reads it.
 #[repr(C)]
 #[derive(Clone, Copy)]
 pub struct LogAnswer {
@@ -114,48 +117,37 @@ pub fn says(number: u32, log: Log) -> LogAnswer
     }
 }
 
-// The number of the first check that a lent log meets, 0 where they pass; then also what stands at the end of its undo list.
-#[derive(Clone, Copy)]
-pub struct Checked {
-    pub number: u32,
-    pub newest: Newest,
-}
-
 // A check refuses.
-pub fn refused(number: u32) -> Checked
-    ensures { result.number ≡ number }
+pub fn refused(why: Refused, log: Log) -> LogAnswer
+    ensures { result ≡ Calls·says (number_of why) log }
 {
-    Checked {
-        number,
-        newest: Newest {
-            count: 0,
-            last: 0,
-            begins: 0,
-            begun: 0,
-            inside: 0,
-        },
-    }
+    says(why.into(), log)
 }
 
-// Checks 2, 4 and 8 of a lent log. `foreign` says that an argument is outside the repertoire.
-pub fn check(f: Format, records: &[u8], texts: &[u8], log: Log, foreign: bool) -> Checked
+// Checks 2, 4 and 8 of a lent log, and what stands at the end of its undo list. `foreign` says that an argument is outside the
+// repertoire.
+pub fn check(
+    f: Format,
+    records: &[u8],
+    texts: &[u8],
+    log: Log,
+    foreign: bool,
+) -> Result<Newest, Refused>
     requires { Fit f }
-    ensures number { result.number ≡ Checks·refusal (both (log_tests catalogue f log records.now texts.now) (own_tests false foreign false)) }
-    ensures ready { result.number ≡ 0 → Ready f (lent records.now texts.now log) }
-    ensures newest { result.number ≡ 0 → NewestAt catalogue f (take log.undo.records records.now) result.newest }
+    ensures number { refused_by result ≡ Checks·refusal (both (log_tests catalogue f log records.now texts.now) (own_tests false foreign false)) }
+    ensures ready { OnOk result (Ready f (lent records.now texts.now log)) }
+    ensures newest { IfOk result (λ n. NewestAt catalogue f (take log.undo.records records.now) n) }
 {
     if over_sizes(f, records, texts, log) {
-        return refused(2);
+        return Err(Refused::Sizes);
     }
     if foreign {
-        return refused(4);
+        return Err(Refused::Foreign);
     }
-    let seen = look(f, records, texts, log);
-    if !seen.sound {
-        return refused(8);
+    match look(f, records, texts, log) {
+        Some(newest) => Ok(newest),
+        None => Err(Refused::Damaged),
     }
-    let newest = seen.newest;
-    Checked { number: 0, newest }
 }
 
 // single_char: is the text one cluster, all alphanumeric?
@@ -165,13 +157,6 @@ pub fn is_single(s: &[u8]) -> bool
 {
     let c = next_cluster(s);
     (0 < s.len()) & (c.len == s.len()) & c.alnum
-}
-
-// The lesser of two numbers.
-fn least(a: usize, b: usize) -> usize
-    ensures { result ≡ cond (ltb a b) a b }
-{
-    if a < b { a } else { b }
 }
 
 // Where a list ends without its newest records, all of them Begins: so many, of those that stand last.
@@ -193,45 +178,44 @@ fn end_of(f: Format, records: &[u8], newest: Newest, dropped: usize) -> usize
     kept.records
 }
 
+// The length of the text that a record put in, an Insert or a Replace.
+fn put_in(r: Record) -> Option<usize>
+    ensures { result ≡ put_in r }
+{
+    match r.kind {
+        Kind::Edit(EditKind::Insert) | Kind::Edit(EditKind::Replace) => Some(r.new),
+        Kind::Edit(EditKind::Delete) | Kind::Begin | Kind::End => None,
+    }
+}
+
 impl Log {
     // Wrong answers ruled out: a level left raised; a used length that is not 0.
     pub fn new() -> Log
         ensures { result ≡ record { undo = record { records = 0; texts = 0 }; redo = record { records = 0; texts = 0 }; level = 0 } }
     {
-        let none = Used {
-            records: 0,
-            texts: 0,
-        };
-        Log {
-            undo: none,
-            redo: none,
-            level: 0,
-        }
+        Log::default()
     }
 
     // The redo list dropped: undo.rs clears it before it looks at what is to be recorded.
     pub fn drop_redo(mut self) -> Log
         ensures { result ≡ record { undo = self.undo; redo = record { records = 0; texts = 0 }; level = self.level } }
     {
-        let empty = Used {
-            records: 0,
-            texts: 0,
-        };
-        self.redo = empty;
+        self.redo = Used::default();
         self
     }
 
     // The undo list with these used lengths, and no redo list.
-    fn only_undo(mut self, records: usize, texts: usize) -> Log
+    fn only_undo(self, records: usize, texts: usize) -> Log
         ensures { result ≡ record { undo = record { records = records; texts = texts }; redo = record { records = 0; texts = 0 }; level = self.level } }
     {
-        let used = Used { records, texts };
-        self.undo = used;
-        self.drop_redo()
+        Log {
+            undo: Used { records, texts },
+            ..self.drop_redo()
+        }
     }
 
     // The seam between the two lists moved: the undo list ends there, and the redo list begins there.
-    pub fn move_seam(mut self, records: usize, texts: usize) -> Log
+    pub fn move_seam(self, records: usize, texts: usize) -> Log
         requires records_bound { (records ≤ self.undo.records + self.redo.records) × (self.undo.records + self.redo.records < 4294967296) }
         requires texts_bound { (texts ≤ self.undo.texts + self.redo.texts) × (self.undo.texts + self.redo.texts < 4294967296) }
         ensures { result ≡ record {
@@ -241,16 +225,14 @@ impl Log {
           level = self.level;
         } }
     {
-        let u = self.undo;
-        let d = self.redo;
-        let behind = Used {
-            records: u.records + d.records - records,
-            texts: u.texts + d.texts - texts,
-        };
-        let used = Used { records, texts };
-        self.undo = used;
-        self.redo = behind;
-        self
+        Log {
+            undo: Used { records, texts },
+            redo: Used {
+                records: self.undo.records + self.redo.records - records,
+                texts: self.undo.texts + self.redo.texts - texts,
+            },
+            level: self.level,
+        }
     }
 
     // cancel: no redo list, and the level lowered by the Begins dropped, never below 0.
@@ -259,12 +241,12 @@ impl Log {
     {
         let level = self.level;
         self = self.drop_redo();
-        self.level = level - least(begins, level);
+        self.level = level.saturating_sub(begins);
         self
     }
 
-    // A change recorded, by its kind 3, 4 or 5, its place, its old and its new text: merged where it may be and follows. The newest
-    // record begins at last.
+    // A change recorded, by its kind, its place, its old and its new text: merged where it may be and follows. The newest record
+    // begins at last.
     pub fn record(
         self,
         f: Format,
@@ -272,7 +254,7 @@ impl Log {
         texts: &mut [u8],
         last: usize,
         joins: bool,
-        kind: usize,
+        kind: EditKind,
         place: usize,
         old: &[u8],
         new: &[u8],
@@ -288,27 +270,31 @@ impl Log {
             (value_of catalogue f (lent records.old texts.old self)))
             result records.new texts.new }
     {
-        let u = self.undo;
-        let ur = u.records;
-        let ut = u.texts;
+        let ur = self.undo.records;
+        let ut = self.undo.texts;
         let space = texts.len() - ut;
         if space < old.len() {
-            return says(10, self);
+            return refused(Refused::LogFull, self);
         }
         if space - old.len() < new.len() {
-            return says(10, self);
+            return refused(Refused::LogFull, self);
         }
         let tail = tail_for(f, joins, &records[..ur], last, ut);
-        let n = tail.note(f, joins, kind, place, old.len(), new.len());
-        let t = n.tail;
-        if records.len() < t.records {
-            return says(10, self);
+        let edit = EditRecord {
+            kind,
+            place,
+            old: old.len(),
+            new: new.len(),
+        };
+        let n = tail.note(f, joins, edit);
+        if records.len() < n.records {
+            return refused(Refused::LogFull, self);
         }
-        if top_of(f.width) <= t.place {
-            return says(10, self);
+        if top_of(f.width) <= n.edit.place {
+            return refused(Refused::LogFull, self);
         }
         write_noted(f, records, texts, ut, n, old, new);
-        says(0, self.only_undo(t.records, t.texts))
+        says(0, self.only_undo(n.records, n.texts))
     }
 
     // begin on a log that the checks pass.
@@ -320,23 +306,20 @@ impl Log {
             (begin_out f (sizes_of (lent records.old texts.now self)) (value_of catalogue f (lent records.old texts.now self)))
             result records.new texts.now }
     {
-        let u = self.undo;
-        let ur = u.records;
-        let ut = u.texts;
-        let level = self.level;
-        if 255 <= level {
-            return says(10, self);
+        let ur = self.undo.records;
+        if 255 <= self.level {
+            return refused(Refused::LogFull, self);
         }
         if records.len() <= ur {
-            return says(10, self);
+            return refused(Refused::LogFull, self);
         }
-        records[ur] = 1;
-        self.level = level + 1;
+        records[ur] = BEGIN;
+        self.level += 1;
         LogAnswer {
             number: 0,
             from: newest.count,
             to: 0,
-            log: self.only_undo(ur + 1, ut),
+            log: self.only_undo(ur + 1, self.undo.texts),
         }
     }
 
@@ -349,19 +332,17 @@ impl Log {
             (end_out f (sizes_of (lent records.old texts.now self)) (value_of catalogue f (lent records.old texts.now self)))
             result records.new texts.now }
     {
-        let u = self.undo;
-        let ur = u.records;
-        let ut = u.texts;
+        let ur = self.undo.records;
         let level = self.level;
-        let empty = least(newest.begins, level);
+        let empty = newest.begins.min(level);
         let ends = level - empty;
         let kept = end_of(f, &records[..ur], newest, empty);
         if records.len() - kept < ends {
-            return says(10, self);
+            return refused(Refused::LogFull, self);
         }
-        fill(records, kept, ends, 2);
+        fill(records, kept, ends, END);
         self.level = 0;
-        let log = self.only_undo(kept + ends, ut);
+        let log = self.only_undo(kept + ends, self.undo.texts);
         if ends == 0 {
             return says(1, log);
         }
@@ -382,18 +363,15 @@ impl Log {
             (truncate_out len (value_of catalogue f (lent records.old texts.old self)))
             result records.new texts.new }
     {
-        let u = self.undo;
-        let d = self.redo;
-        let ur = u.records;
-        let ut = u.texts;
+        let ur = self.undo.records;
+        let ut = self.undo.texts;
         let kept = walk(f, &records[..ur], len);
-        cut_bytes(records, ur + d.records, kept.records, ur);
-        cut_bytes(texts, ut + d.texts, kept.texts, ut);
-        let used = Used {
+        cut_bytes(records, ur + self.redo.records, kept.records, ur);
+        cut_bytes(texts, ut + self.redo.texts, kept.texts, ut);
+        self.undo = Used {
             records: kept.records,
             texts: kept.texts,
         };
-        self.undo = used;
         says(0, self)
     }
 
@@ -405,18 +383,16 @@ impl Log {
         ensures { result ≡ answer_of f (lent records.now texts.now self)
             (last_insert_out (value_of catalogue f (lent records.now texts.now self))) }
     {
-        let u = self.undo;
-        let ur = u.records;
-        let ut = u.texts;
-        let r = read_record(f, &records[..ur], newest.inside);
-        if (r.kind == 3) | (r.kind == 5) {
-            return LogAnswer {
+        let ur = self.undo.records;
+        let ut = self.undo.texts;
+        match read_record(f, &records[..ur], newest.inside).and_then(put_in) {
+            Some(size) => LogAnswer {
                 number: 0,
-                from: ut - r.new,
+                from: ut - size,
                 to: ut,
                 log: self,
-            };
+            },
+            None => says(1, self),
         }
-        says(1, self)
     }
 }

@@ -2,12 +2,13 @@
 use mathlib.Core.Path.{◌≡◌, sym, ap, subst, ◌∙◌}
 use mathlib.Core.Bool.{true}
 use mathlib.Core.List.{List, [], ◌∷◌, ◌++◌, append_assoc}
-use Prim.Native.Nat.{ℕ, ◌+◌, ◌-◌, ◌^◌, ◌<◌, ◌≤◌}
+use Prim.Native.Nat.{ℕ, ◌+◌, ◌-◌, ◌≤◌}
 use native.Mathlib.Omega.{arith}
 use borrow.Author.Tests.{eqb-true}
 use lib.Dec.{eqb}
 use lib.ListN.{length, take, drop, length-drop, drop_of_length-le}
 use lib.Seq.{length-take-le}
+use Rattle.std.specs.Prelude.{Option, None, Some}
 use Rattle.lists.proofs.Bools.{by_test, by_less}
 use Rattle.lists.proofs.Every.{Every, every_weaken, every_take, every_reverse}
 use Rattle.utf8.specs.Chars.{chars_from, chars, valid, boundary}
@@ -18,9 +19,7 @@ use Rattle.repertoire.specs.Repertoire.{Repertoire}
 use Rattle.cluster.specs.Clusters.{clusters, bytes, first_size}
 use Rattle.cluster.proofs.Facts.{bytes-append}
 use Rattle.cluster.proofs.Parts.{cut_chars, first-cut}
-use Rattle.motion.specs.Search.{matches, last_found, nth_match, after_cluster, match_forward, match_backward, FitsBehind}
-use Rattle.motion.specs.declared.Found.{Found}
-use Rattle.motion.specs.declared.Found.TheVariants.{At, Nothing}
+use Rattle.motion.specs.Search.{matches, last_found, nth_match, after_cluster, match_forward, match_backward}
 
 -- c stands at p among the characters cs, the first of which stands at the place at
 record Match (c at : ℕ) (cs : List ℕ) (p : ℕ) : Type 0 where
@@ -46,14 +45,14 @@ matches_every c at (d ∷ cs) =
     (λ e. rw e h)
 
 -- what is found is one of the places
-every_found : (P : ℕ → Type 0) (f : Found) (ps : List ℕ) (p : ℕ) → Every P ps → last_found f ps ≡ At p → (f ≡ At p → P p) → P p
+every_found : (P : ℕ → Type 0) (f : Option ℕ) (ps : List ℕ) (p : ℕ) → Every P ps → last_found f ps ≡ Some p → (f ≡ Some p → P p) → P p
 every_found P f [] p h e k = k e
-every_found P f (q ∷ ps) p h e k = every_found P (At q) ps p h.1 e (λ s. let z : q ≡ p = cc in subst P z h.0)
+every_found P f (q ∷ ps) p h e k = every_found P (Some q) ps p h.1 e (λ s. let z : q ≡ p = cc in subst P z h.0)
 
-nth_found : (P : ℕ → Type 0) (n : ℕ) (ps : List ℕ) (p : ℕ) → Every P ps → nth_match n ps ≡ At p → P p
+nth_found : (P : ℕ → Type 0) (n : ℕ) (ps : List ℕ) (p : ℕ) → Every P ps → nth_match n ps ≡ Some p → P p
 unfolding nth_match
 nth_found P n ps p h e =
-    every_found P Nothing (take n ps) p (every_take P n ps h) e (λ s. let o : ◌≡◌ {A = ℕ} 0 1 = cc in absurd (omega arith))
+    every_found P None (take n ps) p (every_take P n ps h) e (λ s. let o : ◌≡◌ {A = ℕ} 0 1 = cc in absurd (omega arith))
 
 -- as many bytes as the character c has fit at p of s, and both their ends are boundaries
 pub record Stands (s : List ℕ) (c p : ℕ) : Type 0 where
@@ -73,7 +72,7 @@ stands t c p v m =
     record { fits = omega arith; at-boundary = ap (boundary t) w ∙ z.at-boundary; behind = ap (boundary t) (sym b) ∙ x.at-boundary }
 
 -- ---- backward: among the characters before pos
-pub backward_stands : (s : List ℕ) (pos c n p : ℕ) → boundary s pos ≡ true → pos ≤ length s → match_backward s pos c n ≡ At p →
+pub backward_stands : (s : List ℕ) (pos c n p : ℕ) → boundary s pos ≡ true → pos ≤ length s → match_backward s pos c n ≡ Some p →
     (p + size c ≤ pos) × Stands s c p
 unfolding match_backward
 backward_stands s pos c n p b h e =
@@ -90,11 +89,6 @@ backward_stands s pos c n p b h e =
         behind = boundary-take s pos (p + size c) g ∙ z.behind;
       },
     )
-
-pub backward_fits : (s : List ℕ) (pos c n : ℕ) (f : Found) → boundary s pos ≡ true → pos ≤ length s → length s < 2 ^ 64 →
-    f ≡ match_backward s pos c n → FitsBehind (size c) f
-backward_fits s pos c n (At p) b h l e = let g = (backward_stands s pos c n p b h (sym e)).0 in omega arith
-backward_fits s pos c n Nothing b h l e = tt
 
 -- behind the cursor's cluster
 after-place : (R : Repertoire) (s : List ℕ) (pos : ℕ) → valid s ≡ true → boundary s pos ≡ true → pos ≤ length s →
@@ -119,7 +113,7 @@ shifted : (c at : ℕ) (cs : List ℕ) (p : ℕ) → Match c at cs p → (at ≤
 shifted c at cs p m = let k = m.spot in (omega arith, record { front = m.front; back = m.back; parts = m.parts; spot = omega arith })
 
 pub forward-stands : (R : Repertoire) (s : List ℕ) (pos c n p : ℕ) → valid s ≡ true → boundary s pos ≡ true → pos ≤ length s →
-    match_forward R s pos c n ≡ At p → (pos ≤ p) × Stands s c p
+    match_forward R s pos c n ≡ Some p → (pos ≤ p) × Stands s c p
 unfolding match_forward
 forward-stands R s pos c n p v b h e =
     let a = after-place R s pos v b h in

@@ -7,6 +7,8 @@ use native.Mathlib.Omega.{arith}
 use lib.Dec.{eqb, leb}
 use lib.ListN.{length, take, drop, length-drop}
 use lib.Seq.{length-take-le}
+use Rattle.std.specs.Prelude.{Option, None, Some}
+use Rattle.std.specs.Option.{option_map}
 use Rattle.lists.specs.Lists.{all, sum, concat}
 use Rattle.lists.proofs.Bools.{by_less, by_test}
 use Rattle.utf8.specs.Chars.{chars, valid, boundary, start_before}
@@ -22,9 +24,7 @@ use Rattle.keymap.specs.declared.CharSearch.{CharSearch}
 use Rattle.keymap.specs.declared.CharSearch.TheVariants.{Forward, ForwardBefore, Backward, BackwardAfter}
 use Rattle.motion.specs.Steps.{sizes, next_pos, prev_pos}
 use Rattle.motion.specs.Trim.{first_alnum, skip_whitespace}
-use Rattle.motion.specs.Search.{match_forward, match_backward, moved, search_char_pos}
-use Rattle.motion.specs.declared.Found.{Found}
-use Rattle.motion.specs.declared.Found.TheVariants.{At, Nothing}
+use Rattle.motion.specs.Search.{match_forward, match_backward, search_char_pos}
 use Rattle.motion.proofs.Matches.{forward-stands, backward_stands}
 
 -- ---- a text cut between two of its clusters
@@ -47,11 +47,11 @@ sizes-place R t n v =
     rw (sum_first n ks) (c.fits, c.at-boundary)
 
 -- ---- steps
-pub second_at : (t : Bool) (x p : ℕ) → cond t Nothing (At x) ≡ At p → (t ≡ false) × (x ≡ p)
+pub second_at : (t : Bool) (x p : ℕ) → cond t None (Some x) ≡ Some p → (t ≡ false) × (x ≡ p)
 second_at true x p e = let z : ◌≡◌ {A = ℕ} 0 1 = cc in absurd (omega arith)
 second_at false x p e = (refl, cc)
 
-pub next_pos_place : (R : Repertoire) (s : List ℕ) (pos n p : ℕ) → valid s ≡ true → boundary s pos ≡ true → pos ≤ length s → next_pos R s pos n ≡ At p →
+pub next_pos_place : (R : Repertoire) (s : List ℕ) (pos n p : ℕ) → valid s ≡ true → boundary s pos ≡ true → pos ≤ length s → next_pos R s pos n ≡ Some p →
     (pos ≤ p) × (p ≤ length s) × (boundary s p ≡ true)
 unfolding next_pos
 next_pos_place R s pos n p v b h e =
@@ -61,7 +61,7 @@ next_pos_place R s pos n p v b h e =
     let l : j ≤ length s - pos = rw length-drop at c.0 in
     (omega arith, omega arith, ap (boundary s) (sym q) ∙ boundary-drop s pos j b ∙ c.1)
 
-pub prev_pos_place : (R : Repertoire) (s : List ℕ) (pos n p : ℕ) → valid s ≡ true → boundary s pos ≡ true → pos ≤ length s → prev_pos R s pos n ≡ At p →
+pub prev_pos_place : (R : Repertoire) (s : List ℕ) (pos n p : ℕ) → valid s ≡ true → boundary s pos ≡ true → pos ≤ length s → prev_pos R s pos n ≡ Some p →
     (p ≤ pos) × (boundary s p ≡ true)
 unfolding prev_pos
 prev_pos_place R s pos n p v b h e =
@@ -73,9 +73,9 @@ prev_pos_place R s pos n p v b h e =
     (l, boundary-take s pos p l ∙ c.1)
 
 -- ---- searches
-at_moved : (P : ℕ → Type 0) (g : ℕ → ℕ) (f : Found) (p : ℕ) → moved g f ≡ At p → ((q : ℕ) → f ≡ At q → P (g q)) → P p
-at_moved P g (At q) p e k = let z : g q ≡ p = cc in subst P z (k q refl)
-at_moved P g Nothing p e k = let z : ◌≡◌ {A = ℕ} 0 1 = cc in absurd (omega arith)
+at_moved : (P : ℕ → Type 0) (g : ℕ → ℕ) (f : Option ℕ) (p : ℕ) → option_map g f ≡ Some p → ((q : ℕ) → f ≡ Some q → P (g q)) → P p
+at_moved P g (Some q) p e k = let z : g q ≡ p = cc in subst P z (k q refl)
+at_moved P g None p e k = let z : ◌≡◌ {A = ℕ} 0 1 = cc in absurd (omega arith)
 
 -- where the character before a boundary starts; 0 where there is none
 start-place : (s : List ℕ) (i : ℕ) → valid s ≡ true → boundary s i ≡ true → i ≤ length s →
@@ -85,12 +85,12 @@ start-place s i v b h =
     by_less _ 0 i (λ g. (omega arith, (start-before s i v b g h).start))
     (λ g. (omega arith, ap (boundary s) (start_none s i g) ∙ boundary-zero s))
 
-forward-place : (R : Repertoire) (s : List ℕ) (pos c n p : ℕ) → valid s ≡ true → boundary s pos ≡ true → pos ≤ length s → match_forward R s pos c n ≡ At p →
+forward-place : (R : Repertoire) (s : List ℕ) (pos c n p : ℕ) → valid s ≡ true → boundary s pos ≡ true → pos ≤ length s → match_forward R s pos c n ≡ Some p →
     (p ≤ length s) × (boundary s p ≡ true)
 forward-place R s pos c n p v b h e = let z = (forward-stands R s pos c n p v b h e).1 in let f = z.fits in (omega arith, z.at-boundary)
 
 pub search-place : (R : Repertoire) (s : List ℕ) (pos : ℕ) (cs : CharSearch) (n p : ℕ) → valid s ≡ true → boundary s pos ≡ true → pos ≤ length s →
-    search_char_pos R s pos cs n ≡ At p → (p ≤ length s) × (boundary s p ≡ true)
+    search_char_pos R s pos cs n ≡ Some p → (p ≤ length s) × (boundary s p ≡ true)
 search-place R s pos (Forward c) n p v b h e = forward-place R s pos c n p v b h e
 search-place R s pos (ForwardBefore c) n p v b h e =
     at_moved (λ i. (i ≤ length s) × (boundary s i ≡ true)) (start_before s) (match_forward R s pos c n) p e
@@ -104,22 +104,22 @@ search-place R s pos (BackwardAfter c) n p v b h e =
     (λ q f. let z = (backward_stands s pos c n q b h f).1 in (z.fits, z.behind))
 
 -- the cluster that is found starts behind some of the clusters
-alnum-sum : (R : Repertoire) (at p : ℕ) (ks : List (List ℕ)) → first_alnum R at ks ≡ At p → (n : ℕ) × (p ≡ at + sum (take n (map bytes ks)))
+alnum-sum : (R : Repertoire) (at p : ℕ) (ks : List (List ℕ)) → first_alnum R at ks ≡ Some p → (n : ℕ) × (p ≡ at + sum (take n (map bytes ks)))
 unfolding first_alnum
 alnum-sum R at p [] e = let o : ◌≡◌ {A = ℕ} 0 1 = cc in absurd (omega arith)
 alnum-sum R at p (k ∷ ks) e =
     by_test _ (all R.alnum k)
     (λ a.
-    let f : At at ≡ At p = sym (rw a) ∙ e in
+    let f : Some at ≡ Some p = sym (rw a) ∙ e in
     let q : at ≡ p = cc in
     (0, omega arith))
     (λ a.
-    let f : first_alnum R (at + bytes k) ks ≡ At p = sym (rw a) ∙ e in
+    let f : first_alnum R (at + bytes k) ks ≡ Some p = sym (rw a) ∙ e in
     let r = alnum-sum R (at + bytes k) p ks f in
     let q = r.1 in
     (suc r.0, omega arith))
 
-pub skip_place : (R : Repertoire) (s : List ℕ) (pos p : ℕ) → valid s ≡ true → boundary s pos ≡ true → pos ≤ length s → skip_whitespace R s pos ≡ At p →
+pub skip_place : (R : Repertoire) (s : List ℕ) (pos p : ℕ) → valid s ≡ true → boundary s pos ≡ true → pos ≤ length s → skip_whitespace R s pos ≡ Some p →
     (pos ≤ p) × (p ≤ length s) × (boundary s p ≡ true)
 unfolding skip_whitespace sizes
 skip_place R s pos p v b h e =

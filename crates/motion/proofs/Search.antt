@@ -8,6 +8,7 @@ use borrow.Author.Tests.{eq-eqb, ne_eqb}
 use lib.Dec.{eqb}
 use lib.ListN.{length, take, drop}
 use lib.Seq.{drop-drop, length-take-le}
+use Rattle.std.specs.Prelude.{Option, Some}
 use Rattle.utf8.specs.Utf8.{char, bad, first}
 use Rattle.utf8.specs.Chars.{chars_from, chars, EndsAt}
 use Rattle.utf8.specs.Encode.{size}
@@ -16,22 +17,20 @@ use Rattle.utf8.proofs.Ends.{chars-before}
 use Rattle.cluster.specs.Clusters.{bytes}
 use Rattle.cluster.proofs.Parts.{bytes-all}
 use Rattle.motion.specs.Search.{matches, last_found}
-use Rattle.motion.specs.declared.Found.{Found}
-use Rattle.motion.specs.declared.Found.TheVariants.{At}
 
 -- nothing is left to find
-pub found_zero : (f : Found) (ps : List ℕ) (left : ℕ) → left ≡ 0 → last_found f (take left ps) ≡ f
+pub found_zero : (f : Option ℕ) (ps : List ℕ) (left : ℕ) → left ≡ 0 → last_found f (take left ps) ≡ f
 found_zero f ps left z = rw z
 
-found_none : (f : Found) (left : ℕ) → last_found f (take left []) ≡ f
+found_none : (f : Option ℕ) (left : ℕ) → last_found f (take left []) ≡ f
 found_none f zero = refl
 found_none f (suc n) = refl
 
-found_more : (f : Found) (p : ℕ) (ps : List ℕ) (left : ℕ) → 0 < left → last_found f (take left (p ∷ ps)) ≡ last_found (At p) (take (left - 1) ps)
+found_more : (f : Option ℕ) (p : ℕ) (ps : List ℕ) (left : ℕ) → 0 < left → last_found f (take left (p ∷ ps)) ≡ last_found (Some p) (take (left - 1) ps)
 found_more f p ps zero h = absurd (omega arith)
 found_more f p ps (suc m) h = let q : suc m - 1 ≡ m = omega arith in rw q
 
-pub found_same : (f g : Found) (l m : ℕ) (ps : List ℕ) → g ≡ f → m ≡ l → last_found f (take l ps) ≡ last_found g (take m ps)
+pub found_same : (f g : Option ℕ) (l m : ℕ) (ps : List ℕ) → g ≡ f → m ≡ l → last_found f (take l ps) ≡ last_found g (take m ps)
 found_same f g l m ps p q = cc
 
 -- ---- forward
@@ -48,13 +47,13 @@ module _ (s : List ℕ) (c : ℕ) where
         ap (λ (x : ℕ). cond (eqb d c) (at ∷ matches c (at + x) (chars (drop n (drop at s)))) (matches c (at + x) (chars (drop n (drop at s))))) (sym w) ∙
         ap (λ (l : List ℕ). cond (eqb d c) (at ∷ matches c (at + n) (chars l)) (matches c (at + n) (chars l))) (drop-drop n at s)
 
-    pub ahead_in : (f : Found) (left : ℕ) → d ≡ c → 0 < left → last_found f (take left (ahead at)) ≡ last_found (At at) (take (left - 1) (ahead (at + n)))
+    pub ahead_in : (f : Option ℕ) (left : ℕ) → d ≡ c → 0 < left → last_found f (take left (ahead at)) ≡ last_found (Some at) (take (left - 1) (ahead (at + n)))
     ahead_in f left q h = ap (λ (l : List ℕ). last_found f (take left l)) (ahead_step ∙ rw (eq-eqb d c q)) ∙ found_more f at (ahead (at + n)) left h
 
-    pub ahead_out : (f : Found) (left : ℕ) → (d ≡ c → ⊥) → last_found f (take left (ahead at)) ≡ last_found f (take left (ahead (at + n)))
+    pub ahead_out : (f : Option ℕ) (left : ℕ) → (d ≡ c → ⊥) → last_found f (take left (ahead at)) ≡ last_found f (take left (ahead (at + n)))
     ahead_out f left q = ap (λ (l : List ℕ). last_found f (take left l)) (ahead_step ∙ rw (ne_eqb d c q))
 
-  pub ahead_end : (at : ℕ) (f : Found) (left : ℕ) → first (drop at s) ≡ bad → last_found f (take left (ahead at)) ≡ f
+  pub ahead_end : (at : ℕ) (f : Option ℕ) (left : ℕ) → first (drop at s) ≡ bad → last_found f (take left (ahead at)) ≡ f
   unfolding matches
   ahead_end at f left e = ap (λ (l : List ℕ). last_found f (take left (matches c at l))) (chars-bad (drop at s) e) ∙ found_none f left
 
@@ -87,15 +86,15 @@ module _ (s : List ℕ) (c : ℕ) where
         ap (λ (x : ℕ). reverse (matches c 0 (chars (take i s)) ++ one_match c x d)) b ∙
         reverse-append (matches c 0 (chars (take i s))) (one_match c i d)
 
-    pub behind_in : (f : Found) (left : ℕ) → d ≡ c → 0 < left → last_found f (take left (behind at)) ≡ last_found (At i) (take (left - 1) (behind i))
+    pub behind_in : (f : Option ℕ) (left : ℕ) → d ≡ c → 0 < left → last_found f (take left (behind at)) ≡ last_found (Some i) (take (left - 1) (behind i))
     unfolding one_match
     behind_in f left q h =
         ap (λ (x : List ℕ). last_found f (take left x)) (behind_step ∙ rw (eq-eqb d c q)) ∙ found_more f i (behind i) left h
 
-    pub behind-out : (f : Found) (left : ℕ) → (d ≡ c → ⊥) → last_found f (take left (behind at)) ≡ last_found f (take left (behind i))
+    pub behind-out : (f : Option ℕ) (left : ℕ) → (d ≡ c → ⊥) → last_found f (take left (behind at)) ≡ last_found f (take left (behind i))
     unfolding one_match
     behind-out f left q = ap (λ (x : List ℕ). last_found f (take left x)) (behind_step ∙ rw (ne_eqb d c q))
 
-  pub behind-end : (f : Found) (left : ℕ) → last_found f (take left (behind 0)) ≡ f
+  pub behind-end : (f : Option ℕ) (left : ℕ) → last_found f (take left (behind 0)) ≡ f
   unfolding matches chars_from
   behind-end f left = found_none f left

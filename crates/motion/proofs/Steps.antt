@@ -7,6 +7,7 @@ use native.Mathlib.Omega.{arith}
 use borrow.Author.Tests.{le-leb, lt-leb, eq-eqb, ne_eqb}
 use lib.ListN.{length, take, drop, length-append}
 use lib.Seq.{drop-drop, take-nil, take-append-le, take_all, length-take-le}
+use Rattle.std.specs.Prelude.{None, Some}
 use Rattle.lists.specs.Lists.{sum}
 use Rattle.utf8.specs.Chars.{chars, chars_from, boundary}
 use Rattle.repertoire.specs.Repertoire.{Repertoire}
@@ -16,7 +17,6 @@ use Rattle.cluster.proofs.Facts.{sum-bytes}
 use Rattle.cluster.proofs.Parts.{bytes-all}
 use Rattle.cluster.proofs.Steps.{step_some, step_none, Before}
 use Rattle.motion.specs.Steps.{sizes, next_pos, prev_pos}
-use Rattle.motion.specs.declared.Found.TheVariants.{At, Nothing}
 
 module _ (R : Repertoire) (s : List ℕ) where
   -- ---- forward: n is the length of the first cluster from at on
@@ -43,15 +43,15 @@ module _ (R : Repertoire) (s : List ℕ) where
       let t : sum (take left (map bytes (clusters_of R (drop at s)))) ≡ 0 = ap (λ (l : List (List ℕ)). sum (take left (map bytes l))) q ∙ ap sum (take-nil left) in
       omega arith
 
-  pub next_found : (pos n p : ℕ) → pos < length s → (n ≡ 0 → ⊥) → p ≡ pos + sum (take n (sizes R (drop pos s))) → At p ≡ next_pos R s pos n
+  pub next_found : (pos n p : ℕ) → pos < length s → (n ≡ 0 → ⊥) → p ≡ pos + sum (take n (sizes R (drop pos s))) → Some p ≡ next_pos R s pos n
   unfolding next_pos
   next_found pos n p h z e = rw (lt-leb (length s) pos h, ne_eqb n 0 z, e)
 
-  pub next-end : (pos n : ℕ) → length s ≤ pos → Nothing ≡ next_pos R s pos n
+  pub next-end : (pos n : ℕ) → length s ≤ pos → None ≡ next_pos R s pos n
   unfolding next_pos
   next-end pos n h = rw (le-leb (length s) pos h)
 
-  pub next-zero : (pos n : ℕ) → n ≡ 0 → Nothing ≡ next_pos R s pos n
+  pub next-zero : (pos n : ℕ) → n ≡ 0 → None ≡ next_pos R s pos n
   unfolding next_pos
   next-zero pos n z = simp (eq-eqb n 0 z, or-true)
 
@@ -83,14 +83,14 @@ module _ (R : Repertoire) (s : List ℕ) where
   unfolding sizes clusters chars_from
   backward_start left = ap sum (take-nil (0 - left))
 
-  pub prev_found : (pos n p : ℕ) → (pos ≡ 0 → ⊥) → (n ≡ 0 → ⊥) → p ≡ sum (take (length (back pos) - n) (back pos)) → At p ≡ prev_pos R s pos n
+  pub prev_found : (pos n p : ℕ) → (pos ≡ 0 → ⊥) → (n ≡ 0 → ⊥) → p ≡ sum (take (length (back pos) - n) (back pos)) → Some p ≡ prev_pos R s pos n
   unfolding prev_pos
   prev_found pos n p h z e = rw (ne_eqb pos 0 h, ne_eqb n 0 z, e)
 
-  pub prev_start : (pos n : ℕ) → pos ≡ 0 → Nothing ≡ prev_pos R s pos n
+  pub prev_start : (pos n : ℕ) → pos ≡ 0 → None ≡ prev_pos R s pos n
   unfolding prev_pos
   prev_start pos n h = rw (eq-eqb pos 0 h)
 
-  pub prev_zero : (pos n : ℕ) → n ≡ 0 → Nothing ≡ prev_pos R s pos n
+  pub prev_zero : (pos n : ℕ) → n ≡ 0 → None ≡ prev_pos R s pos n
   unfolding prev_pos
   prev_zero pos n z = simp (eq-eqb n 0 z, or-true)

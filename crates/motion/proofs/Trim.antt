@@ -7,7 +7,8 @@ use native.Mathlib.Omega.{arith}
 use borrow.Author.Tests.{ne_eqb}
 use lib.Dec.{eqb}
 use lib.ListN.{length, take, drop}
-use lib.Seq.{drop-drop, length-take-le, take-length}
+use lib.Seq.{drop-drop, length-take-le}
+use Rattle.std.specs.Prelude.{Option, None, Some}
 use Rattle.utf8.specs.Utf8.{char, first}
 use Rattle.utf8.specs.Chars.{chars_from, chars, boundary, EndsAt}
 use Rattle.utf8.specs.Encode.{size}
@@ -23,8 +24,6 @@ use Rattle.cluster.proofs.Facts.{bytes-append}
 use Rattle.cluster.proofs.Clusters.{clusters_none}
 use Rattle.cluster.proofs.Steps.{step_some, step_none}
 use Rattle.motion.specs.Trim.{trimmed, trim_end, first_alnum}
-use Rattle.motion.specs.declared.Found.{Found}
-use Rattle.motion.specs.declared.Found.TheVariants.{At, Nothing}
 
 module _ (R : Repertoire) where
   trimmed-white : (cs : List ℕ) (c : ℕ) → R.white c ≡ true → trimmed R (cs ++ (c ∷ [])) ≡ trimmed R cs
@@ -57,11 +56,8 @@ module _ (R : Repertoire) where
     unfolding chars_from trimmed
     trim_start = refl
 
-    pub trim_whole : trim_end R s ≡ trim_end R (take (length s) s)
-    trim_whole = ap (trim_end R) (sym (take-length s))
-
     -- ---- the first alphanumeric cluster from at on
-    abbrev pub alnum_from : ℕ → Found
+    abbrev pub alnum_from : ℕ → Option ℕ
     alnum_from at = first_alnum R at (clusters_of R (drop at s))
 
     module _ (at : ℕ) (k : Cluster) (e : k ≡ facts R (first_cluster R (drop at s))) where
@@ -72,7 +68,7 @@ module _ (R : Repertoire) where
           step_some R (drop at s) f ∙ ap (λ (x : ℕ). first_cluster R (drop at s) ∷ clusters_of R (drop x (drop at s))) (sym l) ∙
           ap (λ (x : List ℕ). first_cluster R (drop at s) ∷ clusters_of R x) (drop-drop k.len at s)
 
-      pub alnum_here : 0 < k.len → k.alnum ≡ true → alnum_from at ≡ At at
+      pub alnum_here : 0 < k.len → k.alnum ≡ true → alnum_from at ≡ Some at
       unfolding first_alnum
       alnum_here h w =
           let a = ap (λ (x : Cluster). x.alnum) e in
@@ -85,10 +81,10 @@ module _ (R : Repertoire) where
           let l : k.len ≡ first_size R (drop at s) = ap (λ (x : Cluster). x.len) e in
           ap (first_alnum R at) (step h) ∙ rw (sym a ∙ w) (ap (λ (x : ℕ). first_alnum R (at + x) (clusters_of R (drop (at + k.len) s))) (sym l))
 
-      pub alnum_none : k.len ≡ 0 → alnum_from at ≡ Nothing
+      pub alnum_none : k.len ≡ 0 → alnum_from at ≡ None
       unfolding first_alnum
       alnum_none z = ap (first_alnum R at) (step_none R (drop at s) (sym (ap (λ (x : Cluster). x.len) e) ∙ z))
 
-    pub alnum-end : (at : ℕ) → length s ≤ at → alnum_from at ≡ Nothing
+    pub alnum-end : (at : ℕ) → length s ≤ at → alnum_from at ≡ None
     unfolding first_alnum
     alnum-end at h = ap (first_alnum R at) (clusters_none R (drop at s) (first-end s at h))

@@ -1,27 +1,28 @@
--- A call of copy: ViFirstPrint's test of its start comes with the cursor's, after all tests of the lent text but the last. Assumes nothing.
+-- The checks of copy: ViFirstPrint's test of its start comes with the cursor's, after all tests of the lent text but the last.
+-- Assumes nothing.
 use mathlib.Core.Path.{◌≡◌, refl, sym, ap, ◌∙◌}
 use mathlib.Core.Bool.{Bool, true, false, cond, ◌||◌, or-true}
 use mathlib.Core.List.{List}
 use mathlib.Core.Logic.{◌⊎◌, inl, inr, ⊎_elim}
 use Prim.Native.Nat.{ℕ, ◌≤◌}
+use Rattle.std.proofs.Common.{Result, Ok, Err}
 use native.Mathlib.Omega.{arith}
 use borrow.Author.Tests.{ltb-false}
 use lib.Dec.{ltb}
 use lib.ListN.{length}
-use Rattle.lists.proofs.Bools.{or_none}
+use Rattle.lists.proofs.Bools.{never, or_none}
 use Rattle.formats.specs.Formats.{format_for}
-use Rattle.utf8.specs.Chars.{valid, boundary}
 use Rattle.repertoire.specs.Repertoire.{Repertoire}
 use Rattle.keymap.specs.declared.Movement.{Movement}
-use Rattle.motion_lines.specs.declared.Range.{Range}
 use Rattle.checks.specs.Checks.{Tests, both, refusal, lent_text, own_tests}
-use Rattle.checks.specs.Answers.{says, line_answer}
 use Rattle.checks.specs.declared.Line.{Line}
-use Rattle.checks.specs.declared.LineAnswer.{LineAnswer}
-use Rattle.checks.proofs.Fit.{fit-valid, fit-within}
-use Rattle.motion_calls.proofs.Called.{lent, refused, accepted, fit_of}
-use Rattle.motion_ranges.specs.Ranges.{is_foreign, starts_after, copied}
-use Rattle.motion_calls.specs.Copy.{ranged, copy_tests, copy_by, movement_is}
+use Rattle.checks.specs.declared.Refused.{Refused}
+use Rattle.checks.specs.declared.Refused.TheVariants.{Split}
+use Rattle.checks.specs.Refused.{number_of, refused_by}
+use Rattle.checks.proofs.Refusals.{never-passes, split-only}
+use Rattle.motion_calls.specs.Moves.{lent}
+use Rattle.motion_ranges.specs.Ranges.{is_foreign, starts_after}
+use Rattle.motion_calls.specs.Copy.{copy_tests}
 
 -- ---- the tests in number order: sizes, characters, places, split characters
 abbrev chain : Bool → Bool → Bool → Bool → ℕ
@@ -45,13 +46,41 @@ chain_late false false p q h = (refl, refl)
 chain_place : (a c p x q : Bool) → a ≡ false → c ≡ false → x ≡ true → 5 ≡ chain a c (p || x) q
 chain_place a c p x q u v h = rw (u, v, h, or-true p)
 
-module _ (R : Repertoire) (buffer : List ℕ) (line : Line) (mvt : Movement) (f : Bool) (w : f ≡ is_foreign R mvt) (r : ℕ)
-    (e : r ≡ refusal (both (lent R buffer line) (own_tests false f false))) where
+-- b says of the result t of some checks that at most a split character refuses
+pub record OnlySplit (n : ℕ) (t : Result (Unit {0}) Refused) (b : Bool) : Type 0 where
+  pub number : refused_by t ≡ n
+  pub met : b ≡ true → (refused_by t ≡ 0) ⊎ (refused_by t ≡ 6)
+  pub unmet : b ≡ false → (refused_by t ≡ 0 → ⊥) × (refused_by t ≡ 6 → ⊥)
+
+pub by_ok : (n : ℕ) {t : Result (Unit {0}) Refused} {b : Bool} (x : Unit {0}) → 0 ≡ n → t ≡ Ok x → b ≡ true → OnlySplit n t b
+by_ok n x e i q =
+    record {
+      number = rw i e;
+      met = λ _. inl (rw i);
+      unmet = λ z. never _ _ q z;
+    }
+
+pub by_split : (n : ℕ) {t : Result (Unit {0}) Refused} {b : Bool} (why : Refused) → number_of why ≡ n → t ≡ Err why → why ≡ Split → b ≡ true
+    → OnlySplit n t b
+by_split n why e i s q =
+    record {
+      number = rw i e;
+      met = λ _. inr (rw (i, s));
+      unmet = λ z. never _ _ q z;
+    }
+
+pub by_other : (n : ℕ) {t : Result (Unit {0}) Refused} {b : Bool} (why : Refused) → number_of why ≡ n → t ≡ Err why → (why ≡ Split → ⊥) → b ≡ false
+    → OnlySplit n t b
+by_other n why e i s q =
+    record {
+      number = rw i e;
+      met = λ z. never _ _ z q;
+      unmet = λ _. (λ z. never-passes why (ap refused_by (sym i) ∙ z), λ z. s (split-only why (ap refused_by (sym i) ∙ z)));
+    }
+
+module _ (R : Repertoire) (buffer : List ℕ) (line : Line) (mvt : Movement) (f : Bool) (w : f ≡ is_foreign R mvt) where
   abbrev l : Tests
   l = lent R buffer line
-
-  abbrev Late : Type 0
-  Late = (r ≡ 0) ⊎ (r ≡ 6)
 
   abbrev t : Tests
   t = both l (own_tests false f false)
@@ -59,56 +88,36 @@ module _ (R : Repertoire) (buffer : List ℕ) (line : Line) (mvt : Movement) (f 
   abbrev after : Bool
   after = starts_after R (lent_text buffer line) line.cursor mvt
 
-  late : Late → (t.sizes ≡ false) × (t.foreign ≡ false)
-  unfolding refusal
-  late h = chain_late t.sizes t.foreign t.place t.split (⊎_elim (λ z. inl (sym e ∙ z)) (λ z. inr (sym e ∙ z)) h)
-
-  pub lent-used : Late → line.len ≤ length buffer
-  lent-used h =
-      let s = (or_none l.sizes false (late h).0).0 in
-      let u = (or_none (ltb (format_for (length buffer)).text (length buffer)) (ltb (length buffer) line.len) s).1 in
-      ltb-false (length buffer) line.len u
-
-  pub lent-fit : r ≡ 0 →
-      (valid (lent_text buffer line) ≡ true) × (boundary (lent_text buffer line) line.cursor ≡ true) ×
-      (line.cursor ≤ length (lent_text buffer line))
-  lent-fit z =
-      let g = fit_of R buffer line (own_tests false f false) r e z in
-      (fit-valid R _ buffer line g, g.at-boundary, fit-within R _ buffer line g)
-
   abbrev own : Tests
   own = copy_tests R buffer line mvt
 
-  early : (r ≡ 0 → ⊥) → (r ≡ 6 → ⊥) → r ≡ refusal (both l own)
-  unfolding refusal
-  early z s =
-      e ∙ chain_early t.sizes t.foreign l.place after t.split (λ q. z (e ∙ q)) (λ q. s (e ∙ q)) ∙
-      ap (λ (b : Bool). chain t.sizes (l.foreign || b) (l.place || after) t.split) w
+  module _ (x : Result (Unit {0}) Refused) (b : Bool) (h : OnlySplit (refusal t) x b) where
+    late : b ≡ true → (t.sizes ≡ false) × (t.foreign ≡ false)
+    unfolding refusal
+    late q = chain_late t.sizes t.foreign t.place t.split (⊎_elim (λ z. inl (sym h.number ∙ z)) (λ z. inr (sym h.number ∙ z)) (h.met q))
 
-  place : Late → after ≡ true → 5 ≡ refusal (both l own)
-  unfolding refusal
-  place h q =
-      let g = ap (λ (b : Bool). l.foreign || b) (sym w) ∙ (late h).1 in
-      chain_place t.sizes (l.foreign || is_foreign R mvt) l.place after t.split (late h).0 g q
+    pub lent-used : b ≡ true → line.len ≤ length buffer
+    lent-used q =
+        let s = (or_none l.sizes false (late q).0).0 in
+        let u = (or_none (ltb (format_for (length buffer)).text (length buffer)) (ltb (length buffer) line.len) s).1 in
+        ltb-false (length buffer) line.len u
 
-  kept : after ≡ false → r ≡ refusal (both l own)
-  kept q =
-      e ∙ ap (λ (b : Bool). refusal (both l (own_tests false b false))) w ∙
-      ap (λ (b : Bool). refusal (both l (own_tests false (is_foreign R mvt) b))) (sym q)
+    -- the start is tried: it is refused, or what was found stays
+    pub start-after : b ≡ true → after ≡ true → 5 ≡ refusal (both l own)
+    unfolding refusal
+    start-after q a =
+        let g = ap (λ (c : Bool). l.foreign || c) (sym w) ∙ (late q).1 in
+        chain_place t.sizes (l.foreign || is_foreign R mvt) l.place after t.split (late q).0 g a
 
-  -- ---- the answers
-  module _ (x : LineAnswer) where
-    pub copy_early : (r ≡ 0 → ⊥) → (r ≡ 6 → ⊥) → x ≡ says r line → x ≡ line_answer line (copy_by R buffer line (movement_is mvt))
-    copy_early z s q = refused R buffer line own r (early z s) _ x z q
+    pub start-before : after ≡ false → refused_by x ≡ refusal (both l own)
+    start-before a =
+        h.number ∙ ap (λ (c : Bool). refusal (both l (own_tests false c false))) w ∙
+        ap (λ (c : Bool). refusal (both l (own_tests false (is_foreign R mvt) c))) (sym a)
 
-    module _ (b : Bool) (d : b ≡ after) where
-      pub copy-after : Late → b ≡ true → x ≡ says 5 line → x ≡ line_answer line (copy_by R buffer line (movement_is mvt))
-      copy-after h a q = refused R buffer line own 5 (place h (sym d ∙ a)) _ x (λ z. omega arith) q
-
-      pub copy-split : b ≡ false → (r ≡ 0 → ⊥) → x ≡ says r line → x ≡ line_answer line (copy_by R buffer line (movement_is mvt))
-      copy-split a z q = refused R buffer line own r (kept (sym d ∙ a)) _ x z q
-
-      pub copy-ranged : b ≡ false → r ≡ 0 → (y : Range) → y ≡ copied R (lent_text buffer line) line.cursor mvt →
-          x ≡ line_answer line (ranged line y) → x ≡ line_answer line (copy_by R buffer line (movement_is mvt))
-      copy-ranged a z y k q =
-          accepted R buffer line own r (kept (sym d ∙ a)) _ x z (q ∙ ap (λ (p : Range). line_answer line (ranged line p)) k)
+    -- it is not: a number before it refuses
+    pub start-untried : b ≡ false → refused_by x ≡ refusal (both l own)
+    unfolding refusal
+    start-untried q =
+        let u = h.unmet q in
+        h.number ∙ chain_early t.sizes t.foreign l.place after t.split (λ z. u.0 (h.number ∙ z)) (λ z. u.1 (h.number ∙ z)) ∙
+        ap (λ (c : Bool). chain t.sizes (l.foreign || c) (l.place || after) t.split) w

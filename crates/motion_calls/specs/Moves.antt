@@ -1,5 +1,5 @@
 -- The movements of LineBuffer, each a call that is lent a text: checks 2 to 7 in number order, then the motion. A movement changes at most the cursor.
-use Rattle.std.specs.Prelude.{ℕ, Bool, true, false, cond, not, List, eqb, ltb, leb, length}
+use Rattle.std.specs.Prelude.{ℕ, Bool, true, false, cond, not, List, eqb, ltb, leb, length, Option, None, Some}
 use Rattle.formats.specs.Formats.{format_for}
 use Rattle.utf8.specs.Chars.{boundary}
 use Rattle.repertoire.specs.Repertoire.{Repertoire}
@@ -8,17 +8,9 @@ use Rattle.keymap.specs.Codes.{word_of, at_of, search_of}
 use Rattle.keymap.specs.declared.Word.{Word}
 use Rattle.keymap.specs.declared.At as stops
 use Rattle.keymap.specs.declared.CharSearch.{CharSearch}
-use Rattle.keymap.specs.declared.WordCode.{WordCode}
-use Rattle.keymap.specs.declared.WordCode.TheVariants as word
-use Rattle.keymap.specs.declared.AtCode.{AtCode}
-use Rattle.keymap.specs.declared.AtCode.TheVariants as stop
-use Rattle.keymap.specs.declared.SearchCode.{SearchCode}
-use Rattle.keymap.specs.declared.SearchCode.TheVariants as search
 use Rattle.motion.specs.Steps.{next_pos, prev_pos}
 use Rattle.motion.specs.Search.{search_char_pos}
 use Rattle.motion.specs.Trim.{trim_end}
-use Rattle.motion.specs.declared.Found.{Found}
-use Rattle.motion.specs.declared.Found.TheVariants.{At, Nothing}
 use Rattle.motion_words.specs.Words.{prev_word_pos, next_word_pos}
 use Rattle.motion_lines.specs.Lines.{start_of_line, end_of_line}
 use Rattle.motion_lines.specs.Columns.{line_up, line_down}
@@ -27,27 +19,21 @@ use Rattle.checks.specs.Answers.{moved_to, place_of}
 use Rattle.checks.specs.declared.Line.{Line}
 use Rattle.checks.specs.Outcome.{Outcome, answered, called}
 
+-- the tests of the lent text in its buffer's format
+abbrev pub lent : Repertoire → List ℕ → Line → Tests
+lent R buffer line = line_tests R (format_for (length buffer)) buffer line
+
 -- a call: refused by the lowest number of the lent text's tests and its own, else it comes to o
 unfoldable pub move_call : Repertoire → List ℕ → Line → Tests → Outcome Line → Outcome Line
-move_call R buffer line own o = called (refusal (both (line_tests R (format_for (length buffer)) buffer line) own)) o
+move_call R buffer line own o = called (refusal (both (lent R buffer line) own)) o
 
 -- to a place, unless the cursor is there
-abbrev pub elsewhere : Line → ℕ → Found
-elsewhere line p = cond (eqb line.cursor p) Nothing (At p)
+abbrev pub elsewhere : Line → ℕ → Option ℕ
+elsewhere line p = cond (eqb line.cursor p) None (Some p)
 
 -- the number 0 where a test is met, else 1
 abbrev pub tells : Line → Bool → Outcome Line
 tells line b = answered (cond b 0 1) 0 0 line
-
--- a code that names a word rule, a stop, a search
-abbrev pub word_is : Word → WordCode
-word_is w = word.Is w
-
-abbrev pub stop_is : stops.At → AtCode
-stop_is a = stop.Is a
-
-abbrev pub search_is : CharSearch → SearchCode
-search_is c = search.Is c
 
 -- a place of the call's own in a text of len bytes
 abbrev pub place_tests : List ℕ → ℕ → ℕ → Tests
@@ -88,7 +74,7 @@ module _ (R : Repertoire) (buffer : List ℕ) (line : Line) where
 
   -- a place of its own is tried by 5 and 6
   abbrev pub set_pos : ℕ → Outcome Line
-  set_pos pos = move_call R buffer line (place_tests (lent_text buffer line) line.len pos) (moved_to line (At pos))
+  set_pos pos = move_call R buffer line (place_tests (lent_text buffer line) line.len pos) (moved_to line (Some pos))
 
   -- a prompt column is tried by 7
   abbrev pub move_to_line_up : ℕ → ℕ → Outcome Line
@@ -101,26 +87,26 @@ module _ (R : Repertoire) (buffer : List ℕ) (line : Line) where
   abbrev pub unnamed : Outcome Line
   unnamed = move_call R buffer line (own_tests true false false) (answered 0 0 0 line)
 
-  abbrev pub prev_word_by : ℕ → WordCode → Outcome Line
-  prev_word_by n (word.Is w) = move_call R buffer line no_tests (moved_to line (prev_word_pos R (lent_text buffer line) line.cursor w n))
-  prev_word_by n word.Unknown = unnamed
+  abbrev pub prev_word_by : ℕ → Option Word → Outcome Line
+  prev_word_by n (Some w) = move_call R buffer line no_tests (moved_to line (prev_word_pos R (lent_text buffer line) line.cursor w n))
+  prev_word_by n None = unnamed
 
   abbrev pub move_to_prev_word : ℕ → ℕ → Outcome Line
   move_to_prev_word w n = prev_word_by n (word_of w)
 
-  abbrev pub next_word_by : ℕ → AtCode → WordCode → Outcome Line
-  next_word_by n (stop.Is a) (word.Is w) = move_call R buffer line no_tests (moved_to line (next_word_pos R (lent_text buffer line) line.cursor a w n))
-  next_word_by n (stop.Is a) word.Unknown = unnamed
-  next_word_by n stop.Unknown w = unnamed
+  abbrev pub next_word_by : ℕ → Option stops.At → Option Word → Outcome Line
+  next_word_by n (Some a) (Some w) = move_call R buffer line no_tests (moved_to line (next_word_pos R (lent_text buffer line) line.cursor a w n))
+  next_word_by n (Some a) None = unnamed
+  next_word_by n None w = unnamed
 
   abbrev pub move_to_next_word : ℕ → ℕ → ℕ → Outcome Line
   move_to_next_word at w n = next_word_by n (at_of at) (word_of w)
 
   -- a character outside the repertoire is 4
-  abbrev pub search_by : ℕ → ℕ → SearchCode → Outcome Line
-  search_by c n (search.Is cs) =
+  abbrev pub search_by : ℕ → ℕ → Option CharSearch → Outcome Line
+  search_by c n (Some cs) =
       move_call R buffer line (own_tests false (not (is_char R c)) false) (moved_to line (search_char_pos R (lent_text buffer line) line.cursor cs n))
-  search_by c n search.Unknown = unnamed
+  search_by c n None = unnamed
 
   abbrev pub move_to : ℕ → ℕ → ℕ → Outcome Line
   move_to s c n = search_by c n (search_of s c)

@@ -4,23 +4,20 @@ use mathlib.Core.Bool.{cond}
 use mathlib.Core.List.{List, [], ◌∷◌, map}
 use Prim.Native.Nat.{ℕ, zero, suc, ◌+◌, ◌-◌, ◌<◌, ◌≤◌}
 use native.Mathlib.Omega.{arith}
-use lib.Dec.{ltb, eqb, leb-suc-suc}
+use lib.Dec.{ltb, leb-suc-suc}
 use lib.ListN.{length, take, drop}
 use lib.Seq.{drop-drop}
 use borrow.Author.Tests.{eq-eqb, ne_eqb, lt-ltb, le-ltb}
+use Rattle.std.specs.Prelude.{None, Some}
 use Rattle.lists.specs.Lists.{sum, part}
-use Rattle.lists.proofs.Bools.{by_test}
 use Rattle.lists.proofs.Parts.{part-tail}
-use Rattle.utf8.proofs.Forms.{first-end}
 use Rattle.repertoire.specs.Repertoire.{Repertoire}
 use Rattle.cluster.specs.Clusters.{first_cluster, bytes, first_size}
 use Rattle.cluster.specs.Facts.{facts}
 use Rattle.cluster.specs.declared.Cluster.{Cluster}
-use Rattle.cluster.proofs.Clusters.{clusters_none}
 use Rattle.cluster.proofs.Steps.{step_some, step_none}
 use Rattle.layout.specs.Width.{width}
 use Rattle.motion.specs.Steps.{sizes}
-use Rattle.motion.specs.declared.Found.TheVariants.{At, Nothing}
 use Rattle.motion_lines.specs.Lines.{start_of_line, end_of_line}
 use Rattle.motion_lines.specs.Columns.{nth_cluster, offset, line_above, line_below, width_before, land_up, line_up, land_down, column_of}
 use Rattle.motion_lines.specs.Columns.{line_down}
@@ -65,14 +62,6 @@ module _ (R : Repertoire) where
   nth_start s a b n other = let z : a + 0 ≡ a = omega arith in rw z
 
   module _ (t : List ℕ) (a other at left : ℕ) where
-    sizes_past : length t ≤ at → sizes R (drop at t) ≡ []
-    unfolding sizes
-    sizes_past h = ap (map bytes) (clusters_none R (drop at t) (first-end t at h))
-
-    pub nth_end : length t ≤ at → nth_from t a other at left ≡ other
-    unfolding nth_from
-    nth_end h = rw (sizes_past h) (nth_none (a + at) left other)
-
     -- k is the first cluster at the place
     module _ (k : Cluster) (q : k ≡ facts R (first_cluster R (take (length t - at) (drop at t)))) where
       sized : k.len ≡ first_size R (drop at t)
@@ -135,19 +124,16 @@ module _ (s : List ℕ) where
       rw (ne_eqb e (length s) z, m) (ap (line_below s n (e + 1)) (sym q))
 
 -- ---- the same column above and below
-pub offset-le : (a prompt : ℕ) → offset a prompt ≤ prompt
-offset-le a prompt = by_test _ (eqb a 0) (λ t. rw t (omega arith)) (λ t. rw t (omega arith))
-
 module _ (R : Repertoire) (s : List ℕ) (pos n prompt : ℕ) where
   -- the cursor's line starts at own
   module _ (own : ℕ) (q : own ≡ start_of_line s pos) where
-    pub line_up_none : own ≡ 0 → Nothing ≡ line_up R s pos n prompt
+    pub line_up_none : own ≡ 0 → None ≡ line_up R s pos n prompt
     unfolding line_up
     line_up_none z = rw (eq-eqb (start_of_line s pos) 0 (sym q ∙ z))
 
     pub line_up_some : (column m top : ℕ) (l : Span) (before wanted p : ℕ) → (own ≡ 0 → ⊥) → column ≡ width R 0 (part s own pos) → m ≡ n - 1 →
         top ≡ start_of_line s (own - 1) → l ≡ line_above s m top (own - 1) → before ≡ offset l.start prompt → wanted ≡ column - before →
-        p ≡ nth_cluster R s l.start l.end wanted (own - 1) → At p ≡ line_up R s pos n prompt
+        p ≡ nth_cluster R s l.start l.end wanted (own - 1) → Some p ≡ line_up R s pos n prompt
     unfolding line_up
     line_up_some column m top l before wanted p z c r t a b w e =
         let k : l ≡ line_above s (n - 1) (start_of_line s (start_of_line s pos - 1)) (start_of_line s pos - 1) =
@@ -155,7 +141,7 @@ module _ (R : Repertoire) (s : List ℕ) (pos n prompt : ℕ) where
         ap (λ (x : ℕ). line_above s (n - 1) (start_of_line s (x - 1)) (x - 1)) q
         in
         rw (ne_eqb (start_of_line s pos) 0 (λ x. z (q ∙ x)))
-        (ap At
+        (ap Some
         (e ∙ ap (λ (x : ℕ). nth_cluster R s l.start l.end x (own - 1)) (w ∙ ap (λ (x : ℕ). column - x) b) ∙
         ap (λ (x : ℕ). land_up R s x (own - 1) prompt l) (c ∙ ap (λ (x : ℕ). width R 0 (part s x pos)) q) ∙
         ap (λ (x : ℕ). land_up R s (width_before R s pos 0) (x - 1) prompt l) q ∙
@@ -163,13 +149,13 @@ module _ (R : Repertoire) (s : List ℕ) (pos n prompt : ℕ) where
 
   -- it ends at e
   module _ (e : ℕ) (q : e ≡ end_of_line s pos) where
-    pub line_down_none : length s ≤ e → Nothing ≡ line_down R s pos n prompt
+    pub line_down_none : length s ≤ e → None ≡ line_down R s pos n prompt
     unfolding line_down
     line_down_none h = rw (le-ltb (end_of_line s pos) (length s) (omega arith))
 
     pub line_down_some : (own before w m x : ℕ) (l : Span) (p : ℕ) → e < length s → own ≡ start_of_line s pos → before ≡ offset own prompt →
         w ≡ width R before (part s own pos) → m ≡ n - 1 → x ≡ end_of_line s (e + 1) → l ≡ line_below s m (e + 1) x →
-        p ≡ nth_cluster R s l.start l.end (w + before) l.end → At p ≡ line_down R s pos n prompt
+        p ≡ nth_cluster R s l.start l.end (w + before) l.end → Some p ≡ line_down R s pos n prompt
     unfolding line_down
     line_down_some own before w m x l p h o b c r y a f =
         let k : l ≡ line_below s (n - 1) (end_of_line s pos + 1) (end_of_line s (end_of_line s pos + 1)) =
@@ -177,6 +163,6 @@ module _ (R : Repertoire) (s : List ℕ) (pos n prompt : ℕ) where
         ap (λ (z : ℕ). line_below s (n - 1) (z + 1) (end_of_line s (z + 1))) q
         in
         rw (lt-ltb (end_of_line s pos) (length s) (omega arith))
-        (ap At
+        (ap Some
         (f ∙ ap (λ (z : ℕ). land_down R s (z + before) l) c ∙ ap (λ (z : ℕ). land_down R s (width R z (part s own pos) + z) l) b ∙
         ap (λ (z : ℕ). land_down R s (width R (offset z prompt) (part s z pos) + offset z prompt) l) o ∙ ap (land_down R s (column_of R s pos prompt)) k))

@@ -10,9 +10,7 @@ use lib.ListN.{length, get_or, drop, length-drop, drop_of_length-le}
 use lib.Seq.{drop-cons, get_or-drop}
 use borrow.Author.Tests.{eq-eqb, ne_eqb, lt-ltb, le-ltb, eqb-true}
 use Rattle.lists.proofs.Bools.{by_test}
-use Rattle.motion_lines.specs.Lines.{newline, start_of_line, before_newline, end_of_line, behind_line, lines_up, lines_down, n_lines_up}
-use Rattle.motion_lines.specs.Lines.{n_lines_down}
-use Rattle.motion_lines.specs.declared.Range.TheVariants.{Places, Nowhere}
+use Rattle.motion_lines.specs.Lines.{newline, start_of_line, before_newline, end_of_line, lines_up, lines_down}
 
 module _ (s : List ℕ) where
   -- ---- the start of a line
@@ -88,16 +86,6 @@ module _ (s : List ℕ) where
         ap (λ (b : Bool). pos + cond b 0 (suc (before_newline (drop (suc pos) s)))) (ne_eqb (get_or s pos 256) 0x0A e) ∙
         rw (add-one pos) (omega arith)
 
-  -- ---- behind a line's own \n, which ends at e
-  module _ (pos e : ℕ) (q : e ≡ end_of_line s pos) where
-    pub behind-newline : e < length s → e + 1 ≡ behind_line s pos
-    unfolding behind_line
-    behind-newline h = rw (lt-ltb (end_of_line s pos) (length s) (omega arith), q)
-
-    pub behind-end : length s ≤ e → length s ≡ behind_line s pos
-    unfolding behind_line
-    behind-end h = rw (le-ltb (end_of_line s pos) (length s) (omega arith))
-
   -- ---- n lines above
   pub up_none : (n a : ℕ) → n ≤ 0 → lines_up s n a ≡ a
   unfolding lines_up
@@ -131,27 +119,3 @@ module _ (s : List ℕ) where
   down_on (suc n) e x h q l =
       let m : suc n - 1 ≡ n = omega arith in
       rw (lt-ltb (end_of_line s e) (length s) (omega arith), m) (ap (λ (k : ℕ). lines_down s n (k + 1)) (sym q))
-
-  -- ---- the ranges, of a line that starts at a and ends at e
-  pub ups_none : (pos n a : ℕ) → a ≡ start_of_line s pos → a ≡ 0 → Nowhere ≡ n_lines_up s pos n
-  unfolding n_lines_up
-  ups_none pos n a q z = rw (eq-eqb (start_of_line s pos) 0 (sym q ∙ z))
-
-  pub ups_some : (pos n a u b : ℕ) → a ≡ start_of_line s pos → (a ≡ 0 → ⊥) → u ≡ lines_up s n a → b ≡ behind_line s pos → Places u b ≡ n_lines_up s pos n
-  unfolding n_lines_up
-  ups_some pos n a u b q z x y =
-      rw (ne_eqb (start_of_line s pos) 0 (λ e. z (q ∙ e)))
-      (let w : u ≡ lines_up s n (start_of_line s pos) = x ∙ ap (lines_up s n) q in cc)
-
-  pub downs_none : (pos n e : ℕ) → e ≡ end_of_line s pos → length s ≤ e → Nowhere ≡ n_lines_down s pos n
-  unfolding n_lines_down
-  downs_none pos n e q h = rw (le-ltb (end_of_line s pos) (length s) (omega arith))
-
-  pub downs_some : (pos n e a u b : ℕ) → e ≡ end_of_line s pos → e < length s → a ≡ start_of_line s pos → u ≡ a - 1 → b ≡ lines_down s n (e + 1) →
-      Places u b ≡ n_lines_down s pos n
-  unfolding n_lines_down
-  downs_some pos n e a u b q h p x y =
-      rw (lt-ltb (end_of_line s pos) (length s) (omega arith))
-      (let w : b ≡ lines_down s n (end_of_line s pos + 1) = y ∙ ap (λ (k : ℕ). lines_down s n (k + 1)) q in
-      let v : u ≡ start_of_line s pos - 1 = omega arith in
-      cc)

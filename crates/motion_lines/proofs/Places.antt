@@ -7,6 +7,7 @@ use native.Mathlib.Omega.{arith}
 use lib.Dec.{eqb, ltb}
 use lib.ListN.{length, get_or, take, drop, length-take}
 use borrow.Author.Tests.{eqb-false, ltb-true}
+use Rattle.std.specs.Prelude.{Option, None, Some, unwrap_or}
 use Rattle.lists.specs.Lists.{sum, part}
 use Rattle.lists.proofs.Bools.{by_less, by_test}
 use Rattle.utf8.specs.Utf8.{tail}
@@ -16,10 +17,8 @@ use Rattle.utf8.proofs.Boundary.{boundary_test, boundary-zero, boundary_end, bou
 use Rattle.repertoire.specs.Repertoire.{Repertoire}
 use Rattle.motion.specs.Steps.{sizes}
 use Rattle.motion.proofs.Places.{sizes-place, second_at}
-use Rattle.motion.specs.declared.Found.TheVariants.{At, Nothing}
-use Rattle.motion_lines.specs.Lines.{start_of_line, end_of_line, behind_line, lines_up, lines_down, n_lines_up, n_lines_down}
+use Rattle.motion_lines.specs.Lines.{start_of_line, end_of_line, behind_line, lines_up, lines_down, n_lines_up, n_lines_down, places}
 use Rattle.motion_lines.specs.Columns.{nth_cluster, line_above, line_below, width_before, land_up, line_up, land_down, column_of, line_down}
-use Rattle.motion_lines.specs.declared.Range.TheVariants.{Places, Nowhere}
 use Rattle.motion_lines.specs.declared.Span.{Span}
 use Rattle.motion_lines.proofs.Lines.{start-newline, start-le, end-le, end-newline}
 
@@ -97,15 +96,21 @@ down_place s (suc n) e v h b =
     rw t (omega arith, r.1, r.2))
     (λ t. rw t (h, omega arith, boundary_end s v))
 
-second-places : (t : Bool) (x y a b : ℕ) → cond t Nowhere (Places x y) ≡ Places a b → (t ≡ false) × (x ≡ a) × (y ≡ b)
-second-places true x y a b e = let z : ◌≡◌ {A = ℕ} 0 1 = cc in absurd (omega arith)
-second-places false x y a b e = (refl, cc, cc)
+pub same-places : (x y a b : ℕ) → places x y ≡ places a b → (x ≡ a) × (y ≡ b)
+same-places x y a b e = (
+  ap (λ (r : Option Span). (unwrap_or r (record { start = 0; end = 0 })).start) e,
+  ap (λ (r : Option Span). (unwrap_or r (record { start = 0; end = 0 })).end) e,
+)
 
-first-places : (t : Bool) (x y a b : ℕ) → cond t (Places x y) Nowhere ≡ Places a b → (t ≡ true) × (x ≡ a) × (y ≡ b)
-first-places true x y a b e = (refl, cc, cc)
+second-places : (t : Bool) (x y a b : ℕ) → cond t None (places x y) ≡ places a b → (t ≡ false) × (x ≡ a) × (y ≡ b)
+second-places true x y a b e = let z : ◌≡◌ {A = ℕ} 0 1 = cc in absurd (omega arith)
+second-places false x y a b e = let q = same-places x y a b e in (refl, q.0, q.1)
+
+first-places : (t : Bool) (x y a b : ℕ) → cond t (places x y) None ≡ places a b → (t ≡ true) × (x ≡ a) × (y ≡ b)
+first-places true x y a b e = let q = same-places x y a b e in (refl, q.0, q.1)
 first-places false x y a b e = let z : ◌≡◌ {A = ℕ} 0 1 = cc in absurd (omega arith)
 
-pub lines_up_place : (s : List ℕ) (pos n a b : ℕ) → valid s ≡ true → boundary s pos ≡ true → pos ≤ length s → n_lines_up s pos n ≡ Places a b → In s a b
+pub lines_up_place : (s : List ℕ) (pos n a b : ℕ) → valid s ≡ true → boundary s pos ≡ true → pos ≤ length s → n_lines_up s pos n ≡ places a b → In s a b
 unfolding n_lines_up
 lines_up_place s pos n a b v k h e =
     let c = second-places (eqb (start_of_line s pos) 0) (lines_up s n (start_of_line s pos)) (behind_line s pos) a b e in
@@ -116,7 +121,7 @@ lines_up_place s pos n a b v k h e =
     let d = behind-line-place s pos v h in
     (omega arith, omega arith, rw x at u.1, rw y at d.2)
 
-pub lines_down_place : (s : List ℕ) (pos n a b : ℕ) → valid s ≡ true → boundary s pos ≡ true → pos ≤ length s → n_lines_down s pos n ≡ Places a b → In s a b
+pub lines_down_place : (s : List ℕ) (pos n a b : ℕ) → valid s ≡ true → boundary s pos ≡ true → pos ≤ length s → n_lines_down s pos n ≡ places a b → In s a b
 unfolding n_lines_down
 lines_down_place s pos n a b v k h e =
     let c = first-places (ltb (end_of_line s pos) (length s)) (start_of_line s pos - 1) (lines_down s n (end_of_line s pos + 1)) a b e in
@@ -172,12 +177,12 @@ below-place s (suc n) a e v h l b f =
     let r = end-le s (e + 1) (omega arith) in
     rw t (below-place s n (e + 1) (end_of_line s (e + 1)) v r.0 r.1 (newline-place s e v (f g)).1 (end-newline s (e + 1) (omega arith))))
 
-first-at : (t : Bool) (x p : ℕ) → cond t (At x) Nothing ≡ At p → (t ≡ true) × (x ≡ p)
+first-at : (t : Bool) (x p : ℕ) → cond t (Some x) None ≡ Some p → (t ≡ true) × (x ≡ p)
 first-at true x p e = (refl, cc)
 first-at false x p e = let z : ◌≡◌ {A = ℕ} 0 1 = cc in absurd (omega arith)
 
 module _ (R : Repertoire) (s : List ℕ) (pos n prompt p : ℕ) (v : valid s ≡ true) (k : boundary s pos ≡ true) (h : pos ≤ length s) where
-  pub line_up_place : line_up R s pos n prompt ≡ At p → (p ≤ length s) × (boundary s p ≡ true)
+  pub line_up_place : line_up R s pos n prompt ≡ Some p → (p ≤ length s) × (boundary s p ≡ true)
   unfolding line_up
   line_up_place e =
       let own = start_of_line s pos in
@@ -189,7 +194,7 @@ module _ (R : Repertoire) (s : List ℕ) (pos n prompt p : ℕ) (v : valid s ≡
       subst (λ (x : ℕ). (x ≤ length s) × (boundary s x ≡ true)) c.1
       (nth_place R s l.start l.end _ (own - 1) v z.order z.within z.from z.to (omega arith) u)
 
-  pub line_down_place : line_down R s pos n prompt ≡ At p → (p ≤ length s) × (boundary s p ≡ true)
+  pub line_down_place : line_down R s pos n prompt ≡ Some p → (p ≤ length s) × (boundary s p ≡ true)
   unfolding line_down
   line_down_place e =
       let x = end_of_line s pos in

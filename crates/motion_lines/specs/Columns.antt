@@ -1,13 +1,11 @@
 -- The same column in another line: line_buffer.rs, move_to_line_up and move_to_line_down. The column is measured in widths, the landing counts
 -- clusters; the prompt stands before the first line.
-use Rattle.std.specs.Prelude.{ℕ, zero, suc, ◌+◌, ◌-◌, cond, List, eqb, ltb, length, take}
+use Rattle.std.specs.Prelude.{ℕ, zero, suc, ◌+◌, ◌-◌, cond, List, eqb, ltb, length, take, Option, None, Some}
 use Rattle.lists.specs.Lists.{sum, part}
 use Rattle.utf8.specs.Chars.{chars}
 use Rattle.repertoire.specs.Repertoire.{Repertoire}
 use Rattle.layout.specs.Width.{width, plain_width}
 use Rattle.motion.specs.Steps.{sizes}
-use Rattle.motion.specs.declared.Found.{Found}
-use Rattle.motion.specs.declared.Found.TheVariants.{At, Nothing}
 use Rattle.motion_lines.specs.declared.Span.{Span}
 use Rattle.motion_lines.specs.Lines.{start_of_line, end_of_line, has_newline}
 
@@ -38,10 +36,10 @@ abbrev pub land_up : Repertoire → List ℕ → ℕ → ℕ → ℕ → Span �
 land_up R s column off prompt l = nth_cluster R s l.start l.end (column - offset l.start prompt) off
 
 -- n = 0 acts as 1; nothing on the first line
-unfoldable pub line_up : Repertoire → List ℕ → ℕ → ℕ → ℕ → Found
+unfoldable pub line_up : Repertoire → List ℕ → ℕ → ℕ → ℕ → Option ℕ
 line_up R s pos n prompt =
-    cond (eqb (start_of_line s pos) 0) Nothing
-    (At
+    cond (eqb (start_of_line s pos) 0) None
+    (Some
     (land_up R s (width_before R s pos 0) (start_of_line s pos - 1) prompt
     (line_above s (n - 1) (start_of_line s (start_of_line s pos - 1)) (start_of_line s pos - 1))))
 
@@ -54,30 +52,30 @@ abbrev pub column_of : Repertoire → List ℕ → ℕ → ℕ → ℕ
 column_of R s pos prompt = width_before R s pos (offset (start_of_line s pos) prompt) + offset (start_of_line s pos) prompt
 
 -- n = 0 acts as 1; nothing on the last line
-unfoldable pub line_down : Repertoire → List ℕ → ℕ → ℕ → ℕ → Found
+unfoldable pub line_down : Repertoire → List ℕ → ℕ → ℕ → ℕ → Option ℕ
 line_down R s pos n prompt =
     cond (has_newline s pos)
-    (At (land_down R s (column_of R s pos prompt) (line_below s (n - 1) (end_of_line s pos + 1) (end_of_line s (end_of_line s pos + 1)))))
-    Nothing
+    (Some (land_down R s (column_of R s pos prompt) (line_below s (n - 1) (end_of_line s pos + 1) (end_of_line s (end_of_line s pos + 1)))))
+    None
 
 -- ---- the same moves from a column, and from the column by document 01's widths
-abbrev pub line_up_from : Repertoire → List ℕ → ℕ → ℕ → ℕ → ℕ → Found
+abbrev pub line_up_from : Repertoire → List ℕ → ℕ → ℕ → ℕ → ℕ → Option ℕ
 line_up_from R s pos n prompt column =
-    cond (eqb (start_of_line s pos) 0) Nothing
-    (At
+    cond (eqb (start_of_line s pos) 0) None
+    (Some
     (land_up R s column (start_of_line s pos - 1) prompt
     (line_above s (n - 1) (start_of_line s (start_of_line s pos - 1)) (start_of_line s pos - 1))))
 
-abbrev pub line_down_from : Repertoire → List ℕ → ℕ → ℕ → ℕ → Found
+abbrev pub line_down_from : Repertoire → List ℕ → ℕ → ℕ → ℕ → Option ℕ
 line_down_from R s pos n column =
-    cond (has_newline s pos) (At (land_down R s column (line_below s (n - 1) (end_of_line s pos + 1) (end_of_line s (end_of_line s pos + 1))))) Nothing
+    cond (has_newline s pos) (Some (land_down R s column (line_below s (n - 1) (end_of_line s pos + 1) (end_of_line s (end_of_line s pos + 1))))) None
 
 -- the characters that a line move measures
 abbrev pub measured : List ℕ → ℕ → List ℕ
 measured s pos = chars (part s (start_of_line s pos) pos)
 
-unfoldable pub plain_line_up : Repertoire → List ℕ → ℕ → ℕ → ℕ → Found
+unfoldable pub plain_line_up : Repertoire → List ℕ → ℕ → ℕ → ℕ → Option ℕ
 plain_line_up R s pos n prompt = line_up_from R s pos n prompt (plain_width R (measured s pos))
 
-unfoldable pub plain_line_down : Repertoire → List ℕ → ℕ → ℕ → ℕ → Found
+unfoldable pub plain_line_down : Repertoire → List ℕ → ℕ → ℕ → ℕ → Option ℕ
 plain_line_down R s pos n prompt = line_down_from R s pos n (plain_width R (measured s pos) + offset (start_of_line s pos) prompt)

@@ -1,8 +1,11 @@
 -- Lines: line_buffer.rs, start_of_line, end_of_line, n_lines_up and n_lines_down. A line ends at a \n; rfind('\n') and find('\n') are said by the
 -- start and the end of the line that a place lies in.
-use Rattle.std.specs.Prelude.{ℕ, zero, suc, ◌+◌, ◌-◌, Bool, cond, List, [], ◌∷◌, eqb, ltb, length, get_or, drop}
-use Rattle.motion_lines.specs.declared.Range.{Range}
-use Rattle.motion_lines.specs.declared.Range.TheVariants.{Places, Nowhere}
+use Rattle.std.specs.Prelude.{ℕ, zero, suc, ◌+◌, ◌-◌, Bool, cond, List, [], ◌∷◌, eqb, ltb, length, get_or, drop, Option, None, Some}
+use Rattle.motion_lines.specs.declared.Span.{Span}
+
+-- the two places of a part of a text, where there is one
+abbrev pub places : ℕ → ℕ → Option Span
+places a b = Some (record { start = a; end = b })
 
 abbrev pub newline : ℕ → Bool
 newline b = eqb b 0x0A
@@ -40,9 +43,9 @@ lines_down s zero e = e
 lines_down s (suc n) e = cond (has_newline s e) (lines_down s n (end_of_line s e + 1)) (length s)
 
 -- from the start of the n-th line above to behind this line; nowhere on the first line
-unfoldable pub n_lines_up : List ℕ → ℕ → ℕ → Range
-n_lines_up s pos n = cond (eqb (start_of_line s pos) 0) Nowhere (Places (lines_up s n (start_of_line s pos)) (behind_line s pos))
+unfoldable pub n_lines_up : List ℕ → ℕ → ℕ → Option Span
+n_lines_up s pos n = cond (eqb (start_of_line s pos) 0) None (places (lines_up s n (start_of_line s pos)) (behind_line s pos))
 
 -- from the \n before this line, 0 where there is none, to behind the n-th line below; nowhere on the last line
-unfoldable pub n_lines_down : List ℕ → ℕ → ℕ → Range
-n_lines_down s pos n = cond (has_newline s pos) (Places (start_of_line s pos - 1) (lines_down s n (end_of_line s pos + 1))) Nowhere
+unfoldable pub n_lines_down : List ℕ → ℕ → ℕ → Option Span
+n_lines_down s pos n = cond (has_newline s pos) (places (start_of_line s pos - 1) (lines_down s n (end_of_line s pos + 1))) None

@@ -9,14 +9,6 @@ ghost use Rattle.motion_lines.specs.Columns.{offset, nth_cluster, line_above, li
 use cluster::next_cluster;
 use keymap::RepeatCount;
 use layout::width;
-use motion::Found;
-
-// The two places of a part of a text, where there is one.
-#[derive(Clone, Copy)]
-pub enum Range {
-    Places(usize, usize),
-    Nowhere,
-}
 
 // Two places of a text: those of a line, without its \n, or of some lines.
 #[derive(Clone, Copy)]
@@ -29,12 +21,10 @@ pub fn start_of_line(s: &[u8], pos: usize) -> usize
     requires { pos ≤ length s.now }
     ensures { (result ≡ start_of_line s.now pos) × (result ≤ pos) }
 {
-    let mut i = pos;
-    while 0 < i {
-        if s[i - 1] == 0x0A {
-            return i;
+    for i in (0..pos).rev() {
+        if s[i] == b'\n' {
+            return i + 1;
         }
-        i -= 1;
     }
     0
 }
@@ -43,17 +33,16 @@ pub fn end_of_line(s: &[u8], pos: usize) -> usize
     requires { pos ≤ length s.now }
     ensures { (result ≡ end_of_line s.now pos) × (pos ≤ result) × (result ≤ length s.now) }
 {
-    let mut i = pos;
-    while i < s.len() {
-        if s[i] == 0x0A {
+    for i in pos..s.len() {
+        if s[i] == b'\n' {
             return i;
         }
-        i += 1;
     }
-    i
+    s.len()
 }
 
 // Behind the line's own \n, the text's end where it has none.
+#[tactic(auto, unfolding(crate::specs::Lines::behind_line))]
 fn behind_line(s: &[u8], pos: usize) -> usize
     requires { pos ≤ length s.now }
     ensures { (result ≡ behind_line s.now pos) × (result ≤ length s.now) }
@@ -68,13 +57,11 @@ fn lines_up(s: &[u8], n: RepeatCount, a: usize) -> usize
     ensures { (result ≡ lines_up s.now n a) × (result ≤ a) }
 {
     let mut start = a;
-    let mut left = n;
-    while 0 < left {
+    for _ in 0..n {
         if start == 0 {
-            return 0;
+            break;
         }
         start = start_of_line(s, start - 1);
-        left -= 1;
     }
     start
 }
@@ -85,108 +72,103 @@ fn lines_down(s: &[u8], n: RepeatCount, e: usize) -> usize
     ensures { (result ≡ lines_down s.now n e) × (e ≤ result) × (result ≤ length s.now) }
 {
     let mut end = e;
-    let mut left = n;
-    while 0 < left {
+    for _ in 0..n {
         let x = end_of_line(s, end);
         if s.len() <= x {
             return s.len();
         }
         end = x + 1;
-        left -= 1;
     }
     end
 }
 
-pub fn n_lines_up(s: &[u8], pos: usize, n: RepeatCount) -> Range
+#[tactic(auto, unfolding(crate::specs::Lines::n_lines_up))]
+pub fn n_lines_up(s: &[u8], pos: usize, n: RepeatCount) -> Option<Span>
     requires { pos ≤ length s.now }
     ensures { result ≡ n_lines_up s.now pos n }
 {
     let a = start_of_line(s, pos);
     if a == 0 {
-        return Range::Nowhere;
+        return None;
     }
-    Range::Places(lines_up(s, n, a), behind_line(s, pos))
+    Some(Span {
+        start: lines_up(s, n, a),
+        end: behind_line(s, pos),
+    })
 }
 
-pub fn n_lines_down(s: &[u8], pos: usize, n: RepeatCount) -> Range
+#[tactic(auto, unfolding(crate::specs::Lines::n_lines_down))]
+pub fn n_lines_down(s: &[u8], pos: usize, n: RepeatCount) -> Option<Span>
     requires { pos ≤ length s.now }
     ensures { result ≡ n_lines_down s.now pos n }
 {
     let e = end_of_line(s, pos);
     if s.len() <= e {
-        return Range::Nowhere;
+        return None;
     }
-    let a = start_of_line(s, pos);
-    let from = if a == 0 { 0 } else { a - 1 };
-    Range::Places(from, lines_down(s, n, e + 1))
+    Some(Span {
+        start: start_of_line(s, pos).saturating_sub(1),
+        end: lines_down(s, n, e + 1),
+    })
 }
 
-// Where cluster number n of the part from a to b starts, other where there are no more than n.
-fn nth_cluster(s: &[u8], a: usize, b: usize, n: usize, other: usize) -> usize
-    requires { (a ≤ b) × (b ≤ length s.now) }
-    ensures { result ≡ nth_cluster catalogue s.now a b n other }
+// Where cluster number n of a line starts, other where there are no more than n.
+fn nth_cluster(s: &[u8], line: Span, n: usize, other: usize) -> usize
+    requires { (line.start ≤ line.end) × (line.end ≤ length s.now) }
+    ensures { result ≡ nth_cluster catalogue s.now line.start line.end n other }
 {
-    let t = &s[a..b];
+    let t = &s[line.start..line.end];
     let mut at = 0;
-    let mut left = n;
-    while at < t.len() {
-        let k = next_cluster(&t[at..]);
-        let len = k.len;
+    for _ in 0..n {
+        let len = next_cluster(&t[at..]).len;
         if len == 0 {
             return other;
         }
-        if left == 0 {
-            return a + at;
-        }
         at += len;
-        left -= 1;
     }
-    other
+    if next_cluster(&t[at..]).len == 0 {
+        other
+    } else {
+        line.start + at
+    }
 }
 
 // The line n lines above, or the first.
-fn line_above(s: &[u8], n: RepeatCount, a: usize, e: usize) -> Span
-    requires { (a ≤ e) × (e ≤ length s.now) }
-    ensures { (result ≡ line_above s.now n a e) × (result.start ≤ result.end) × (result.end ≤ e) }
+fn line_above(s: &[u8], n: RepeatCount, line: Span) -> Span
+    requires { (line.start ≤ line.end) × (line.end ≤ length s.now) }
+    ensures { (result ≡ line_above s.now n line.start line.end) × (result.start ≤ result.end) × (result.end ≤ line.end) }
 {
-    let mut start = a;
-    let mut end = e;
-    let mut left = n;
-    while 0 < left {
-        if start == 0 {
-            return Span { start, end };
+    let mut above = line;
+    for _ in 0..n {
+        if above.start == 0 {
+            break;
         }
-        end = start - 1;
-        start = start_of_line(s, end);
-        left -= 1;
+        let end = above.start - 1;
+        above = Span {
+            start: start_of_line(s, end),
+            end,
+        };
     }
-    Span { start, end }
+    above
 }
 
 // The line n lines below, or the last.
-fn line_below(s: &[u8], n: RepeatCount, a: usize, e: usize) -> Span
-    requires { (a ≤ e) × (e ≤ length s.now) }
-    ensures { (result ≡ line_below s.now n a e) × (result.start ≤ result.end) × (result.end ≤ length s.now) }
+fn line_below(s: &[u8], n: RepeatCount, line: Span) -> Span
+    requires { (line.start ≤ line.end) × (line.end ≤ length s.now) }
+    ensures { (result ≡ line_below s.now n line.start line.end) × (result.start ≤ result.end) × (result.end ≤ length s.now) }
 {
-    let mut start = a;
-    let mut end = e;
-    let mut left = n;
-    while 0 < left {
-        if end == s.len() {
-            return Span { start, end };
+    let mut below = line;
+    for _ in 0..n {
+        if below.end == s.len() {
+            break;
         }
-        start = end + 1;
-        end = end_of_line(s, start);
-        left -= 1;
+        let start = below.end + 1;
+        below = Span {
+            start,
+            end: end_of_line(s, start),
+        };
     }
-    Span { start, end }
-}
-
-// One less, and not below 0: the first line above or below needs no round.
-fn less_one(n: RepeatCount) -> RepeatCount
-    ensures { result ≡ n - 1 }
-{
-    if n == 0 { 0 } else { n - 1 }
+    below
 }
 
 // The columns before a line: the prompt's before the first.
@@ -196,44 +178,42 @@ fn columns_before(start: usize, prompt: usize) -> usize
     if start == 0 { prompt } else { 0 }
 }
 
-// a - b, and not below 0.
-fn less(a: usize, b: usize) -> usize
-    ensures { result ≡ a - b }
-{
-    if a < b { 0 } else { a - b }
-}
-
-pub fn line_up(s: &[u8], pos: usize, n: RepeatCount, prompt: usize) -> Found
+pub fn line_up(s: &[u8], pos: usize, n: RepeatCount, prompt: usize) -> Option<usize>
     requires { (pos ≤ length s.now) × (length s.now ≤ 131072) × (prompt ≤ 1024) }
     ensures { result ≡ line_up catalogue s.now pos n prompt }
 {
     let own = start_of_line(s, pos);
     if own == 0 {
-        return Found::Nothing;
+        return None;
     }
     let column = width(&s[own..pos], 0);
     let off = own - 1;
-    let l = line_above(s, less_one(n), start_of_line(s, off), off);
-    let start = l.start;
-    let end = l.end;
-    let wanted = less(column, columns_before(start, prompt));
-    Found::At(nth_cluster(s, start, end, wanted, off))
+    let before = Span {
+        start: start_of_line(s, off),
+        end: off,
+    };
+    // The line before the cursor's needs no round, and n = 0 acts as 1.
+    let line = line_above(s, n.saturating_sub(1), before);
+    let wanted = column.saturating_sub(columns_before(line.start, prompt));
+    Some(nth_cluster(s, line, wanted, off))
 }
 
-pub fn line_down(s: &[u8], pos: usize, n: RepeatCount, prompt: usize) -> Found
+pub fn line_down(s: &[u8], pos: usize, n: RepeatCount, prompt: usize) -> Option<usize>
     requires { (pos ≤ length s.now) × (length s.now ≤ 131072) × (prompt ≤ 1024) }
     ensures { result ≡ line_down catalogue s.now pos n prompt }
 {
     let e = end_of_line(s, pos);
     if s.len() <= e {
-        return Found::Nothing;
+        return None;
     }
     let own = start_of_line(s, pos);
     let before = columns_before(own, prompt);
     let column = width(&s[own..pos], before) + before;
     let first = e + 1;
-    let l = line_below(s, less_one(n), first, end_of_line(s, first));
-    let start = l.start;
-    let end = l.end;
-    Found::At(nth_cluster(s, start, end, column, end))
+    let after = Span {
+        start: first,
+        end: end_of_line(s, first),
+    };
+    let line = line_below(s, n.saturating_sub(1), after);
+    Some(nth_cluster(s, line, column, line.end))
 }

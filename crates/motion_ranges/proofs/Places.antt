@@ -8,6 +8,7 @@ use native.Mathlib.Omega.{arith}
 use borrow.Author.Tests.{ltb-false}
 use lib.Dec.{eqb, ltb}
 use lib.ListN.{length}
+use Rattle.std.specs.Prelude.{Option, None, Some}
 use Rattle.utf8.specs.Chars.{valid, boundary, In}
 use Rattle.utf8.specs.Encode.{size}
 use Rattle.utf8.proofs.Boundary.{boundary-zero, boundary_end}
@@ -20,56 +21,52 @@ use Rattle.keymap.specs.declared.Movement.{Movement}
 use Rattle.keymap.specs.declared.Movement.TheVariants as m
 use Rattle.motion.specs.Steps.{next_pos, prev_pos}
 use Rattle.motion.specs.Search.{match_forward, match_backward}
-use Rattle.motion.specs.declared.Found.{Found}
-use Rattle.motion.specs.declared.Found.TheVariants as found
 use Rattle.motion.proofs.Matches.{forward-stands, backward_stands}
 use Rattle.motion.proofs.Places.{next_pos_place, prev_pos_place}
 use Rattle.motion_words.specs.Words.{prev_word_pos, next_word_pos}
 use Rattle.motion_words.proofs.Places.{next-word-place, prev_word-place}
-use Rattle.motion_lines.specs.Lines.{start_of_line, end_of_line}
-use Rattle.motion_lines.specs.declared.Range.{Range}
-use Rattle.motion_lines.specs.declared.Range.TheVariants.{Places, Nowhere}
-use Rattle.motion_lines.proofs.Places.{start_of_line-place, end_of_line-place, lines_up_place, lines_down_place}
+use Rattle.motion_lines.specs.Lines.{start_of_line, end_of_line, places}
+use Rattle.motion_lines.proofs.Places.{same-places, start_of_line-place, end_of_line-place, lines_up_place, lines_down_place}
 use Rattle.motion_ranges.specs.Ranges.{up_to, back_to, between, search_range, first_print, range_of, copied, is_after, is_first_print}
 use Rattle.motion_ranges.specs.Ranges.{starts_after}
+use Rattle.motion_lines.specs.declared.Span.{Span}
 
 -- ---- what holds of the places that an answer is made of holds of its two places
 module _ (P : ℕ → ℕ → Type 0) (a b : ℕ) where
-  of_places : (x y : ℕ) → Places x y ≡ Places a b → P x y → P a b
+  of_places : (x y : ℕ) → places x y ≡ places a b → P x y → P a b
   of_places x y e h =
-      let u : x ≡ a = cc in
-      let w : y ≡ b = cc in
-      subst (λ (i : ℕ). P i b) u (subst (P x) w h)
+      let q = same-places x y a b e in
+      subst (λ (i : ℕ). P i b) q.0 (subst (P x) q.1 h)
 
-  pub of_nowhere : Nowhere ≡ Places a b → P a b
+  pub of_nowhere : None ≡ places a b → P a b
   of_nowhere e = let z : ◌≡◌ {A = ℕ} 0 1 = cc in absurd (omega arith)
 
-  of_test : (t : Bool) (r : Range) → cond t Nowhere r ≡ Places a b → (r ≡ Places a b → P a b) → P a b
+  of_test : (t : Bool) (r : Option Span) → cond t None r ≡ places a b → (r ≡ places a b → P a b) → P a b
   of_test true r e g = of_nowhere e
   of_test false r e g = g e
 
-  pub of_between : (x y : ℕ) → between x y ≡ Places a b → P x y → P a b
-  of_between x y e h = of_test (eqb x y) (Places x y) e (λ q. of_places x y q h)
+  pub of_between : (x y : ℕ) → between x y ≡ places a b → P x y → P a b
+  of_between x y e h = of_test (eqb x y) (places x y) e (λ q. of_places x y q h)
 
   module _ (pos k : ℕ) where
-    of_up : (f : Found) → up_to pos k f ≡ Places a b → ((p : ℕ) → f ≡ found.At p → P pos (p + k)) → P a b
-    of_up (found.At p) e g = of_places pos (p + k) e (g p refl)
-    of_up found.Nothing e g = of_nowhere e
+    of_up : (f : Option ℕ) → up_to pos k f ≡ places a b → ((p : ℕ) → f ≡ Some p → P pos (p + k)) → P a b
+    of_up (Some p) e g = of_places pos (p + k) e (g p refl)
+    of_up None e g = of_nowhere e
 
-    of_back : (f : Found) → back_to pos k f ≡ Places a b → ((p : ℕ) → f ≡ found.At p → P (p + k) pos) → P a b
-    of_back (found.At p) e g = of_places (p + k) pos e (g p refl)
-    of_back found.Nothing e g = of_nowhere e
+    of_back : (f : Option ℕ) → back_to pos k f ≡ places a b → ((p : ℕ) → f ≡ Some p → P (p + k) pos) → P a b
+    of_back (Some p) e g = of_places (p + k) pos e (g p refl)
+    of_back None e g = of_nowhere e
 
 -- from the cursor to a place that is found, and back
 module _ (s : List ℕ) (pos a b : ℕ) (k : boundary s pos ≡ true) (h : pos ≤ length s) where
-  pub up_in : (f : Found) → up_to pos 0 f ≡ Places a b → ((p : ℕ) → f ≡ found.At p → (pos ≤ p) × (p ≤ length s) × (boundary s p ≡ true)) → In s a b
+  pub up_in : (f : Option ℕ) → up_to pos 0 f ≡ places a b → ((p : ℕ) → f ≡ Some p → (pos ≤ p) × (p ≤ length s) × (boundary s p ≡ true)) → In s a b
   up_in f e g = of_up (In s) a b pos 0 f e (λ p q. let z = g p q in subst (In s pos) (sym (add-zero p)) (z.0, z.1, k, z.2))
 
-  pub back_in : (f : Found) → back_to pos 0 f ≡ Places a b → ((p : ℕ) → f ≡ found.At p → (p ≤ pos) × (boundary s p ≡ true)) → In s a b
+  pub back_in : (f : Option ℕ) → back_to pos 0 f ≡ places a b → ((p : ℕ) → f ≡ Some p → (p ≤ pos) × (boundary s p ≡ true)) → In s a b
   back_in f e g = of_back (In s) a b pos 0 f e (λ p q. let z = g p q in subst (λ (i : ℕ). In s i pos) (sym (add-zero p)) (z.0, h, z.1, k))
 
 module _ (R : Repertoire) (s : List ℕ) (pos a b : ℕ) (v : valid s ≡ true) (k : boundary s pos ≡ true) (h : pos ≤ length s) where
-  search_in : (n : ℕ) (cs : CharSearch) → search_range R s pos n cs ≡ Places a b → In s a b
+  search_in : (n : ℕ) (cs : CharSearch) → search_range R s pos n cs ≡ places a b → In s a b
   search_in n (Forward c) e =
       of_up (In s) a b pos (size c) (match_forward R s pos c n) e
       (λ p q. let z = forward-stands R s pos c n p v k h q in let o = z.0 in (omega arith, z.1.fits, k, z.1.behind))
@@ -84,7 +81,7 @@ module _ (R : Repertoire) (s : List ℕ) (pos a b : ℕ) (v : valid s ≡ true) 
       (λ p q. let z = backward_stands s pos c n p k h q in (z.0, h, z.1.behind, k))
 
   -- ViFirstPrint's start lies in the text, and may lie after the cursor
-  range_in : (mvt : Movement) → range_of R s pos mvt ≡ Places a b → (is_first_print mvt ≡ true → a ≤ pos) → In s a b
+  range_in : (mvt : Movement) → range_of R s pos mvt ≡ places a b → (is_first_print mvt ≡ true → a ≤ pos) → In s a b
   range_in m.WholeLine e f =
       let o = start_of_line-place s pos v h in
       of_test (In s) a b (eqb (start_of_line s pos) (end_of_line s pos)) _ e
@@ -118,7 +115,7 @@ module _ (R : Repertoire) (s : List ℕ) (pos a b : ℕ) (v : valid s ≡ true) 
 
 -- where check 5 passes
 pub copied-place : (R : Repertoire) (s : List ℕ) (pos : ℕ) (mvt : Movement) (a b : ℕ) → valid s ≡ true → boundary s pos ≡ true → pos ≤ length s →
-    starts_after R s pos mvt ≡ false → copied R s pos mvt ≡ Places a b → In s a b
+    starts_after R s pos mvt ≡ false → copied R s pos mvt ≡ places a b → In s a b
 unfolding copied starts_after
 copied-place R s pos mvt a b v k h f e =
     of_test (In s) a b (eqb (length s) 0) (range_of R s pos mvt) e
@@ -126,4 +123,4 @@ copied-place R s pos mvt a b v k h f e =
     range_in R s pos a b v k h mvt q
     (λ t.
     ltb-false pos a
-    (sym (ap (λ (x : Bool). x && ltb pos a) t) ∙ ap (λ (r : Range). is_first_print mvt && is_after pos r) (sym e) ∙ f)))
+    (sym (ap (λ (x : Bool). x && ltb pos a) t) ∙ ap (λ (r : Option Span). is_first_print mvt && is_after pos r) (sym e) ∙ f)))

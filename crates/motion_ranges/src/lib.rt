@@ -3,63 +3,56 @@
 #![tactic(auto)]
 
 ghost use Rattle.std.specs.Prelude.{◌≡◌, true, ◌+◌, ◌≤◌, ◌<◌, length};
-ghost use Rattle.utf8.specs.Chars.{valid, boundary};
 ghost use Rattle.repertoire.specs.Repertoire.{catalogue};
+ghost use Rattle.motion.specs.Steps.{IsPlace};
 ghost use Rattle.motion_ranges.specs.Ranges.{up_to, back_to, between as Ranges·between, search_range, range_of, copied as Ranges·copied};
 ghost use Rattle.motion_ranges.specs.Ranges.{starts_after, char_of, is_foreign};
 
 use keymap::{At, CharSearch, Movement, RepeatCount, Word};
-use motion::{Found, match_backward, match_forward, next_pos, prev_pos, search_char_pos};
-use motion_lines::{Range, end_of_line, n_lines_down, n_lines_up, start_of_line};
+use motion::{match_backward, match_forward, next_pos, prev_pos, search_char_pos};
+use motion_lines::{Span, end_of_line, n_lines_down, n_lines_up, start_of_line};
 use motion_words::{next_word_pos, prev_word_pos};
 use repertoire::check_char;
 use utf8::char_size;
 
 // Two places that differ.
-fn between(a: usize, b: usize) -> Range
+fn between(a: usize, b: usize) -> Option<Span>
     ensures { result ≡ Ranges·between a b }
 {
     if a == b {
-        Range::Nowhere
+        None
     } else {
-        Range::Places(a, b)
+        Some(Span { start: a, end: b })
     }
 }
 
 // From the cursor to a place that is found.
-fn up_to(pos: usize, f: Found) -> Range
+fn up_to(pos: usize, f: Option<usize>) -> Option<Span>
     ensures { result ≡ up_to pos 0 f }
 {
-    match f {
-        Found::At(p) => Range::Places(pos, p),
-        Found::Nothing => Range::Nowhere,
-    }
+    f.map(|p| Span { start: pos, end: p })
 }
 
 // From a place that is found to the cursor.
-fn back_to(pos: usize, f: Found) -> Range
+fn back_to(pos: usize, f: Option<usize>) -> Option<Span>
     ensures { result ≡ back_to pos 0 f }
 {
-    match f {
-        Found::At(p) => Range::Places(p, pos),
-        Found::Nothing => Range::Nowhere,
-    }
+    f.map(|p| Span { start: p, end: pos })
 }
 
 // From the cursor to behind the n-th match of c.
-fn past_match(s: &[u8], pos: usize, c: u32, n: RepeatCount) -> Range
-    requires { (valid s.now ≡ true) × (boundary s.now pos ≡ true) × (pos ≤ length s.now) }
+fn past_match(s: &[u8], pos: usize, c: u32, n: RepeatCount) -> Option<Span>
+    requires { IsPlace s.now pos }
     ensures { result ≡ search_range catalogue s.now pos n (CharSearch.Forward c) }
 {
-    let f = match_forward(s, pos, c, n);
-    match f {
-        Found::At(p) => Range::Places(pos, p + char_size(c)),
-        Found::Nothing => Range::Nowhere,
-    }
+    match_forward(s, pos, c, n).map(|p| Span {
+        start: pos,
+        end: p + char_size(c),
+    })
 }
 
-fn search_range(s: &[u8], pos: usize, n: RepeatCount, cs: CharSearch) -> Range
-    requires { (valid s.now ≡ true) × (boundary s.now pos ≡ true) × (pos ≤ length s.now) }
+fn search_range(s: &[u8], pos: usize, n: RepeatCount, cs: CharSearch) -> Option<Span>
+    requires { IsPlace s.now pos }
     ensures { result ≡ search_range catalogue s.now pos n cs }
 {
     match cs {
@@ -71,30 +64,30 @@ fn search_range(s: &[u8], pos: usize, n: RepeatCount, cs: CharSearch) -> Range
 }
 
 // From the line's start to the cursor; nowhere on an empty line.
-fn whole_line(s: &[u8], pos: usize) -> Range
+fn whole_line(s: &[u8], pos: usize) -> Option<Span>
     requires { pos ≤ length s.now }
     ensures { result ≡ range_of catalogue s.now pos Movement.WholeLine }
 {
-    let a = start_of_line(s, pos);
-    if a == end_of_line(s, pos) {
-        Range::Nowhere
+    let start = start_of_line(s, pos);
+    if start == end_of_line(s, pos) {
+        None
     } else {
-        Range::Places(a, pos)
+        Some(Span { start, end: pos })
     }
 }
 
 // From the first printable word to the cursor.
-fn first_print(s: &[u8], pos: usize) -> Range
+fn first_print(s: &[u8], pos: usize) -> Option<Span>
     ensures { result ≡ range_of catalogue s.now pos Movement.ViFirstPrint }
 {
     if pos == 0 {
-        return Range::Nowhere;
+        return None;
     }
     back_to(pos, next_word_pos(s, 0, At::Start, Word::Big, 1))
 }
 
-fn range_of(s: &[u8], pos: usize, m: Movement) -> Range
-    requires { (valid s.now ≡ true) × (boundary s.now pos ≡ true) × (pos ≤ length s.now) }
+fn range_of(s: &[u8], pos: usize, m: Movement) -> Option<Span>
+    requires { IsPlace s.now pos }
     ensures { result ≡ range_of catalogue s.now pos m }
 {
     match m {
@@ -109,48 +102,45 @@ fn range_of(s: &[u8], pos: usize, m: Movement) -> Range
         Movement::ForwardChar(n) => up_to(pos, next_pos(s, pos, n)),
         Movement::LineUp(n) => n_lines_up(s, pos, n),
         Movement::LineDown(n) => n_lines_down(s, pos, n),
-        Movement::WholeBuffer => Range::Places(0, s.len()),
+        Movement::WholeBuffer => Some(Span {
+            start: 0,
+            end: s.len(),
+        }),
         Movement::BeginningOfBuffer => between(0, pos),
         Movement::EndOfBuffer => between(pos, s.len()),
     }
 }
 
 // The places of copy; nowhere in an empty text.
-pub fn copied(s: &[u8], pos: usize, m: Movement) -> Range
-    requires { (valid s.now ≡ true) × (boundary s.now pos ≡ true) × (pos ≤ length s.now) }
+#[tactic(auto, unfolding(crate::specs::Ranges::copied))]
+pub fn copied(s: &[u8], pos: usize, m: Movement) -> Option<Span>
+    requires { IsPlace s.now pos }
     ensures { result ≡ Ranges·copied catalogue s.now pos m }
 {
-    if s.len() == 0 {
-        return Range::Nowhere;
+    if s.is_empty() {
+        return None;
     }
     range_of(s, pos, m)
 }
 
 // Check 5: does ViFirstPrint start after the cursor?
+#[tactic(auto, unfolding(crate::specs::Ranges::starts_after, crate::specs::Ranges::copied))]
 pub fn starts_after(s: &[u8], pos: usize, m: Movement) -> bool
     ensures { result ≡ starts_after catalogue s.now pos m }
 {
-    let Movement::ViFirstPrint = m else {
-        return false;
-    };
-    if s.len() == 0 {
-        return false;
-    }
-    let f = first_print(s, pos);
-    match f {
-        Range::Places(a, _) => pos < a,
-        Range::Nowhere => false,
-    }
+    matches!(m, Movement::ViFirstPrint)
+        && !s.is_empty()
+        && first_print(s, pos).is_some_and(|range| pos < range.start)
 }
 
 fn char_of(cs: CharSearch) -> u32
     ensures { result ≡ char_of cs }
 {
     match cs {
-        CharSearch::Forward(c) => c,
-        CharSearch::ForwardBefore(c) => c,
-        CharSearch::Backward(c) => c,
-        CharSearch::BackwardAfter(c) => c,
+        CharSearch::Forward(c)
+        | CharSearch::ForwardBefore(c)
+        | CharSearch::Backward(c)
+        | CharSearch::BackwardAfter(c) => c,
     }
 }
 

@@ -5,17 +5,17 @@ use mathlib.Core.List.{List}
 use Prim.Native.Nat.{ℕ, ◌+◌, ◌-◌}
 use lib.ListN.{length, take, drop}
 use borrow.Author.Tests.{eq-eqb, ne_eqb}
+use Rattle.std.specs.Prelude.{None, Some}
 use Rattle.lists.proofs.Parts.{part-tail}
 use Rattle.repertoire.specs.Repertoire.{Repertoire}
 use Rattle.keymap.specs.declared.Word.{Word}
 use Rattle.keymap.specs.declared.At.{At}
-use Rattle.motion.specs.declared.Found.TheVariants as found
 use Rattle.motion_words.specs.declared.Landing.{Landing}
 use Rattle.motion_words.specs.Rules.{lands_behind}
 use Rattle.motion_words.specs.Words.{next_word, no_word, landed, next_word_pos}
 
 module _ (s : List ℕ) (pos : ℕ) (behind : Bool) (r : Landing) where
-  landed_found : (r.found ≡ 0 → ⊥) → landed s pos behind r ≡ found.At (r.found + pos)
+  landed_found : (r.found ≡ 0 → ⊥) → landed s pos behind r ≡ Some (r.found + pos)
   unfolding landed
   landed_found h = rw (ne_eqb _ _ h)
 
@@ -24,20 +24,20 @@ module _ (s : List ℕ) (pos : ℕ) (behind : Bool) (r : Landing) where
   landed_none h = rw (eq-eqb _ _ h)
 
 module _ (s : List ℕ) (pos last : ℕ) where
-  none_end : no_word s pos true last ≡ found.At (length s)
+  none_end : no_word s pos true last ≡ Some (length s)
   unfolding no_word
   none_end = refl
 
-  none_nothing : last ≡ 0 → no_word s pos false last ≡ found.Nothing
+  none_nothing : last ≡ 0 → no_word s pos false last ≡ None
   unfolding no_word
   none_nothing h = rw (eq-eqb _ _ h)
 
-  none_last : (last ≡ 0 → ⊥) → no_word s pos false last ≡ found.At (last + pos)
+  none_last : (last ≡ 0 → ⊥) → no_word s pos false last ≡ Some (last + pos)
   unfolding no_word
   none_last h = rw (ne_eqb _ _ h)
 
 module _ (R : Repertoire) (s : List ℕ) (pos : ℕ) (at : At) (w : Word) (n : ℕ) where
-  pub pos_end : pos ≡ length s → found.Nothing ≡ next_word_pos R s pos at w n
+  pub pos_end : pos ≡ length s → None ≡ next_word_pos R s pos at w n
   unfolding next_word_pos
   pos_end h = rw (eq-eqb _ _ h)
 
@@ -49,7 +49,7 @@ module _ (R : Repertoire) (s : List ℕ) (pos : ℕ) (at : At) (w : Word) (n : �
     pos_of : next_word_pos R s pos at w n ≡ landed s pos (lands_behind at w) r
     pos_of = pos_landed h ∙ ap (landed s pos (lands_behind at w)) (sym (e ∙ ap (λ (l : List ℕ). next_word R l at w n) (part-tail s pos)))
 
-    pub pos_found : (r.found ≡ 0 → ⊥) → found.At (r.found + pos) ≡ next_word_pos R s pos at w n
+    pub pos_found : (r.found ≡ 0 → ⊥) → Some (r.found + pos) ≡ next_word_pos R s pos at w n
     pos_found f = sym (pos_of ∙ landed_found s pos (lands_behind at w) r f)
 
     -- no word is found; b: does the motion land behind a word?
@@ -57,11 +57,11 @@ module _ (R : Repertoire) (s : List ℕ) (pos : ℕ) (at : At) (w : Word) (n : �
       pos_none : next_word_pos R s pos at w n ≡ no_word s pos b r.last
       pos_none = pos_of ∙ landed_none s pos (lands_behind at w) r f ∙ ap (λ (x : Bool). no_word s pos x r.last) (sym g)
 
-      pub pos_behind : b ≡ true → found.At (length s) ≡ next_word_pos R s pos at w n
+      pub pos_behind : b ≡ true → Some (length s) ≡ next_word_pos R s pos at w n
       pos_behind t = sym (pos_none ∙ ap (λ (x : Bool). no_word s pos x r.last) t ∙ none_end s pos r.last)
 
-      pub pos_nothing : b ≡ false → r.last ≡ 0 → found.Nothing ≡ next_word_pos R s pos at w n
+      pub pos_nothing : b ≡ false → r.last ≡ 0 → None ≡ next_word_pos R s pos at w n
       pos_nothing t l = sym (pos_none ∙ ap (λ (x : Bool). no_word s pos x r.last) t ∙ none_nothing s pos r.last l)
 
-      pub pos_last : b ≡ false → (r.last ≡ 0 → ⊥) → found.At (r.last + pos) ≡ next_word_pos R s pos at w n
+      pub pos_last : b ≡ false → (r.last ≡ 0 → ⊥) → Some (r.last + pos) ≡ next_word_pos R s pos at w n
       pos_last t l = sym (pos_none ∙ ap (λ (x : Bool). no_word s pos x r.last) t ∙ none_last s pos r.last l)

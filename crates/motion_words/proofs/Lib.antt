@@ -1,4 +1,3 @@
-pub mod Rules
 pub mod Indices
 pub mod Walks
 pub mod Landings

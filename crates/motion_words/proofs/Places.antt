@@ -8,6 +8,7 @@ use native.Mathlib.Omega.{arith}
 use lib.Dec.{eqb}
 use lib.ListN.{length, take, drop, length-drop}
 use lib.Seq.{length-take-le}
+use Rattle.std.specs.Prelude.{Option, None, Some}
 use Rattle.lists.specs.Lists.{concat}
 use Rattle.lists.proofs.Bools.{by_test}
 use Rattle.lists.proofs.Parts.{part-tail}
@@ -24,8 +25,6 @@ use Rattle.cluster.proofs.Facts.{bytes-append}
 use Rattle.cluster.proofs.Parts.{cut_chars}
 use Rattle.keymap.specs.declared.Word.{Word}
 use Rattle.keymap.specs.declared.At.{At}
-use Rattle.motion.specs.declared.Found.{Found}
-use Rattle.motion.specs.declared.Found.TheVariants as found
 use Rattle.motion_words.specs.declared.Landing.{Landing}
 use Rattle.motion_words.specs.Rules.{lands_behind}
 use Rattle.motion_words.specs.Walk.{GraphemeIndex, indices_from, grapheme_indices, Scan, hit, out, scan, onward, walk}
@@ -123,34 +122,34 @@ AtBoundary t i = (i ≤ length t) × (boundary t i ≡ true)
 boundary-chars : (t : List ℕ) → valid t ≡ true → (us vs : List ℕ) → chars t ≡ us ++ vs → AtBoundary t (bytes us)
 boundary-chars t v us vs e = let c = cut_chars t us vs v e in (c.fits, c.at-boundary)
 
-by_cond : (P : Type 0) (b : Bool) (x y z : Found) → cond b x y ≡ z → (x ≡ z → P) → (y ≡ z → P) → P
+by_cond : (P : Type 0) (b : Bool) (x y z : Option ℕ) → cond b x y ≡ z → (x ≡ z → P) → (y ≡ z → P) → P
 by_cond P true x y z e f g = f e
 by_cond P false x y z e f g = g e
 
-at_same : (i p : ℕ) → found.At i ≡ found.At p → i ≡ p
+at_same : (i p : ℕ) → Some i ≡ Some p → i ≡ p
 at_same i p e = cc
 
-at_never : (P : Type 0) (p : ℕ) → found.Nothing ≡ found.At p → P
+at_never : (P : Type 0) (p : ℕ) → None ≡ Some p → P
 at_never P p e = let z : ◌≡◌ {A = ℕ} 0 1 = cc in absurd (omega arith)
 
 -- from pos on
 abbrev Ahead : List ℕ → ℕ → ℕ → Type 0
 Ahead s pos p = (pos ≤ p) × (p ≤ length s) × (boundary s p ≡ true)
 
-ahead : (s : List ℕ) (pos i p : ℕ) → boundary s pos ≡ true → pos ≤ length s → AtBoundary (drop pos s) i → found.At (i + pos) ≡ found.At p → Ahead s pos p
+ahead : (s : List ℕ) (pos i p : ℕ) → boundary s pos ≡ true → pos ≤ length s → AtBoundary (drop pos s) i → Some (i + pos) ≡ Some p → Ahead s pos p
 ahead s pos i p b h e q =
     let l : i ≤ length s - pos = rw length-drop at e.0 in
     let z : i + pos ≡ p = at_same (i + pos) p q in
     let y : pos + i ≡ p = omega arith in
     (omega arith, omega arith, ap (boundary s) (sym y) ∙ boundary-drop s pos i b ∙ e.1)
 
-at-end : (s : List ℕ) (pos p : ℕ) → valid s ≡ true → pos ≤ length s → found.At (length s) ≡ found.At p → Ahead s pos p
+at-end : (s : List ℕ) (pos p : ℕ) → valid s ≡ true → pos ≤ length s → Some (length s) ≡ Some p → Ahead s pos p
 at-end s pos p v h q =
     let z : length s ≡ p = at_same (length s) p q in
     (omega arith, omega arith, ap (boundary s) (sym z) ∙ boundary_end s v)
 
 pub next-word-place : (R : Repertoire) (s : List ℕ) (pos : ℕ) (at : At) (w : Word) (n p : ℕ) → valid s ≡ true → boundary s pos ≡ true → pos ≤ length s →
-    next_word_pos R s pos at w n ≡ found.At p → (pos ≤ p) × (p ≤ length s) × (boundary s p ≡ true)
+    next_word_pos R s pos at w n ≡ Some p → (pos ≤ p) × (p ≤ length s) × (boundary s p ≡ true)
 unfolding next_word_pos landed no_word
 next-word-place R s pos at w n p v b h e =
     let t = drop pos s in
@@ -165,7 +164,7 @@ next-word-place R s pos at w n p v b h e =
     (ahead s pos l.found p b h k.0))
 
 pub prev_word-place : (R : Repertoire) (s : List ℕ) (pos : ℕ) (w : Word) (n p : ℕ) → valid s ≡ true → boundary s pos ≡ true → pos ≤ length s →
-    prev_word_pos R s pos w n ≡ found.At p → (p ≤ pos) × (boundary s p ≡ true)
+    prev_word_pos R s pos w n ≡ Some p → (p ≤ pos) × (boundary s p ≡ true)
 unfolding prev_word_pos
 prev_word-place R s pos w n p v b h e =
     let t = take pos s in

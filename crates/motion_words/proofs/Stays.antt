@@ -5,13 +5,12 @@ use mathlib.Core.Path.{◌≡◌, refl}
 use mathlib.Core.Bool.{true}
 use mathlib.Core.List.{List}
 use lib.ListN.{length}
+use Rattle.std.specs.Prelude.{Option, None, Some}
 use Rattle.utf8.specs.Chars.{valid, boundary}
 use Rattle.repertoire.specs.Repertoire.{Repertoire}
 use Rattle.keymap.specs.declared.Word.TheVariants.{Emacs}
 use Rattle.keymap.specs.declared.At.TheVariants.{AfterEnd}
 use Rattle.motion.specs.Steps.{next_pos, prev_pos, or_stay}
-use Rattle.motion.specs.declared.Found.{Found}
-use Rattle.motion.specs.declared.Found.TheVariants.{At, Nothing}
 use Rattle.motion.proofs.Places.{next_pos_place, prev_pos_place}
 use Rattle.motion_words.specs.Words.{prev_word_pos, next_word_pos}
 use Rattle.motion_words.proofs.Places.{next-word-place, prev_word-place}
@@ -26,13 +25,13 @@ module _ (R : Repertoire) (t : List ℕ) (v : valid t ≡ true) (pos : ℕ) (b :
   abbrev Before : ℕ → Type 0
   Before p = (p ≤ pos) × (boundary t p ≡ true)
 
-  after : (f : Found) → ((p : ℕ) → f ≡ At p → After p) → After (or_stay pos f)
-  after (At p) k = k p refl
-  after Nothing k = (omega arith, h, b)
+  after : (f : Option ℕ) → ((p : ℕ) → f ≡ Some p → After p) → After (or_stay pos f)
+  after (Some p) k = k p refl
+  after None k = (omega arith, h, b)
 
-  before : (f : Found) → ((p : ℕ) → f ≡ At p → Before p) → Before (or_stay pos f)
-  before (At p) k = k p refl
-  before Nothing k = (omega arith, b)
+  before : (f : Option ℕ) → ((p : ℕ) → f ≡ Some p → Before p) → Before (or_stay pos f)
+  before (Some p) k = k p refl
+  before None k = (omega arith, b)
 
   pub on_place : After (on_from R t pos)
   on_place = after (next_pos R t pos 1) (λ p e. next_pos_place R t pos 1 p v b h e)

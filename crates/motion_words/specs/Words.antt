@@ -1,11 +1,9 @@
 -- Word motions: line_buffer.rs, prev_word_pos and next_word_pos.
-use Rattle.std.specs.Prelude.{ℕ, ◌+◌, Bool, true, false, cond, List, reverse, eqb, length, take, drop}
+use Rattle.std.specs.Prelude.{ℕ, ◌+◌, Bool, true, false, cond, List, reverse, eqb, length, take, drop, Option, None, Some}
 use Rattle.repertoire.specs.Repertoire.{Repertoire}
 use Rattle.keymap.specs.declared.Word.{Word}
 use Rattle.keymap.specs.declared.At.{At}
 use Rattle.keymap.specs.declared.At.TheVariants.{Start, BeforeEnd, AfterEnd}
-use Rattle.motion.specs.declared.Found.{Found}
-use Rattle.motion.specs.declared.Found.TheVariants as found
 use Rattle.motion_words.specs.declared.Landing.{Landing}
 use Rattle.motion_words.specs.Rules.{is_start_of_word, stops_at, lands_behind}
 use Rattle.motion_words.specs.Walk.{GraphemeIndex, grapheme_indices, walk}
@@ -39,15 +37,15 @@ unfoldable pub next_word : Repertoire → List ℕ → At → Word → ℕ → L
 next_word R t at w n = walk (stops at w) (lands at w) n (drop (passed at) (grapheme_indices R t)) 0
 
 -- no word found: the text's end, or the start of the last cluster read, if that is not the first one
-unfoldable pub no_word : List ℕ → ℕ → Bool → ℕ → Found
-no_word s pos behind last = cond behind (found.At (length s)) (cond (eqb last 0) found.Nothing (found.At (last + pos)))
+unfoldable pub no_word : List ℕ → ℕ → Bool → ℕ → Option ℕ
+no_word s pos behind last = cond behind (Some (length s)) (cond (eqb last 0) None (Some (last + pos)))
 
-unfoldable pub landed : List ℕ → ℕ → Bool → Landing → Found
-landed s pos behind l = cond (eqb l.found 0) (no_word s pos behind l.last) (found.At (l.found + pos))
+unfoldable pub landed : List ℕ → ℕ → Bool → Landing → Option ℕ
+landed s pos behind l = cond (eqb l.found 0) (no_word s pos behind l.last) (Some (l.found + pos))
 
-unfoldable pub next_word_pos : Repertoire → List ℕ → ℕ → At → Word → ℕ → Found
+unfoldable pub next_word_pos : Repertoire → List ℕ → ℕ → At → Word → ℕ → Option ℕ
 next_word_pos R s pos at w n =
-    cond (eqb pos (length s)) found.Nothing (landed s pos (lands_behind at w) (next_word R (drop pos s) at w n))
+    cond (eqb pos (length s)) None (landed s pos (lands_behind at w) (next_word R (drop pos s) at w n))
 
 -- ---- backward, over the part before the place: y is read, x stands before it
 abbrev pub starts_back : Word → GraphemeIndex → GraphemeIndex → Bool
@@ -59,5 +57,5 @@ lands_back y x = y.start
 unfoldable pub prev_word : Repertoire → List ℕ → Word → ℕ → ℕ
 prev_word R t w n = (walk (starts_back w) lands_back n (reverse (grapheme_indices R t)) 0).found
 
-unfoldable pub prev_word_pos : Repertoire → List ℕ → ℕ → Word → ℕ → Found
-prev_word_pos R s pos w n = cond (eqb pos 0) found.Nothing (found.At (prev_word R (take pos s) w n))
+unfoldable pub prev_word_pos : Repertoire → List ℕ → ℕ → Word → ℕ → Option ℕ
+prev_word_pos R s pos w n = cond (eqb pos 0) None (Some (prev_word R (take pos s) w n))

@@ -9,10 +9,11 @@ ghost use Rattle.numbers.specs.Numbers.{Width, top, le, num_at};
 pub fn wide(b: u8) -> usize
     ensures { (result ≡ b) × (result < 256) }
 {
-    b as usize
+    usize::from(b)
 }
 
-// The little-endian number in the width bytes at a place: 2 bytes, or 4.
+// The little-endian number in the width bytes at a place: 2 bytes, or 4. A loop over the bytes would hold no line for each
+// half, and the edits high_byte_weighs_255 and high_half_weighs_65535 turn those.
 pub fn read_num(s: &[u8], at: usize, width: usize) -> usize
     requires width { Width width }
     requires width_in_bounds { at + width ≤ length s.now }
@@ -31,11 +32,9 @@ pub fn write_num(s: &mut [u8], at: usize, v: usize, width: usize)
     ensures { s.new ≡ sets s.old at (le width v) }
 {
     let mut rest = v;
-    let mut i: usize = 0;
-    while i < width {
-        s[at + i] = (rest % 256) as u8;
-        rest = rest / 256;
-        i += 1;
+    for byte in &mut s[at..at + width] {
+        *byte = (rest % 256) as u8;
+        rest /= 256;
     }
 }
 
@@ -45,10 +44,8 @@ pub fn top_of(width: usize) -> usize
     ensures { result ≡ top width }
 {
     let mut above: usize = 1;
-    let mut left = width;
-    while 0 < left {
-        left -= 1;
-        above = 256 * above;
+    for _ in 0..width {
+        above *= 256;
     }
     above
 }

@@ -9,6 +9,7 @@ use borrow.Author.Tests.{ne_eqb}
 use lib.Dec.{T}
 use lib.ListN.{length, get_or, take, drop, take-append-drop}
 use lib.Seq.{drop-drop, take-suc}
+use Rattle.std.specs.Prelude.{Some}
 use Rattle.lists.specs.Lists.{all}
 use Rattle.lists.proofs.Bools.{and_both, by_less, never}
 use Rattle.lists.proofs.Alls.{all_append}
@@ -24,7 +25,7 @@ abbrev pub OneByte : Repertoire → (ℕ → Bool) → Type 0
 OneByte R p = (b : ℕ) → p b ≡ true → (b ≤ 0x7F) × (R.member b ≡ true)
 
 module _ (R : Repertoire) (p : ℕ → Bool) (ok : OneByte R p) where
-  pub one_at : (s : List ℕ) (i : ℕ) → p (get_or s i 256) ≡ true → member_len R (first (drop i s)) ≡ 1
+  pub one_at : (s : List ℕ) (i : ℕ) → p (get_or s i 256) ≡ true → member_len R (first (drop i s)) ≡ Some 1
   one_at s i e =
       let h = ok (get_or s i 256) e in
       ap (member_len R) (first-drop s i ∙ first_one (get_or s i 256) (get_or s (i + 1) 256) (get_or s (i + 2) 256) (get_or s (i + 3) 256) h.0) ∙ rw h.1
@@ -34,7 +35,7 @@ module _ (R : Repertoire) (p : ℕ → Bool) (ok : OneByte R p) where
   ones-text [] e = scan-end R [] 0 (omega arith)
   ones-text (b ∷ a) e =
       let q = and_both (p b) (all p a) e in
-      (scan_on R (b ∷ a) 0 1 (omega arith) (sym (one_at (b ∷ a) 0 q.0)) (omega arith)).1 ∙ ones-text a q.1
+      (scan_on R (b ∷ a) 0 1 (omega arith) (sym (one_at (b ∷ a) 0 q.0))).2 ∙ ones-text a q.1
 
   -- a block of them is passed at once
   pub block : (s : List ℕ) (i e : ℕ) → i ≤ e → all p (take (e - i) (drop i s)) ≡ true → is_text R (drop i s) ≡ is_text R (drop e s)

@@ -6,6 +6,7 @@ use Prim.Native.Nat.{ℕ, ◌+◌, ◌<◌, ◌≤◌}
 use native.Mathlib.Omega.{arith}
 use lib.ListN.{length, take, drop, length-drop, drop_of_length-le}
 use lib.Seq.{drop-drop}
+use Rattle.std.specs.Prelude.{Some, None}
 use Rattle.lists.specs.Lists.{all}
 use Rattle.lists.proofs.Bools.{and_both, and_swap, by_test}
 use Rattle.lists.proofs.Alls.{all_append}
@@ -81,40 +82,40 @@ module _ (R : Repertoire) where
       (λ z. text_none (take n s) z ∙ sym z ∙ b)
 
   -- what stands at the front
-  pub member_in : (t : List ℕ) (c n : ℕ) → first t ≡ char c n → R.member c ≡ true → n ≡ member_len R (first t)
+  pub member_in : (t : List ℕ) (c n : ℕ) → first t ≡ char c n → R.member c ≡ true → Some n ≡ member_len R (first t)
   member_in t c n f m = sym (ap (member_len R) f ∙ rw m)
 
-  pub member-out : (t : List ℕ) (c n : ℕ) → first t ≡ char c n → R.member c ≡ false → 0 ≡ member_len R (first t)
+  pub member-out : (t : List ℕ) (c n : ℕ) → first t ≡ char c n → R.member c ≡ false → None ≡ member_len R (first t)
   member-out t c n f m = sym (ap (member_len R) f ∙ rw m)
 
-  pub member-bad : (t : List ℕ) → first t ≡ bad → 0 ≡ member_len R (first t)
+  pub member-bad : (t : List ℕ) → first t ≡ bad → None ≡ member_len R (first t)
   member-bad t f = sym (ap (member_len R) f)
 
-  -- ---- a scan: r is what stands at the place i, by member_len
-  picked : (b : Bool) (n r : ℕ) → r ≡ cond b n 0 → 0 < r → (b ≡ true) × (r ≡ n)
-  picked true n r e h = (refl, e)
-  picked false n r e h = absurd (omega arith)
+  -- ---- a scan: what stands at the place i, by member_len
+  picked : (b : Bool) (n r : ℕ) → Some r ≡ cond b (Some n) None → (b ≡ true) × (r ≡ n)
+  picked true n r e = (refl, cc)
+  picked false n r e = cc
 
-  left_out : (b : Bool) (n : ℕ) → 0 < n → 0 ≡ cond b n 0 → b ≡ false
-  left_out true n h e = absurd (omega arith)
-  left_out false n h e = refl
+  left_out : (b : Bool) (n : ℕ) → None ≡ cond b (Some n) None → b ≡ false
+  left_out true n e = cc
+  left_out false n e = refl
 
-  pub scan_on : (s : List ℕ) (i r : ℕ) → i ≤ length s → r ≡ member_len R (first (drop i s)) → 0 < r →
-      (i + r ≤ length s) × (is_text R (drop i s) ≡ is_text R (drop (i + r) s))
-  scan_on s i r h e p =
+  pub scan_on :
+      (s : List ℕ) (i r : ℕ) → i ≤ length s → Some r ≡ member_len R (first (drop i s)) →
+      (0 < r) × (i + r ≤ length s) × (is_text R (drop i s) ≡ is_text R (drop (i + r) s))
+  scan_on s i r h e =
       by_first _ (drop i s)
       (λ c n f.
-      let q = picked (R.member c) n r (e ∙ ap (member_len R) f) p in
+      let q = picked (R.member c) n r (e ∙ ap (member_len R) f) in
       let m : first (drop i s) ≡ char c r = f ∙ ap (char c) (sym q.1) in
-      ((within-at s i c r h m).1, text_step (drop i s) c r m ∙ rw (q.0, drop-drop r i s)))
-      (λ f. absurd (let z : r ≡ 0 = e ∙ ap (member_len R) f in omega arith))
+      let w = within-at s i c r h m in
+      (w.0, w.1, text_step (drop i s) c r m ∙ rw (q.0, drop-drop r i s)))
+      (λ f. let z : Some r ≡ None = e ∙ ap (member_len R) f in cc)
 
-  pub scan_stuck : (s : List ℕ) (i r : ℕ) → i < length s → r ≡ member_len R (first (drop i s)) → r ≡ 0 → is_text R (drop i s) ≡ false
-  scan_stuck s i r h e z =
+  pub scan_stuck : (s : List ℕ) (i : ℕ) → i < length s → None ≡ member_len R (first (drop i s)) → is_text R (drop i s) ≡ false
+  scan_stuck s i h e =
       by_first _ (drop i s)
-      (λ c n f.
-      let w = (first-within (drop i s) c n f).some in
-      text_step (drop i s) c n f ∙ rw (left_out (R.member c) n w (sym z ∙ e ∙ ap (member_len R) f)))
+      (λ c n f. text_step (drop i s) c n f ∙ rw (left_out (R.member c) n (e ∙ ap (member_len R) f)))
       (λ f. text-bad (drop i s) f (simp length-drop (omega arith)))
 
   pub scan-end : (s : List ℕ) (i : ℕ) → length s ≤ i → is_text R (drop i s) ≡ true

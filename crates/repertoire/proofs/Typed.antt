@@ -6,13 +6,13 @@ use mathlib.Core.Bool.{true}
 use mathlib.Core.List.{List, [], ◌∷◌}
 use lib.ListN.{length, take}
 use lib.Seq.{length-sets, sets}
-use borrow.Author.Tests.{le-leb}
+use Rattle.std.specs.Prelude.{Option, Some, is_some}
 use Rattle.lists.specs.Lists.{all}
 use Rattle.lists.proofs.Bools.{and_both}
 use Rattle.lists.proofs.Stores.{take-sets}
 use Rattle.utf8.specs.Chars.{chars, valid}
-use Rattle.utf8.specs.Encode.{scalar, size, encode, fitting, EncodedAt}
-use Rattle.utf8.proofs.Encode.{size-encode, size_max, encode-single, chars-encode, valid-encode}
+use Rattle.utf8.specs.Encode.{scalar, encode, EncodedAt}
+use Rattle.utf8.proofs.Encode.{size-encode, size_max, written, encode-single, chars-encode, valid-encode}
 use Rattle.repertoire.specs.Repertoire.{Repertoire, catalogue}
 use Rattle.repertoire.specs.Text.{is_text, is_char}
 
@@ -31,20 +31,23 @@ module _ (c : ℕ) (is : is_char catalogue c ≡ true) where
   pub typed-text : is_text catalogue (encode c) ≡ true
   typed-text = char-text catalogue c is
 
-  all-fits : (s : List ℕ) → 4 ≤ length s → fitting (length s) 0 c ≡ encode c
-  unfolding is_char fitting
-  all-fits s h = rw ((and_both (scalar c) (catalogue.member c) is).0, le-leb (0 + size c) (length s) (omega (arith, size_max c)))
+  module _ (s after : List ℕ) (r : Option ℕ) (h : 4 ≤ length s) (q : EncodedAt s 0 c after r) where
+    all_of : (after ≡ sets s 0 (encode c)) × (r ≡ Some (length (encode c)))
+    unfolding is_char
+    all_of = written s 0 c after r q (and_both (scalar c) (catalogue.member c) is).0 (omega (arith, size_max c))
 
-  module _ (s after : List ℕ) (n : ℕ) (h : 4 ≤ length s) (q : EncodedAt s 0 c after n) where
-    pub typed-size : n ≡ length (encode c)
-    typed-size = q.counted ∙ ap length (all-fits s h)
+    pub typed-some : is_some r ≡ true
+    typed-some = ap is_some all_of.1
 
-    pub typed-within : n ≤ length after
-    typed-within = omega (arith, typed-size, size-encode c, size_max c, ap length q.bytes, length-sets s 0 (fitting (length s) 0 c))
+    module _ (n : ℕ) (e : r ≡ Some n) where
+      typed-size : n ≡ length (encode c)
+      typed-size = let a = all_of.1 in cc
 
-    pub typed-bytes : take n after ≡ encode c
-    typed-bytes =
-        ap₂ take (typed-size ∙ zero_left) (q.bytes ∙ ap (sets s 0) (all-fits s h)) ∙ take-sets s 0 (encode c) (omega (arith, size-encode c, size_max c))
-      where
-        zero_left : length (encode c) ≡ 0 + length (encode c)
-        zero_left = omega arith
+      pub typed-within : n ≤ length after
+      typed-within = omega (arith, typed-size, size-encode c, size_max c, ap length all_of.0, length-sets s 0 (encode c))
+
+      pub typed-bytes : take n after ≡ encode c
+      typed-bytes = ap₂ take (typed-size ∙ zero_left) all_of.0 ∙ take-sets s 0 (encode c) (omega (arith, size-encode c, size_max c))
+        where
+          zero_left : length (encode c) ≡ 0 + length (encode c)
+          zero_left = omega arith

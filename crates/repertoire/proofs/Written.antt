@@ -7,11 +7,12 @@ use native.Mathlib.Omega.{arith}
 use borrow.Author.Tests.{le-leb, lt-leb}
 use lib.ListN.{length, drop, length-append}
 use lib.Seq.{sets, length-sets, drop-drop}
+use Rattle.std.specs.Prelude.{Option, Some, None, is_some}
 use Rattle.lists.proofs.Bools.{and_both}
 use Rattle.lists.proofs.Stores.{sets-append}
 use Rattle.utf8.specs.Utf8.{char, bad, first}
-use Rattle.utf8.specs.Encode.{scalar, size, encode, encode_all, fitting, EncodedAt}
-use Rattle.utf8.proofs.Encode.{size-encode, encode-single, first-scalar}
+use Rattle.utf8.specs.Encode.{scalar, size, encode, encode_all, EncodedAt}
+use Rattle.utf8.proofs.Encode.{size-encode, encode-single, first-scalar, written}
 use Rattle.repertoire.specs.Repertoire.{Repertoire, Lawful, catalogue}
 use Rattle.repertoire.specs.declared.Case.{Case}
 use Rattle.repertoire.specs.declared.Mapped.{Mapped}
@@ -21,58 +22,75 @@ use Rattle.repertoire.proofs.Text.{within-at}
 use Rattle.repertoire.proofs.Cased.{case_sizes, case_step, case_none}
 
 -- ---- a mapping
--- a character that has a form and for which there is room is written whole
-record Put (s : List ℕ) (at c : ℕ) (after : List ℕ) (r : ℕ) : Type 0 where
-  bytes : after ≡ sets s at (encode c)
-  counted : r ≡ length (encode c)
+-- a character that has a form in UTF-8 and for which there is room at a place
+pub record Fitting (s : List ℕ) (at c : ℕ) : Type 0 where
+  pub form : scalar c ≡ true
+  pub room : at + size c ≤ length s
 
-put : (s : List ℕ) (at c : ℕ) (after : List ℕ) (r : ℕ) → EncodedAt s at c after r → scalar c ≡ true → at + length (encode c) ≤ length s → Put s at c after r
-unfolding fitting
-put s at c after r w e h =
-    let f = le-leb (at + size c) (length s) (rw (size-encode c) at h) in
-    record { bytes = rw (e, f) at w.bytes; counted = rw (e, f) at w.counted }
+-- is written whole
+put :
+    (s : List ℕ) (at c : ℕ) (after : List ℕ) (o : Option ℕ) → EncodedAt s at c after o → Fitting s at c →
+    (after ≡ sets s at (encode c)) × (o ≡ Some (length (encode c)))
+put s at c after o w f = written s at c after o w f.form f.room
 
-pub wrote_one : (s : List ℕ) (at : ℕ) (m : Mapped) (a : ℕ) (after : List ℕ) (r : ℕ) → MappedFits (length s) at m → m ≡ One a → EncodedAt s at a after r →
-    MappedAt s at m after r
-wrote_one s at m a after r k g w =
+pub put_some : (s : List ℕ) (at c : ℕ) (after : List ℕ) (o : Option ℕ) → EncodedAt s at c after o → Fitting s at c → is_some o ≡ true
+put_some s at c after o w f = ap is_some (put s at c after o w f).1
+
+pub one_fits : (s : List ℕ) (at : ℕ) (m : Mapped) (a : ℕ) → MappedFits (length s) at m → m ≡ One a → Fitting s at a
+one_fits s at m a k g =
     let f : MappedFits (length s) at (One a) = rw g at k in
-    let p = put s at a after r w (and_both (scalar a) true f.forms).0 (rw (encode-single a) at f.room) in
+    record { form = (and_both (scalar a) true f.forms).0; room = rw (encode-single a, size-encode a) at f.room }
+
+pub wrote_one :
+    (s : List ℕ) (at : ℕ) (m : Mapped) (a : ℕ) (after : List ℕ) (o : Option ℕ) (r : ℕ) → MappedFits (length s) at m → m ≡ One a →
+    EncodedAt s at a after o → o ≡ Some r → MappedAt s at m after r
+wrote_one s at m a after o r k g w e =
+    let p = put s at a after o w (one_fits s at m a k g) in
+    let counted : r ≡ length (encode a) = let x = p.1 in cc in
     let q = sym (encode-single a) in
-    rw g (record { bytes = p.bytes ∙ ap (sets s at) q; counted = p.counted ∙ ap length q })
+    rw g (record { bytes = p.0 ∙ ap (sets s at) q; counted = counted ∙ ap length q })
 
--- the first of two characters is written
-pub record Half (s : List ℕ) (at a b : ℕ) (mid : List ℕ) (n : ℕ) : Type 0 where
-  pub forms : scalar b ≡ true
-  pub bytes : mid ≡ sets s at (encode a)
-  pub counted : n ≡ length (encode a)
-  pub room : at + n + length (encode b) ≤ length s
+module _ (s : List ℕ) (at : ℕ) (m : Mapped) (a b : ℕ) (k : MappedFits (length s) at m) (g : m ≡ Two a b) where
+  two_length : length (encode_all (as_chars m)) ≡ length (encode a) + length (encode b)
+  unfolding encode_all
+  two_length =
+      rw g
+      (length-append (encode a) (encode_all (b ∷ [])) ∙ ap (λ (l : List ℕ). length (encode a) + length l) (encode-single b))
 
-pub wrote_half : (s : List ℕ) (at : ℕ) (m : Mapped) (a b : ℕ) (mid : List ℕ) (n : ℕ) → MappedFits (length s) at m → m ≡ Two a b →
-    EncodedAt s at a mid n → Half s at a b mid n
-unfolding encode_all
-wrote_half s at m a b mid n k g w =
-    let f : MappedFits (length s) at (Two a b) = rw g at k in
-    let e = and_both (scalar a) (scalar b && true) f.forms in
-    let h = f.room in
-    let l : length (encode a ++ encode_all (b ∷ [])) ≡ length (encode a) + length (encode b) =
-    length-append (encode a) (encode_all (b ∷ [])) ∙ ap (λ (l : List ℕ). length (encode a) + length l) (encode-single b)
-    in
-    let p = put s at a mid n w e.0 (omega arith) in
-    record { forms = (and_both (scalar b) true e.1).0; bytes = p.bytes; counted = p.counted; room = omega (arith, p.counted) }
+  pub first_fits : Fitting s at a
+  first_fits =
+      let f : MappedFits (length s) at (Two a b) = rw g at k in
+      record { form = (and_both (scalar a) (scalar b && true) f.forms).0; room = omega (arith, k.room, two_length, size-encode a) }
 
--- the second follows it
-pub wrote_two : (s : List ℕ) (at : ℕ) (m : Mapped) (a b : ℕ) (mid : List ℕ) (n : ℕ) (after : List ℕ) (r : ℕ) → m ≡ Two a b → Half s at a b mid n →
-    EncodedAt mid (at + n) b after r → MappedAt s at m after (n + r)
-unfolding encode_all
-wrote_two s at m a b mid n after r g f w =
-    let l : length mid ≡ length s = ap length f.bytes ∙ length-sets s at (encode a) in
-    let p = put mid (at + n) b after r w f.forms (omega (arith, f.room)) in
-    let q : encode a ++ encode_all (b ∷ []) ≡ encode a ++ encode b = ap (λ (l : List ℕ). encode a ++ l) (encode-single b) in
-    rw g
-    (record {
-      bytes = p.bytes ∙ rw (f.bytes, f.counted) (sets-append s at (encode a) (encode b)) ∙ ap (sets s at) (sym q);
-      counted = rw (f.counted, p.counted) (sym (length-append (encode a) (encode b))) ∙ ap length (sym q);
-    })
+  -- the first of two characters is written
+  module _ (mid : List ℕ) (o : Option ℕ) (n : ℕ) (w : EncodedAt s at a mid o) (e : o ≡ Some n) where
+    half_bytes : mid ≡ sets s at (encode a)
+    half_bytes = (put s at a mid o w first_fits).0
+
+    half_counted : n ≡ length (encode a)
+    half_counted = let x = (put s at a mid o w first_fits).1 in cc
+
+    pub second_fits : Fitting mid (at + n) b
+    second_fits =
+        let f : MappedFits (length s) at (Two a b) = rw g at k in
+        let l : length mid ≡ length s = ap length half_bytes ∙ length-sets s at (encode a) in
+        record {
+          form = (and_both (scalar b) true (and_both (scalar a) (scalar b && true) f.forms).1).0;
+          room = omega (arith, k.room, two_length, half_counted, size-encode b);
+        }
+
+    -- the second follows it
+    pub wrote_two : (after : List ℕ) (p : Option ℕ) (r : ℕ) → EncodedAt mid (at + n) b after p → p ≡ Some r → MappedAt s at m after (n + r)
+    unfolding encode_all
+    wrote_two after p r v u =
+        let x = put mid (at + n) b after p v second_fits in
+        let counted : r ≡ length (encode b) = let y = x.1 in cc in
+        let q : encode a ++ encode_all (b ∷ []) ≡ encode a ++ encode b = ap (λ (l : List ℕ). encode a ++ l) (encode-single b) in
+        rw g
+        (record {
+          bytes = x.0 ∙ rw (half_bytes, half_counted) (sets-append s at (encode a) (encode b)) ∙ ap (sets s at) (sym q);
+          counted = rw (half_counted, counted) (sym (length-append (encode a) (encode b))) ∙ ap length (sym q);
+        })
 
 -- ---- a text
 -- the first i bytes of s are written, as n bytes
@@ -121,15 +139,15 @@ module _ (R : Repertoire) (k : Case) (before s : List ℕ) where
           room = w.room;
         }
 
-pub no_room : (before : List ℕ) (k : Case) (s : List ℕ) → length before < length s → CasedInto before k s before 0
+pub no_room : (before : List ℕ) (k : Case) (s : List ℕ) → length before < length s → CasedInto before k s before None
 unfolding cased_into
 no_room before k s h = let l = lt-leb (length s) (length before) h in record { bytes = rw l; counted = rw l }
 
 -- no further character
 pub writing_end : (before : List ℕ) (k : Case) (s after : List ℕ) (i n : ℕ) → Writing catalogue k before s after i n → first (drop i s) ≡ bad →
-    CasedInto before k s after n
+    CasedInto before k s after (Some n)
 unfolding cased_into
 writing_end before k s after i n w f =
     let l = le-leb (length s) (length before) w.room in
     let e : w.done ≡ cased catalogue k s = sym (append-nil w.done) ∙ ap (λ (l : List ℕ). w.done ++ l) (sym (case_none catalogue k (drop i s) f)) ∙ w.rest in
-    record { bytes = w.bytes ∙ rw (l, e); counted = w.counted ∙ rw (l, e) }
+    record { bytes = w.bytes ∙ rw (l, e); counted = ap Some w.counted ∙ rw (l, e) }

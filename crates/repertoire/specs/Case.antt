@@ -1,5 +1,5 @@
 -- A text in upper or in lower case: each character replaced by its mapping (The Unicode Standard, section 3.13: toUppercase, toLowercase).
-use Rattle.std.specs.Prelude.{ℕ, ◌+◌, ◌≤◌, ◌≡◌, true, cond, List, [], ◌∷◌, ◌++◌, leb, length}
+use Rattle.std.specs.Prelude.{ℕ, ◌+◌, ◌≤◌, ◌≡◌, true, cond, List, [], ◌∷◌, ◌++◌, leb, length, Option, Some, None}
 use Rattle.std.proofs.lemmas.List.Edits.{sets}
 use Rattle.utf8.specs.Chars.{chars}
 use Rattle.lists.specs.Lists.{all}
@@ -41,7 +41,7 @@ cased R k s = encode_all (case_all R k (chars s))
 unfoldable pub cased_into : ℕ → Case → List ℕ → List ℕ
 cased_into n k s = cond (leb (length s) n) (cased catalogue k s) []
 
--- a buffer after s was written to its front in upper or in lower case, and the count of bytes written
-pub record CasedInto (before : List ℕ) (k : Case) (s after : List ℕ) (count : ℕ) : Type 0 where
+-- a buffer after s was written to its front in upper or in lower case, and the count of bytes written: none where it is shorter than s
+pub record CasedInto (before : List ℕ) (k : Case) (s after : List ℕ) (count : Option ℕ) : Type 0 where
   pub bytes : after ≡ sets before 0 (cased_into (length before) k s)
-  pub counted : count ≡ length (cased_into (length before) k s)
+  pub counted : count ≡ cond (leb (length s) (length before)) (Some (length (cased catalogue k s))) None

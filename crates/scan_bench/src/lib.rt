@@ -7,6 +7,7 @@ ghost use Rattle.repertoire.specs.Text.{is_text};
 ghost use Rattle.formats.specs.Formats.{log_format};
 ghost use Rattle.log_state.specs.Calls.{lent, checked};
 
+use checks::Refused;
 use formats::format_for;
 use log_state::Log;
 
@@ -22,5 +23,9 @@ pub extern "C" fn tlf_bench_check_text(s: &[u8]) -> bool
 pub extern "C" fn tlf_bench_check_log(records: &[u8], texts: &[u8], log: Log) -> u32
     ensures { result ≡ checked catalogue log_format (lent records.now texts.now log) false }
 {
-    log_state::check(format_for(0), records, texts, log, false).number
+    let why: Refused = match log_state::check(format_for(0), records, texts, log, false) {
+        Ok(_) => return 0,
+        Err(why) => why,
+    };
+    why.into()
 }

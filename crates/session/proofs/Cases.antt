@@ -10,7 +10,7 @@ use Rattle.repertoire.specs.Repertoire.{lower_of, width_of}
 use Rattle.repertoire.specs.Text.{is_text, is_char}
 use Rattle.repertoire.specs.Case.{case_all, cased}
 use Rattle.cluster.specs.Clusters.{joined, clusters}
-use Rattle.keymap.specs.Codes.{word_list, at_list, search_list, movements}
+use Rattle.keymap.specs.Codes.{codes, word_list, at_list, search_list, movements}
 use Rattle.layout.specs.Width.{advance, column_after, columns_after, width}
 use Rattle.motion.specs.Steps.{sizes, next_pos, prev_pos}
 use Rattle.motion.specs.Search.{matches, nth_match, after_cluster, match_forward, match_backward}
@@ -114,7 +114,7 @@ pub record Cases : Type 0 where
       (move_to catalogue banana (at 6 1) 0 0x61 2 ≡ answered 0 0 0 (at 6 5)) × (move_to catalogue banana (at 6 1) 0 0x61 9 ≡ answered 0 0 0 (at 6 5)) ×
       (move_to catalogue banana (at 6 1) 0 0x61 0 ≡ answered 1 0 0 (at 6 1))
   -- at 2, copy LineDown 1: places 1 to 5
-  pub p7 : copy_call catalogue abc (at 5 2) 10 1 0 0 0 0 ≡ answered 0 1 5 (at 5 2)
+  pub p7 : copy_call catalogue abc (at 5 2) (codes 10 1 0 0 0 0) ≡ answered 0 1 5 (at 5 2)
   -- at 9, prompt 0, line up 2: 4
   pub p8 : move_to_line_up catalogue lines (at 9 9) 2 0 ≡ answered 0 0 0 (at 9 4)
   -- at 0, upper: "STRASSE", cursor 7

@@ -1,4 +1,5 @@
 -- A movement leaves the cursor between characters and the line as long as it was, and keeps the invariant. Assumes nothing.
+use Rattle.std.proofs.Common.{Option, Some, None}
 use Prim.Native.Nat.{ℕ, zero, suc, ◌≤◌}
 use native.Mathlib.Omega.{arith}
 use mathlib.Core.Path.{◌≡◌, refl, sym, ap, subst}
@@ -7,31 +8,24 @@ use mathlib.Core.List.{List}
 use lib.Dec.{eqb}
 use lib.ListN.{length}
 use borrow.Author.Tests.{ltb-false, not-false}
+use Rattle.std.specs.Prelude.{Option, None, Some}
 use Rattle.utf8.specs.Chars.{valid, boundary, In}
 use Rattle.utf8.proofs.Boundary.{boundary-zero, boundary_end}
 use Rattle.repertoire.specs.Repertoire.{Repertoire}
 use Rattle.repertoire.specs.Text.{is_text, is_char}
 use Rattle.repertoire.proofs.Text.{text-valid}
 use Rattle.keymap.specs.Codes.{word_of, at_of, search_of, movement_of}
-use Rattle.keymap.specs.declared.WordCode.{WordCode}
-use Rattle.keymap.specs.declared.WordCode.TheVariants as word
-use Rattle.keymap.specs.declared.AtCode.{AtCode}
-use Rattle.keymap.specs.declared.AtCode.TheVariants as stop
-use Rattle.keymap.specs.declared.SearchCode.{SearchCode}
-use Rattle.keymap.specs.declared.SearchCode.TheVariants as search
-use Rattle.keymap.specs.declared.MovementCode.{MovementCode}
-use Rattle.keymap.specs.declared.MovementCode.TheVariants as code
+use Rattle.keymap.specs.declared.Word.{Word}
+use Rattle.keymap.specs.declared.At as stops
+use Rattle.keymap.specs.declared.CharSearch.{CharSearch}
+use Rattle.keymap.specs.declared.Movement.{Movement}
 use Rattle.motion.specs.Steps.{next_pos, prev_pos}
 use Rattle.motion.specs.Search.{search_char_pos}
-use Rattle.motion.specs.declared.Found.{Found}
-use Rattle.motion.specs.declared.Found.TheVariants.{At, Nothing}
 use Rattle.motion.proofs.Places.{next_pos_place, prev_pos_place, search-place}
 use Rattle.motion_words.specs.Words.{prev_word_pos, next_word_pos}
 use Rattle.motion_words.proofs.Places.{prev_word-place, next-word-place}
-use Rattle.motion_lines.specs.Lines.{start_of_line, end_of_line}
+use Rattle.motion_lines.specs.Lines.{start_of_line, end_of_line, places}
 use Rattle.motion_lines.specs.Columns.{line_up, line_down}
-use Rattle.motion_lines.specs.declared.Range.{Range}
-use Rattle.motion_lines.specs.declared.Range.TheVariants.{Places, Nowhere}
 use Rattle.motion_lines.proofs.Places.{start_of_line-place, end_of_line-place, line_up_place, line_down_place}
 use Rattle.checks.specs.Outcome.{Outcome, refused, answered, called, leaves}
 use Rattle.checks.specs.Checks.{Tests, no_tests, both, refusal, own_tests}
@@ -39,8 +33,7 @@ use Rattle.checks.specs.Answers.{moved_to, place_of}
 use Rattle.checks.specs.declared.Line.{Line}
 use Rattle.checks.proofs.Fit.{fit}
 use Rattle.motion_calls.specs.Moves as moves
-use Rattle.motion_calls.specs.Moves.{move_call, elsewhere, place_tests, prompt_tests}
-use Rattle.motion_calls.proofs.Called.{lent}
+use Rattle.motion_calls.specs.Moves.{lent, move_call, elsewhere, place_tests, prompt_tests}
 use Rattle.motion_ranges.specs.Ranges.{copied}
 use Rattle.motion_calls.specs.Copy.{ranged, copy_by, copy_tests}
 use Rattle.formats.specs.declared.Format.{Format}
@@ -50,6 +43,7 @@ use Rattle.edit.specs.Calls.{Lent, text_of, state_of}
 use Rattle.calls.specs.Calls.{MoveCall, move_outcome, moved_by, outcome_of}
 use Rattle.calls.specs.Calls as asked
 use Rattle.session.proofs.Invariant.{Inv}
+use Rattle.motion_lines.specs.declared.Span.{Span}
 
 -- the line that a movement leaves: its cursor stands between characters, and it is as long as it was
 pub record Within (l : Lent) (o : Outcome Line) : Type 0 where
@@ -75,7 +69,7 @@ module _ (R : Repertoire) (F : Format) (l : Lent) (is : is_text R (text_of l) �
   as_it_was o e = record { place = rw e i; len = ap (λ (x : Line). x.len) e }
 
   -- with the cursor at a place
-  placed : (p : ℕ) → (p ≤ length t) × (boundary t p ≡ true) → Stands (moved_to l.line (At p))
+  placed : (p : ℕ) → (p ≤ length t) × (boundary t p ≡ true) → Stands (moved_to l.line (Some p))
   placed p h = record { place = (omega arith, h.0, h.1, h.1); len = refl }
 
   -- a call that leaves the cursor there where its checks pass
@@ -100,20 +94,20 @@ module _ (R : Repertoire) (F : Format) (l : Lent) (is : is_text R (text_of l) �
   on_place p h = (h.1, h.2)
 
   -- at the place found, or where it was
-  moved-stands : (f : Found) → ((p : ℕ) → f ≡ At p → Place p) → Stands (moved_to l.line f)
-  moved-stands (At p) g = placed p (g p refl)
-  moved-stands Nothing g = as_it_was (moved_to l.line Nothing) refl
+  moved-stands : (f : Option ℕ) → ((p : ℕ) → f ≡ Some p → Place p) → Stands (moved_to l.line f)
+  moved-stands (Some p) g = placed p (g p refl)
+  moved-stands None g = as_it_was (moved_to l.line None) refl
 
   -- to the place found, where no check refuses
-  goes : (own : Tests) (f : Found) → ((p : ℕ) → f ≡ At p → Place p) → Stands (move_call R l.text l.line own (moved_to l.line f))
+  goes : (own : Tests) (f : Option ℕ) → ((p : ℕ) → f ≡ Some p → Place p) → Stands (move_call R l.text l.line own (moved_to l.line f))
   goes own f g = called-stands own (moved_to l.line f) (λ e. moved-stands f g)
 
   -- to a place, unless the cursor is there
   goes_to : (p : ℕ) → Place p → Stands (move_call R l.text l.line no_tests (moved_to l.line (elsewhere l.line p)))
   goes_to p h = called-stands no_tests (moved_to l.line (elsewhere l.line p)) (λ e. at_place (eqb pos p))
     where
-      at_place : (b : Bool) → Stands (moved_to l.line (cond b Nothing (At p)))
-      at_place true = as_it_was (moved_to l.line Nothing) refl
+      at_place : (b : Bool) → Stands (moved_to l.line (cond b None (Some p)))
+      at_place true = as_it_was (moved_to l.line None) refl
       at_place false = placed p h
 
   -- the line as it is
@@ -121,14 +115,14 @@ module _ (R : Repertoire) (F : Format) (l : Lent) (is : is_text R (text_of l) �
   stays own o e = called-stands own o (λ z. as_it_was o e)
 
   -- a place answered leaves the line as it was
-  place-line : (f : Found) → leaves (place_of l.line f) l.line ≡ l.line
-  place-line (At p) = refl
-  place-line Nothing = refl
+  place-line : (f : Option ℕ) → leaves (place_of l.line f) l.line ≡ l.line
+  place-line (Some p) = refl
+  place-line None = refl
 
   -- so do two places
-  ranged-line : (r : Range) → leaves (ranged l.line r) l.line ≡ l.line
-  ranged-line (Places a b) = refl
-  ranged-line Nowhere = refl
+  ranged-line : (r : Option Span) → leaves (ranged l.line r) l.line ≡ l.line
+  ranged-line (Some x) = refl
+  ranged-line None = refl
 
   -- a code that names nothing
   unnamed : Stands (moves.unnamed R l.text l.line)
@@ -136,30 +130,33 @@ module _ (R : Repertoire) (F : Format) (l : Lent) (is : is_text R (text_of l) �
 
   -- ---- by codes
   -- copy changes nothing
-  copy-stands : (m : MovementCode) → Stands (copy_by R l.text l.line m)
-  copy-stands (code.Is mvt) = stays (copy_tests R l.text l.line mvt) (ranged l.line (copied R t pos mvt)) (ranged-line (copied R t pos mvt))
-  copy-stands code.Unknown = unnamed
+  copy-stands : (m : Option Movement) → Stands (copy_by R l.text l.line m)
+  copy-stands (Some mvt) = stays (copy_tests R l.text l.line mvt) (ranged l.line (copied R t pos mvt)) (ranged-line (copied R t pos mvt))
+  copy-stands None = unnamed
 
   -- words back
-  prev_word-stands : (n : ℕ) (w : WordCode) → Stands (moves.prev_word_by R l.text l.line n w)
-  prev_word-stands n (word.Is w) = goes no_tests (prev_word_pos R t pos w n) (λ p e. back_place p (prev_word-place R t pos w n p v i.2 i.1 e))
-  prev_word-stands n word.Unknown = unnamed
+  prev_word-stands : (n : ℕ) (w : Option Word) → Stands (moves.prev_word_by R l.text l.line n w)
+  prev_word-stands n (Some w) =
+      goes no_tests (prev_word_pos R t pos w n) (λ p e. back_place p (prev_word-place R t pos w n p v i.2 i.1 e))
+  prev_word-stands n None = unnamed
 
   -- words on
-  next-word-stands : (n : ℕ) (a : AtCode) (w : WordCode) → Stands (moves.next_word_by R l.text l.line n a w)
-  next-word-stands n (stop.Is a) (word.Is w) = goes no_tests (next_word_pos R t pos a w n) (λ p e. on_place p (next-word-place R t pos a w n p v i.2 i.1 e))
-  next-word-stands n (stop.Is a) word.Unknown = unnamed
-  next-word-stands n stop.Unknown w = unnamed
+  next-word-stands : (n : ℕ) (a : Option stops.At) (w : Option Word) → Stands (moves.next_word_by R l.text l.line n a w)
+  next-word-stands n (Some a) (Some w) =
+      goes no_tests (next_word_pos R t pos a w n) (λ p e. on_place p (next-word-place R t pos a w n p v i.2 i.1 e))
+  next-word-stands n (Some a) None = unnamed
+  next-word-stands n None w = unnamed
 
   -- to a character
-  search-stands : (c n : ℕ) (s : SearchCode) → Stands (moves.search_by R l.text l.line c n s)
-  search-stands c n (search.Is cs) = goes (own_tests false (not (is_char R c)) false) (search_char_pos R t pos cs n) (λ p e. search-place R t pos cs n p v i.2 i.1 e)
-  search-stands c n search.Unknown = unnamed
+  search-stands : (c n : ℕ) (s : Option CharSearch) → Stands (moves.search_by R l.text l.line c n s)
+  search-stands c n (Some cs) =
+      goes (own_tests false (not (is_char R c)) false) (search_char_pos R t pos cs n) (λ p e. search-place R t pos cs n p v i.2 i.1 e)
+  search-stands c n None = unnamed
 
   -- set_pos is tried by its own 5 and 6
   set_pos_stands : (p : ℕ) → Stands (moves.set_pos R l.text l.line p)
   set_pos_stands p =
-      called-stands (place_tests t l.line.len p) (moved_to l.line (At p))
+      called-stands (place_tests t l.line.len p) (moved_to l.line (Some p))
       (λ e.
       let q = (fit R (format_for (length l.text)) l.text l.line (place_tests t l.line.len p) e).1 in
       let h = ltb-false l.line.len p q.place in
@@ -169,7 +166,7 @@ module _ (R : Repertoire) (F : Format) (l : Lent) (is : is_text R (text_of l) �
   -- every movement
   pub move_keeps : (x : MoveCall) → Within l (move_outcome R l.text l.line x)
   move_keeps (asked.next_pos n) = stays no_tests _ (place-line (next_pos R t pos n))
-  move_keeps (asked.copy m) = copy-stands (movement_of m.mvt m.n m.at m.word m.search m.ch)
+  move_keeps (asked.copy m) = copy-stands (movement_of m)
   move_keeps asked.is_cursor_at_end = stays no_tests _ refl
   move_keeps asked.is_end_of_input = stays no_tests _ refl
   move_keeps (asked.set_pos p) = set_pos_stands p

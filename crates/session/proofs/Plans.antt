@@ -1,4 +1,5 @@
 -- Every edit is a plan that suits the text, where the checks pass, and leaves the cursor between characters. Assumes nothing.
+use Rattle.std.proofs.Common.{Option, Some, None}
 use Prim.Native.Nat.{ℕ, ◌+◌, ◌-◌}
 use mathlib.Core.Path.{◌≡◌, refl}
 use mathlib.Core.Bool.{Bool, true, false, cond, not}
@@ -10,11 +11,9 @@ use Rattle.lists.proofs.Bools.{never}
 use Rattle.utf8.specs.Chars.{boundary, In}
 use Rattle.repertoire.specs.Repertoire.{Repertoire, Lawful}
 use Rattle.repertoire.specs.Text.{is_text, is_char}
-use Rattle.keymap.specs.Codes.{movement_of}
+use Rattle.keymap.specs.Codes.{codes, movement_of}
 use Rattle.keymap.specs.declared.Movement.{Movement}
 use Rattle.keymap.specs.declared.Movement.TheVariants as m
-use Rattle.keymap.specs.declared.MovementCode.{MovementCode}
-use Rattle.keymap.specs.declared.MovementCode.TheVariants as code
 use Rattle.checks.specs.Checks.{Tests, own_tests}
 use Rattle.checks.specs.Outcome.{Outcome}
 use Rattle.checks.proofs.Fit.{Passed}
@@ -33,8 +32,7 @@ use Rattle.edit_insert.proofs.Suits.{insert_suits, insert-cursor, yank_suits, ya
 use Rattle.edit_insert.proofs.Suits.{update-cursor}
 use Rattle.edit_transpose.specs.TransposeChars.{transpose_chars_plan}
 use Rattle.edit_case.specs.EditWord.{edit_word_plan, action_of, edit_word_by}
-use Rattle.edit_case.specs.declared.ActionCode.{ActionCode}
-use Rattle.edit_case.specs.declared.ActionCode.TheVariants as action
+use Rattle.edit_case.specs.declared.WordAction.{WordAction}
 use Rattle.edit_transpose.proofs.CharPlans.{transpose_chars_suits}
 use Rattle.edit_case.proofs.Plans.{edit-word_suits}
 use Rattle.edit_transpose.specs.TransposeWords.{transpose_words_plan}
@@ -76,9 +74,9 @@ module _ (R : Repertoire) (law : Lawful R) (F : Format) (l : Lent) (v : is_text 
   killed mvt = by_plan (own_tests false (is_foreign R mvt) false) (cut_plan pos (kill_range R t pos mvt)) (λ q. (kill_suits R t v pos i mvt, kill-cursor R t v pos i mvt))
 
   -- by its codes
-  killed_by : (c : MovementCode) → Planned R F l (kill_by R F l c)
-  killed_by (code.Is mvt) = killed mvt
-  killed_by code.Unknown = unnamed
+  killed_by : (c : Option Movement) → Planned R F l (kill_by R F l c)
+  killed_by (Some mvt) = killed mvt
+  killed_by None = unnamed
 
   -- delete
   deleted : (n : ℕ) → Planned R F l (edit_outcome R F l (asked.delete n))
@@ -142,9 +140,9 @@ module _ (R : Repertoire) (law : Lawful R) (F : Format) (l : Lent) (v : is_text 
   words_transposed n = by_plan (own_tests false false false) (transpose_words_plan R t n pos) (λ q. transpose_words_suits R t v pos i n)
 
   -- edit_word, by its code
-  word-edited : (c : ActionCode) → Planned R F l (edit_word_by R F l c)
-  word-edited (action.Is w) = by_plan (own_tests false false false) (edit_word_plan R t w pos) (λ q. edit-word_suits R t v pos i law w)
-  word-edited action.Unknown = unnamed
+  word-edited : (c : Option WordAction) → Planned R F l (edit_word_by R F l c)
+  word-edited (Some w) = by_plan (own_tests false false false) (edit_word_plan R t w pos) (λ q. edit-word_suits R t v pos i law w)
+  word-edited None = unnamed
 
   -- ---- lines indented and dedented
   module _ (amount : ℕ) where
@@ -165,9 +163,9 @@ module _ (R : Repertoire) (law : Lawful R) (F : Format) (l : Lent) (v : is_text 
         (indent_suits R law.space amount t pos v i.2 i.1 mvt dedent s, plan_cursor R law.space amount t pos v i.2 i.1 mvt dedent s))
 
     -- by its codes
-    indented_by : (dedent : Bool) (c : MovementCode) → Planned R F l (indent_by R F l amount dedent c)
-    indented_by dedent (code.Is mvt) = indented dedent mvt
-    indented_by dedent code.Unknown = unnamed
+    indented_by : (dedent : Bool) (c : Option Movement) → Planned R F l (indent_by R F l amount dedent c)
+    indented_by dedent (Some mvt) = indented dedent mvt
+    indented_by dedent None = unnamed
 
   -- every edit
   pub planned : (x : EditCall) → Planned R F l (edit_outcome R F l x)
@@ -182,12 +180,12 @@ module _ (R : Repertoire) (law : Lawful R) (F : Format) (l : Lent) (v : is_text 
   planned asked.discard_line = killed m.BeginningOfLine
   planned asked.discard_buffer = killed m.BeginningOfBuffer
   planned asked.transpose_chars = chars-transposed
-  planned (asked.delete_prev_word w n) = killed_by (movement_of 3 n 0 w 0 0)
-  planned (asked.delete_word at w n) = killed_by (movement_of 4 n at w 0 0)
-  planned (asked.delete_to s c n) = killed_by (movement_of 5 n 0 0 s c)
+  planned (asked.delete_prev_word w n) = killed_by (movement_of (codes 3 n 0 w 0 0))
+  planned (asked.delete_word at w n) = killed_by (movement_of (codes 4 n at w 0 0))
+  planned (asked.delete_to s c n) = killed_by (movement_of (codes 5 n 0 0 s c))
   planned (asked.edit_word a) = word-edited (action_of a)
   planned (asked.transpose_words n) = words_transposed n
   planned (asked.replace a b s) = replaced a b s
   planned (asked.delete_range a b) = range_deleted a b
-  planned (asked.kill c) = killed_by (movement_of c.mvt c.n c.at c.word c.search c.ch)
-  planned (asked.indent c amount dedent) = indented_by amount dedent (movement_of c.mvt c.n c.at c.word c.search c.ch)
+  planned (asked.kill c) = killed_by (movement_of c)
+  planned (asked.indent c amount dedent) = indented_by amount dedent (movement_of c)

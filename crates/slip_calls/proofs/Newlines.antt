@@ -1,25 +1,17 @@
--- The scan for \n among some bytes. Assumes nothing.
-use Prim.Native.Nat.{ℕ, ◌+◌, ◌≤◌, ◌<◌}
-use mathlib.Core.Path.{◌≡◌, refl, sym, ap, ◌∙◌}
-use mathlib.Core.Bool.{true, false, ◌||◌}
-use mathlib.Core.List.{List}
-use native.Mathlib.Numerals.{add-one}
+-- Whether \n is among some bytes, as a slice's `contains` says it. Assumes nothing.
+use Prim.Native.Nat.{ℕ}
+use mathlib.Core.Path.{◌≡◌, refl, ap₂}
+use mathlib.Core.Bool.{◌||◌}
+use mathlib.Core.List.{List, [], ◌∷◌}
+use native.Mathlib.Omega.{arith}
 use lib.Dec.{eqb}
-use lib.ListN.{length, get_or, drop, drop_of_length-le}
-use lib.Seq.{drop-cons}
-use borrow.Author.Tests.{eq-eqb, ne_eqb}
+use Rattle.std.proofs.lemmas.Bool.Decides.{nat_tests}
+use Rattle.std.specs.List.{list_any}
 use Rattle.lists.specs.Lists.{any}
 
-module _ (s : List ℕ) (i : ℕ) where
-  -- the byte at i, and the others
-  newline-first : i < length s → any (eqb 0x0A) (drop i s) ≡ (eqb 0x0A (get_or s i 0) || any (eqb 0x0A) (drop (i + 1) s))
-  newline-first h = ap (any (eqb 0x0A)) (drop-cons s i 0 h) ∙ ap (λ (k : ℕ). eqb 0x0A (get_or s i 0) || any (eqb 0x0A) (drop k s)) (sym (add-one i))
+eqb-swap : (x y : ℕ) → eqb x y ≡ eqb y x
+eqb-swap x y = grind (arith, nat_tests)
 
-  pub newline_here : i < length s → get_or s i 0 ≡ 0x0A → any (eqb 0x0A) (drop i s) ≡ true
-  newline_here h e = newline-first h ∙ rw (eq-eqb 0x0A (get_or s i 0) (sym e)) refl
-
-  pub newline_on : i < length s → (get_or s i 0 ≡ 0x0A → ⊥) → any (eqb 0x0A) (drop i s) ≡ any (eqb 0x0A) (drop (i + 1) s)
-  newline_on h n = newline-first h ∙ rw (ne_eqb 0x0A (get_or s i 0) (λ e. n (sym e))) refl
-
-  pub newline_none : length s ≤ i → any (eqb 0x0A) (drop i s) ≡ false
-  newline_none h = ap (any (eqb 0x0A)) (drop_of_length-le s {i = i} h)
+pub newline-among : (s : List ℕ) → list_any (λ y. eqb y 0x0A) s ≡ any (eqb 0x0A) s
+newline-among [] = refl
+newline-among (x ∷ s) = ap₂ ◌||◌ (eqb-swap x 0x0A) (newline-among s)

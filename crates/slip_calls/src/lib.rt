@@ -15,10 +15,13 @@ ghost use Rattle.slip_calls.specs.Steps.{Standing, StepAt};
 ghost use Rattle.slip_calls.specs.Answer.{Slips};
 
 use buffer::{copy_at, fill};
-use checks::{ValueAnswer, text_refusal};
+use checks::{Refused, ValueAnswer, text_refusal};
 use cluster::next_cluster;
 use layout::width;
 use slip_model::Filled;
+
+// The columns of a line.
+const COLUMNS: usize = 60;
 
 // Where a piece of a word ends, and its columns.
 #[derive(Clone, Copy)]
@@ -28,6 +31,7 @@ pub struct Piece {
 }
 
 // What stands on the page in front of a word, or at a line's end: spaces, and a \n or none; and how far the line is filled then.
+// `newline` is no sign that another field counts: spaces stand in front of a \n as well as of a word.
 #[derive(Clone, Copy)]
 pub struct Place {
     pub spaces: usize,
@@ -50,18 +54,18 @@ fn piece_at(s: &[u8], at: usize) -> Piece
 {
     let mut end = at;
     let mut columns: usize = 0;
+    // A turn passes a cluster: no index is counted.
     while end < s.len() {
         let k = next_cluster(&s[end..]);
-        let len = k.len;
         if k.white {
             return Piece { end, columns };
         }
-        let n = width(&s[end..end + len], 0);
-        if 60 < columns + n {
+        let n = width(&s[end..end + k.len], 0);
+        if COLUMNS < columns + n {
             return Piece { end, columns };
         }
         columns += n;
-        end += len;
+        end += k.len;
     }
     Piece { end, columns }
 }
@@ -71,8 +75,7 @@ fn spaced(filled: Filled) -> Filled
     ensures { result ≡ Slip·spaced filled }
 {
     match filled {
-        Filled::Fresh => Filled::Blank,
-        Filled::Blank => Filled::Blank,
+        Filled::Fresh | Filled::Blank => Filled::Blank,
         Filled::UpTo(c) => Filled::UpTo(c),
     }
 }
@@ -82,8 +85,7 @@ fn filled_to(filled: Filled) -> usize
     ensures { result ≡ filled_to filled }
 {
     match filled {
-        Filled::Fresh => 0,
-        Filled::Blank => 0,
+        Filled::Fresh | Filled::Blank => 0,
         Filled::UpTo(c) => c,
     }
 }
@@ -93,8 +95,7 @@ fn space_before(filled: Filled) -> usize
     ensures { result ≡ space_before filled }
 {
     match filled {
-        Filled::Fresh => 0,
-        Filled::Blank => 0,
+        Filled::Fresh | Filled::Blank => 0,
         Filled::UpTo(_) => 1,
     }
 }
@@ -105,7 +106,7 @@ fn line_end(filled: Filled, next: Filled) -> Place
     ensures { result ≡ line_end filled next }
 {
     Place {
-        spaces: 60 - filled_to(filled),
+        spaces: COLUMNS - filled_to(filled),
         newline: true,
         filled: next,
     }
@@ -118,7 +119,7 @@ fn place_for(filled: Filled, n: usize) -> Place
 {
     let spaces = space_before(filled);
     let columns = filled_to(filled) + spaces + n;
-    if columns <= 60 {
+    if columns <= COLUMNS {
         return Place {
             spaces,
             newline: false,
@@ -139,23 +140,8 @@ fn closing_place(filled: Filled) -> Place
             newline: false,
             filled: Filled::Fresh,
         },
-        Filled::Blank => line_end(filled, Filled::Fresh),
-        Filled::UpTo(_) => line_end(filled, Filled::Fresh),
+        Filled::Blank | Filled::UpTo(_) => line_end(filled, Filled::Fresh),
     }
-}
-
-// Is \n among the bytes?
-fn has_newline(s: &[u8]) -> bool
-    ensures { result ≡ any (eqb 0x0A) s.now }
-{
-    let mut i: usize = 0;
-    while i < s.len() {
-        if s[i] == 0x0A {
-            return true;
-        }
-        i += 1;
-    }
-    false
 }
 
 // What stands on the page for the white space between two places: a line's end where \n is in it, else nothing.
@@ -163,7 +149,7 @@ fn over_white(s: &[u8], at: usize, end: usize, filled: Filled) -> Place
     requires { (at ≤ end) × (end ≤ length s.now) × (filled_to filled ≤ 60) }
     ensures { result ≡ white_place (any (eqb 0x0A) (part s.now at end)) filled }
 {
-    if has_newline(&s[at..end]) {
+    if s[at..end].contains(&b'\n') {
         return line_end(filled, Filled::Fresh);
     }
     Place {
@@ -215,13 +201,12 @@ fn slip_len(s: &[u8]) -> usize
     let mut at: usize = 0;
     let mut filled = Filled::Fresh;
     let mut len: usize = 0;
+    // A turn passes a cluster or a piece of a word: no index is counted.
     while at < s.len() {
         let step = step_at(s, at, filled);
-        let place = step.place;
-        let end = step.end;
-        len += place_len(place) + (end - step.from);
-        at = end;
-        filled = place.filled;
+        len += place_len(step.place) + (step.end - step.from);
+        at = step.end;
+        filled = step.place.filled;
     }
     len + place_len(closing_place(filled))
 }
@@ -232,11 +217,11 @@ fn write_place(page: &mut [u8], at: usize, place: Place) -> usize
     ensures { (page.new ≡ sets page.old at (placed place)) × (result ≡ at + length (placed place)) }
 {
     let end = at + place.spaces;
-    fill(page, at, place.spaces, 0x20);
+    fill(page, at, place.spaces, b' ');
     if !place.newline {
         return end;
     }
-    page[end] = 0x0A;
+    page[end] = b'\n';
     end + 1
 }
 
@@ -248,16 +233,14 @@ fn write_slip(s: &[u8], page: &mut [u8])
     let mut at: usize = 0;
     let mut filled = Filled::Fresh;
     let mut out: usize = 0;
+    // A turn passes a cluster or a piece of a word: no index is counted.
     while at < s.len() {
         let step = step_at(s, at, filled);
-        let place = step.place;
-        let from = step.from;
-        let end = step.end;
-        out = write_place(page, out, place);
-        copy_at(page, out, &s[from..end]);
-        out += end - from;
-        at = end;
-        filled = place.filled;
+        out = write_place(page, out, step.place);
+        copy_at(page, out, &s[step.from..step.end]);
+        out += step.end - step.from;
+        at = step.end;
+        filled = step.place.filled;
     }
     write_place(page, out, closing_place(filled));
 }
@@ -267,14 +250,16 @@ fn write_slip(s: &[u8], page: &mut [u8])
 pub fn slip(text: &[u8], page: &mut [u8]) -> ValueAnswer
     ensures { Slips catalogue (format_for (length text.now)) text.now page.old result page.new }
 {
-    let number = text_refusal(text);
-    if number != 0 {
-        return ValueAnswer { number, value: 0 };
+    if let Err(why) = text_refusal(text) {
+        return ValueAnswer {
+            number: why.into(),
+            value: 0,
+        };
     }
     let len = slip_len(text);
     if page.len() < len {
         return ValueAnswer {
-            number: 14,
+            number: Refused::PageFull.into(),
             value: 0,
         };
     }

@@ -5,26 +5,32 @@
 mod counts;
 mod replay;
 
+use counts::Count;
 use std::io;
-use std::rt::Files;
 
-fn replay_file(rt: &(impl Files + Print), path: &str) -> io::Result<()> {
-    println!(rt; "{path}")?;
-    replay::run(rt, path)
-}
+const FILES: [&str; 12] = [
+    "line.txt",
+    "edit.txt",
+    "kill.txt",
+    "log.txt",
+    "undo.txt",
+    "ring.txt",
+    "key.txt",
+    "slip.txt",
+    "movement_cases.txt",
+    "edit_cases.txt",
+    "key_cases.txt",
+    "slip_cases.txt",
+];
 
 fn main(rt: HostRuntime) -> io::Result<()> {
-    replay_file(&rt, "line.txt")?;
-    replay_file(&rt, "edit.txt")?;
-    replay_file(&rt, "kill.txt")?;
-    replay_file(&rt, "log.txt")?;
-    replay_file(&rt, "undo.txt")?;
-    replay_file(&rt, "ring.txt")?;
-    replay_file(&rt, "key.txt")?;
-    replay_file(&rt, "slip.txt")?;
-    replay_file(&rt, "movement_cases.txt")?;
-    replay_file(&rt, "edit_cases.txt")?;
-    replay_file(&rt, "key_cases.txt")?;
-    replay_file(&rt, "slip_cases.txt")?;
-    counts::print_count(&rt, b"longest slips", test_slip_line::longest::agreed())
+    for path in FILES {
+        println!(rt; "{path}")?;
+        replay::run(&rt, path)?;
+    }
+    let longest = Count {
+        name: b"longest slips",
+        agreed: test_slip_line::longest::agreed(rt.alloc())?,
+    };
+    longest.print(&rt)
 }

@@ -1,88 +1,84 @@
 // Replays recorded answers: makes the call of each line of a file, and prints of each call how many of its lines agree and
 // which do not. The comments at the head of a data file say what a line is. A line that begins with '#' is a comment; a line of any
 // other form is one that differs, and so is one with a text of over 65,536 bytes. The lines of one call stand together.
-ghost use Rattle.std.specs.Prelude.{◌<◌, length};
-
-use super::counts::{AGREES, COMMENT, DIFFERS, counted, print_count, report};
-use check::same;
+use super::counts::Count;
+use std::alloc::{AllocError, Global};
 use std::fs::File;
 use std::io;
 use std::rt::Files;
-use test_fields::{fill_from, is_at, is_of, past, place_of};
+use std::str::from_utf8;
+use test_fields::{Fields, LineError, fill_from, well_formed};
 
-// Does a line agree? Its name ends at one place, and '>' stands at another.
-fn parts_agree(s: &[u8], end: usize, middle: usize) -> bool
-    requires { (end < middle) × (middle < length s.now) }
-{
-    let before = middle - 1;
-    let after = middle + 1;
-    let name = &s[0..end];
-    let lent = &s[end..before];
-    let due = &s[after..];
-    if is_of(name, b"ring") {
-        return test_ring_line::agrees(name, lent, due);
-    }
-    if same(name, b"line_key") {
-        return test_key_line::agrees(lent, due);
-    }
-    if same(name, b"text_slip") {
-        return test_slip_line::agrees(lent, due);
-    }
-    test_state_line::agrees(name, lent, due)
+// What is found of a line.
+#[derive(Clone, Copy, PartialEq, Eq)]
+enum Found {
+    Comment,
+    Agrees,
+    Differs,
 }
 
-fn agrees(s: &[u8]) -> bool {
-    let end = place_of(s, 0, b' ');
-    let middle = place_of(s, end, b'>');
-    if middle == s.len() {
-        return false;
-    }
-    if middle <= end {
-        return false;
-    }
-    parts_agree(s, end, middle)
+// What stands before the first such byte, and what stands behind it.
+fn split_once(s: &[u8], b: u8) -> Option<(&[u8], &[u8])> {
+    let at = s.iter().position(|x| *x == b)?;
+    Some((&s[..at], &s[at + 1..]))
 }
 
-fn judged(s: &[u8]) -> u8 {
-    if is_at(s, 0, b'#') {
-        return COMMENT;
+// Does a line agree: a call's name, what it is lent, and behind '>' what is due? The byte at either side of '>' is skipped.
+fn agrees(alloc: Global, line: &[u8]) -> Result<bool, LineError> {
+    let (name, sides) = split_once(line, b' ').ok_or(LineError::Malformed)?;
+    let (lent, due) = split_once(sides, b'>').ok_or(LineError::Malformed)?;
+    let lent = Fields::new(from_utf8(&lent[..lent.len().saturating_sub(1)])?);
+    let due = Fields::new(from_utf8(&due[due.len().min(1)..])?);
+    match from_utf8(name)?.split_once('_') {
+        Some(("ring", call)) => test_ring_line::agrees(alloc, call, lent, due),
+        Some(("line", "key")) => test_key_line::agrees(alloc, lent, due),
+        Some(("text", "slip")) => test_slip_line::agrees(alloc, lent, due),
+        Some((kind, call)) => test_state_line::agrees(alloc, kind, call, lent, due),
+        None => Err(LineError::Malformed),
     }
-    if agrees(s) {
-        return AGREES;
+}
+
+fn judged(alloc: Global, line: &[u8]) -> Result<Found, AllocError> {
+    if line.starts_with(b"#") {
+        return Ok(Found::Comment);
     }
-    DIFFERS
+    match well_formed(agrees(alloc, line))? {
+        Some(true) => Ok(Found::Agrees),
+        _ => Ok(Found::Differs),
+    }
 }
 
 // Replays all lines. The count of a call is printed where that of another begins, and at the end.
-fn replay(rt: &impl Print, s: &[u8]) -> io::Result<()> {
-    let mut first: usize = 0;
-    let mut last: usize = 0;
-    let mut agreed: usize = 0;
-    let mut number: usize = 0;
-    let mut at = 0;
-    while at < s.len() {
-        let stop = place_of(s, at, b'\n');
-        number += 1;
-        let found = judged(&s[at..stop]);
-        report(rt, number, found)?;
-        let c = counted(s, first, last, agreed, at, stop, found);
-        if c.first != first {
-            print_count(rt, &s[first..last], agreed)?;
+fn replay(rt: &(impl Print + AllocGlobal), s: &[u8]) -> io::Result<()> {
+    let mut count = Count::of(b"");
+    for (i, line) in s.split_inclusive(|b| *b == b'\n').enumerate() {
+        let line = line.strip_suffix(b"\n").unwrap_or(line);
+        let found = judged(rt.alloc(), line)?;
+        if found == Found::Comment {
+            continue;
         }
-        first = c.first;
-        last = c.last;
-        agreed = c.agreed;
-        at = past(stop, s.len());
+        if found == Found::Differs {
+            let number = i + 1;
+            println!(rt; "line {number} differs")?;
+        }
+        let name = split_once(line, b' ').map_or(line, |(name, _sides)| name);
+        if name != count.name {
+            count.print(rt)?;
+            count = Count::of(name);
+        }
+        if found == Found::Agrees {
+            count.agreed = count.agreed.saturating_add(1);
+        }
     }
-    print_count(rt, &s[first..last], agreed)
+    count.print(rt)
 }
 
 // The bytes of a file that are read.
 const LARGEST: usize = 262144;
 
 // Replays a file.
-pub fn run(rt: &(impl Files + Print), path: &str) -> io::Result<()> {
-    let mut input = [0u8; LARGEST];
+pub fn run(rt: &(impl Files + Print + AllocGlobal), path: &str) -> io::Result<()> {
+    let mut input = vec![in rt.alloc(); 0u8; LARGEST]?;
     let n = fill_from(&mut File::open(rt, path)?, &mut input)?;
     replay(rt, &input[..n])
 }

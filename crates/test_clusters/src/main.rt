@@ -4,268 +4,142 @@
 // gives a text by its code points, 4 to 6 hexadecimal digits each, and says by its signs whether there is a break
 // before, between and after them: U+00F7 for yes, U+00D7 for no. A line that begins with '#' is a comment. A line of
 // any other form, or whose text is over 64 bytes, agrees in neither direction. The last line may lack its line feed.
-//
-// A row of marks has a byte for each place of a text, its end too: 1 at a break, else 0.
 #![tactic(auto)]
 
-ghost use Rattle.std.specs.Prelude.{◌<◌, ◌≤◌, length};
+ghost use Rattle.std.specs.Prelude.{◌≤◌, length, IfSome};
 
 use cluster::{next_cluster, prev_cluster};
 use repertoire::check_text;
+use std::alloc::{AllocError, Global};
 use std::io;
-use test_fields::{fill_from, is_at, one_if, past, place_of};
-use utf8::encode_at;
+use std::str::from_utf8;
+use test_fields::{LineError, fill_from, well_formed};
 
 // The bytes of standard input that are read.
 const LARGEST: usize = 65536;
 
-// The mark of what is no sign.
-const NO_SIGN: u8 = 2;
+// The bytes of the longest text.
+const LONGEST: usize = 64;
 
-// Past the last code point, so that it has no bytes.
-const NO_POINT: u32 = 0x110000;
-
-// The mark that a sign's two bytes stand for.
-fn mark_of(a: u8, b: u8) -> u8 {
-    if a != 0xC3 {
-        return NO_SIGN;
-    }
-    if b == 0xB7 {
-        return 1;
-    }
-    if b == 0x97 {
-        return 0;
-    }
-    NO_SIGN
-}
-
-// A hexadecimal digit's value, 16 where it is none.
-fn digit_of(b: u8) -> u32
-    ensures { result ≤ 16 }
-{
-    if b < 48 {
-        return 16;
-    }
-    if b < 58 {
-        return (b - 48) as u32;
-    }
-    if b < 65 {
-        return 16;
-    }
-    if b < 71 {
-        return (b - 55) as u32;
-    }
-    16
-}
-
-// A number, and the place after it.
-#[derive(Clone, Copy)]
-struct Number {
-    value: u32,
-    next: usize,
-}
-
-// The hexadecimal number that stands at a place, of its last six digits.
-fn number_at(s: &[u8], from: usize) -> Number
-    requires { from ≤ length s.now }
-    ensures { (from ≤ result.next) × (result.next ≤ length s.now) }
-{
-    let mut value: u32 = 0;
-    let mut at = from;
-    while at < s.len() {
-        let d = digit_of(s[at]);
-        if 15 < d {
-            return Number { value, next: at };
-        }
-        value = value % 0x100000 * 16 + d;
-        at += 1;
-    }
-    Number { value, next: at }
-}
-
-// The code point that stands at a place between two spaces, and the place after the second.
-fn point_at(s: &[u8], from: usize) -> Number
-    requires { from ≤ length s.now }
-    ensures { (from ≤ result.next) × (result.next ≤ length s.now) }
-{
-    let none = Number {
-        value: NO_POINT,
-        next: from,
-    };
-    if !is_at(s, from, b' ') {
-        return none;
-    }
-    let n = number_at(s, from + 1);
-    let end = n.next;
-    if !is_at(s, end, b' ') {
-        return none;
-    }
-    let digits = end - (from + 1);
-    if digits < 4 {
-        return none;
-    }
-    if 6 < digits {
-        return none;
-    }
-    Number {
-        value: n.value,
-        next: end + 1,
+// Does a sign say that there is a break?
+fn is_break(sign: &str) -> Result<bool, LineError> {
+    match sign {
+        "÷" => Ok(true),
+        "×" => Ok(false),
+        _ => Err(LineError::Malformed),
     }
 }
 
-// Writes the text and the marks of a test line, and answers how many bytes the text has: 0 where the line is of another
-// form, or does not fit.
-fn text_of(line: &[u8], text: &mut [u8], want: &mut [u8]) -> usize
-    ensures { result ≤ length text.old }
-{
-    let mut len: usize = 0;
-    let mut at = 0;
-    while 2 <= line.len() - at {
-        let mark = mark_of(line[at], line[at + 1]);
-        if mark == NO_SIGN {
-            return 0;
-        }
-        if want.len() <= len {
-            return 0;
-        }
-        want[len] = mark;
-        at += 2;
-        if at == line.len() {
-            return len;
-        }
-        let p = point_at(line, at);
-        let n = encode_at(text, len, p.value);
-        if n == 0 {
-            return 0;
-        }
-        len += n;
-        at = p.next;
+// The character of a code point. Letters are large, but `from_str_radix` takes small ones and a '+' too.
+fn char_of(point: &str) -> Result<char, LineError> {
+    let is_digit = |b: u8| matches!(b, b'0'..=b'9' | b'A'..=b'F');
+    if !(4..=6).contains(&point.len()) || !point.bytes().all(is_digit) {
+        return Err(LineError::Malformed);
     }
-    0
+    char::from_u32(u32::from_str_radix(point, 16)?).ok_or(LineError::Malformed)
 }
 
-// Marks the places that steps by the next cluster reach from the start. Do they reach the end?
-fn goes_forward(text: &[u8], row: &mut [u8]) -> bool
-    requires { length text.now < length row.old }
-{
-    let mut at = 0;
-    while at < text.len() {
-        row[at] = 1;
-        let c = next_cluster(&text[at..]);
-        let n = c.len;
-        if n == 0 {
-            return false;
-        }
-        at += n;
-    }
-    row[at] = 1;
-    true
-}
-
-// The length of the last cluster, 0 where the bytes are no text.
-fn last_len(s: &[u8]) -> usize
-    ensures { result ≤ length s.now }
+// The length of the last cluster, none where the bytes are no text.
+fn last_len(s: &[u8]) -> Option<usize>
+    ensures { IfSome result (λ len. len ≤ length s.now) }
 {
     if !check_text(s) {
-        return 0;
+        return None;
     }
-    let c = prev_cluster(s);
-    c.len
+    Some(prev_cluster(s).len)
 }
 
-// Marks the places that steps by the previous cluster reach from the end. Do they reach the start?
-fn goes_backward(text: &[u8], row: &mut [u8]) -> bool
-    requires { length text.now < length row.old }
-{
-    let mut at = text.len();
-    while 0 < at {
-        row[at] = 1;
-        let n = last_len(&text[0..at]);
-        if n == 0 {
-            return false;
+// A text, and the lengths of its clusters in order, as a test line says them.
+#[derive(Drop)]
+struct Case {
+    text: String,
+    clusters: Vec<usize>,
+}
+
+impl Case {
+    // The case of a test line. Both the start and the end of a text are breaks.
+    fn read(alloc: Global, line: &[u8]) -> Result<Self, LineError> {
+        let fields: Vec<&str> = from_utf8(line)?.split(' ').collect(alloc)?;
+        let [start, rest @ ..] = fields.as_slice() else {
+            return Err(LineError::Malformed);
+        };
+        if !is_break(start)? {
+            return Err(LineError::Malformed);
         }
-        at -= n;
+        let mut text = String::new(alloc);
+        let mut clusters = Vec::new(alloc);
+        let mut cluster = String::new(alloc);
+        for pair in rest.chunks(2) {
+            let &[point, sign] = pair else {
+                return Err(LineError::Malformed);
+            };
+            cluster.push(char_of(point)?)?;
+            if is_break(sign)? {
+                clusters.push(cluster.len())?;
+                text.push_str(&cluster)?;
+                cluster.clear();
+            }
+        }
+        if !cluster.is_empty() || text.is_empty() || LONGEST < text.len() {
+            return Err(LineError::Malformed);
+        }
+        Ok(Case { text, clusters })
     }
-    row[at] = 1;
-    true
+
+    // Do steps by the next cluster from the start find these clusters?
+    fn agrees_forward(&self) -> bool {
+        let mut rest = self.text.as_bytes();
+        for len in &self.clusters {
+            let found = next_cluster(rest).len;
+            if found != *len {
+                return false;
+            }
+            rest = &rest[found..];
+        }
+        rest.is_empty()
+    }
+
+    // Do steps by the previous cluster from the end find these clusters?
+    fn agrees_backward(&self) -> bool {
+        let mut rest = self.text.as_bytes();
+        for len in self.clusters.iter().rev() {
+            match last_len(rest) {
+                Some(found) if found == *len => rest = &rest[..rest.len() - found],
+                _ => return false,
+            }
+        }
+        rest.is_empty()
+    }
 }
 
-// The lines counted, and those of them that agree.
-#[derive(Clone, Copy)]
-struct Tally {
-    lines: usize,
-    forward: usize,
-    backward: usize,
-}
-
-// What a test line adds to the tally.
-fn tested(line: &[u8]) -> Tally
-    ensures { (result.lines ≤ 1) × (result.forward ≤ 1) × (result.backward ≤ 1) }
-{
-    let mut text = [0u8; 64];
-    let mut want = [0u8; 65];
-    let len = text_of(line, &mut text, &mut want);
-    if len == 0 {
-        return Tally {
-            lines: 1,
-            forward: 0,
-            backward: 0,
-        };
+// The cases of all lines but the comments, none for a line of another form.
+fn read_cases(alloc: Global, s: &[u8]) -> Result<Vec<Option<Case>>, AllocError> {
+    let mut cases = Vec::new(alloc);
+    for line in s.split_inclusive(|b| *b == b'\n') {
+        if !line.starts_with(b"#") {
+            let line = line.strip_suffix(b"\n").unwrap_or(line);
+            cases.push(well_formed(Case::read(alloc, line))?)?;
+        }
     }
-    let mut ahead = [0u8; 65];
-    let mut back = [0u8; 65];
-    let f = goes_forward(&text[0..len], &mut ahead);
-    let b = goes_backward(&text[0..len], &mut back);
-    let forward = one_if(f & check::same(&ahead, &want));
-    let backward = one_if(b & check::same(&back, &want));
-    Tally {
-        lines: 1,
-        forward,
-        backward,
-    }
-}
-
-// What a line adds to the tally.
-fn counted(line: &[u8]) -> Tally
-    ensures { (result.lines ≤ 1) × (result.forward ≤ 1) × (result.backward ≤ 1) }
-{
-    if is_at(line, 0, b'#') {
-        return Tally {
-            lines: 0,
-            forward: 0,
-            backward: 0,
-        };
-    }
-    tested(line)
-}
-
-// The tally of all lines.
-fn total(s: &[u8]) -> Tally {
-    let mut lines: usize = 0;
-    let mut forward: usize = 0;
-    let mut backward: usize = 0;
-    let mut at = 0;
-    while at < s.len() {
-        let end = place_of(s, at, b'\n');
-        let t = counted(&s[at..end]);
-        lines += t.lines;
-        forward += t.forward;
-        backward += t.backward;
-        at = past(end, s.len());
-    }
-    Tally {
-        lines,
-        forward,
-        backward,
-    }
+    Ok(cases)
 }
 
 fn main(rt: HostRuntime) -> io::Result<()> {
-    let mut input = [0u8; LARGEST];
+    let mut input = vec![in rt.alloc(); 0u8; LARGEST]?;
     let n = fill_from(&mut rt.reader(), &mut input)?;
-    let t = total(&input[..n]);
+    let cases = read_cases(rt.alloc(), &input[..n])?;
+    let forward = cases
+        .iter()
+        .flatten()
+        .filter(|c| c.agrees_forward())
+        .count();
+    let backward = cases
+        .iter()
+        .flatten()
+        .filter(|c| c.agrees_backward())
+        .count();
     println!(rt;
-        "{} lines: {} agree forward, {} agree backward",
-        t.lines, t.forward, t.backward
+        "{} lines: {forward} agree forward, {backward} agree backward",
+        cases.len()
     )
 }

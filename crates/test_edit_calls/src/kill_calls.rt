@@ -1,48 +1,89 @@
-// The calls of `kills` and `deletions`.
+// The calls of `edit_kill`.
 use checks::Line;
 use edit::EditAnswer;
+use keymap::MovementCodes;
 use log_state::Log;
-use test_fields::{code_of, count_of, value_at};
+use test_fields::{Buffers, code_of, count_of};
 
-// The key of a call, as `call` takes it; 0 where there is none.
-pub fn key_of(name: &[u8], count: usize) -> usize {
-    test_fields::key_of(
-        b"kill_line 0,kill_buffer 0,discard_line 0,discard_buffer 0,backspace 1,delete 1,\
-          delete_prev_word 2,delete_word 3,delete_to 3,kill 6",
-        name,
-        count,
-    )
+// The numbers that name a movement, in the order of a call's arguments.
+pub fn movement_codes(
+    mvt: usize,
+    n: usize,
+    at: usize,
+    word: usize,
+    search: usize,
+    ch: usize,
+) -> MovementCodes {
+    MovementCodes {
+        mvt: code_of(mvt),
+        n: count_of(n),
+        at: code_of(at),
+        word: code_of(word),
+        search: code_of(search),
+        ch: code_of(ch),
+    }
 }
 
-// The answer of a call that `key_of` gives, with these arguments.
+// The answer of the call with a name and these arguments, none where there is no such call.
 pub fn call(
-    key: usize,
-    text: &mut [u8],
-    records: &mut [u8],
-    texts: &mut [u8],
+    name: &str,
+    lent: &mut Buffers,
     line: Line,
     log: Log,
-    v: &[usize],
-) -> EditAnswer {
-    let n = count_of(value_at(v, 0));
-    let a = code_of(value_at(v, 0));
-    let b = code_of(value_at(v, 1));
-    let nb = count_of(value_at(v, 1));
-    let nc = count_of(value_at(v, 2));
-    let at = code_of(value_at(v, 2));
-    let word = code_of(value_at(v, 3));
-    let search = code_of(value_at(v, 4));
-    let ch = code_of(value_at(v, 5));
-    match key {
-        1 => edit_kill::kill_line(text, records, texts, line, log),
-        2 => edit_kill::kill_buffer(text, records, texts, line, log),
-        3 => edit_kill::discard_line(text, records, texts, line, log),
-        4 => edit_kill::discard_buffer(text, records, texts, line, log),
-        5 => edit_kill::backspace(text, records, texts, line, log, n),
-        6 => edit_kill::delete(text, records, texts, line, log, n),
-        7 => edit_kill::delete_prev_word(text, records, texts, line, log, a, nb),
-        8 => edit_kill::delete_word(text, records, texts, line, log, a, b, nc),
-        9 => edit_kill::delete_to(text, records, texts, line, log, a, b, nc),
-        _ => edit_kill::kill(text, records, texts, line, log, a, nb, at, word, search, ch),
-    }
+    args: &[usize],
+) -> Option<EditAnswer> {
+    let Buffers {
+        text,
+        records,
+        texts,
+    } = lent;
+    let answer = match (name, args) {
+        ("kill_line", []) => edit_kill::kill_line(text, records, texts, line, log),
+        ("kill_buffer", []) => edit_kill::kill_buffer(text, records, texts, line, log),
+        ("discard_line", []) => edit_kill::discard_line(text, records, texts, line, log),
+        ("discard_buffer", []) => edit_kill::discard_buffer(text, records, texts, line, log),
+        ("backspace", [n]) => {
+            edit_kill::backspace(text, records, texts, line, log, count_of(*n))
+        }
+        ("delete", [n]) => edit_kill::delete(text, records, texts, line, log, count_of(*n)),
+        ("delete_prev_word", [word, n]) => edit_kill::delete_prev_word(
+            text,
+            records,
+            texts,
+            line,
+            log,
+            code_of(*word),
+            count_of(*n),
+        ),
+        ("delete_word", [at, word, n]) => edit_kill::delete_word(
+            text,
+            records,
+            texts,
+            line,
+            log,
+            code_of(*at),
+            code_of(*word),
+            count_of(*n),
+        ),
+        ("delete_to", [search, ch, n]) => edit_kill::delete_to(
+            text,
+            records,
+            texts,
+            line,
+            log,
+            code_of(*search),
+            code_of(*ch),
+            count_of(*n),
+        ),
+        ("kill", [mvt, n, at, word, search, ch]) => edit_kill::kill(
+            text,
+            records,
+            texts,
+            line,
+            log,
+            movement_codes(*mvt, *n, *at, *word, *search, *ch),
+        ),
+        _ => return None,
+    };
+    Some(answer)
 }

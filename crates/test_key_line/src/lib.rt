@@ -4,113 +4,69 @@
 // The head of a data file of `test_answers` says what its fields are.
 #![tactic(auto)]
 
-mod left;
-
+use checks::Line;
+use edit::EditAnswer;
 use key_calls::key;
-use key_model::{KeyAnswer, says};
-use left::is_all_left;
-use test_fields::{NO_CALL, least};
-use test_ring_line::record::ring_of;
-use test_ring_line::{LentRing, lend};
-use test_state_line::{LentState, STATE, lend_state, line_of, log_of};
+use key_model::KeyAnswer;
+use kill_ring::Ring;
+use log_state::Log;
+use std::alloc::Global;
+use test_fields::{Buffers, Fields, LineError};
+use test_ring_line::{RingBuffers, ring_numbers, ring_of};
+use test_state_line::{answer_numbers, state_of, used};
 
-// The numbers of a state and of a ring's record.
-const NUMBERS: usize = 12;
-
-// The answer of the key on what is lent.
-fn key_lent(
-    text: &mut [u8],
-    records: &mut [u8],
-    texts: &mut [u8],
-    slots: &mut [u8],
-    lens: &mut [u8],
+// The answer of the key of these bytes, and its line, log and ring afterwards.
+fn press(
+    state: &mut Buffers,
+    rings: &mut RingBuffers,
+    line: Line,
+    log: Log,
+    ring: Ring,
     bytes: &[u8],
-    s: LentState,
-    r: LentRing,
-    v: &[usize],
 ) -> KeyAnswer {
-    let i = least(s.text, text.len());
-    let j = least(s.records, records.len());
-    let k = least(s.texts, texts.len());
-    let m = least(r.slots, slots.len());
-    let n = least(r.lens, lens.len());
-    let b = least(r.text, bytes.len());
-    let line = line_of(v);
-    let log = log_of(v);
-    let ring = ring_of(v, STATE);
-    if r.numbers != NUMBERS {
-        return says(NO_CALL, line, log, ring);
-    }
-    key(
-        &mut text[0..i],
-        &mut records[0..j],
-        &mut texts[0..k],
-        &mut slots[0..m],
-        &mut lens[0..n],
-        line,
-        log,
-        ring,
-        &bytes[0..b],
-    )
+    let Buffers {
+        text,
+        records,
+        texts,
+    } = state;
+    let RingBuffers { slots, lens } = rings;
+    key(text, records, texts, slots, lens, line, log, ring, bytes)
 }
 
-// Is all that was lent left, and all answered, as a line says?
-fn is_lent_left(
-    lent: &[u8],
-    due: &[u8],
-    text: &[u8],
-    records: &[u8],
-    texts: &[u8],
-    slots: &[u8],
-    lens: &[u8],
-    s: LentState,
-    r: LentRing,
-    a: KeyAnswer,
-) -> bool {
-    let mut scratch = io::large_buffer();
-    let i = least(s.text, text.len());
-    let j = least(s.records, records.len());
-    let k = least(s.texts, texts.len());
-    let m = least(r.slots, slots.len());
-    let n = least(r.lens, lens.len());
-    is_all_left(
-        lent,
-        due,
-        &text[0..i],
-        &records[0..j],
-        &texts[0..k],
-        &slots[0..m],
-        &lens[0..n],
-        a,
-        &mut scratch,
-    )
+// Do these numbers say an answer?
+fn is_answer(numbers: &[usize], a: KeyAnswer) -> bool {
+    let on_line = EditAnswer {
+        number: a.number,
+        from: a.from,
+        to: a.to,
+        line: a.line,
+        log: a.log,
+    };
+    match numbers.split_at_checked(10) {
+        Some((first, ring)) => {
+            first == answer_numbers(on_line).as_slice() && ring == ring_numbers(a.ring).as_slice()
+        }
+        None => false,
+    }
 }
 
 // Does a line agree: a key, what it is lent, and what is due?
-pub fn agrees(lent: &[u8], due: &[u8]) -> bool {
-    let mut text = io::large_buffer();
-    let mut records = io::large_buffer();
-    let mut texts = io::large_buffer();
-    let mut slots = io::large_buffer();
-    let mut lens = io::large_buffer();
-    let mut bytes = io::large_buffer();
-    let mut v = [0usize; 24];
-    let s = lend_state(lent, &mut text, &mut records, &mut texts);
-    let at = s.next;
-    let r = lend(&lent[at..], &mut slots, &mut lens, &mut bytes, &mut v);
-    let a = key_lent(
-        &mut text,
-        &mut records,
-        &mut texts,
-        &mut slots,
-        &mut lens,
-        &bytes,
-        s,
-        r,
-        &v,
-    );
-    if a.number == NO_CALL {
-        return false;
+pub fn agrees(alloc: Global, mut lent: Fields<'_>, mut due: Fields<'_>) -> Result<bool, LineError> {
+    let state = Buffers::read(alloc, &mut lent)?;
+    let rings = RingBuffers::read(alloc, &mut lent)?;
+    let bytes = lent.next_text(alloc)?;
+    let numbers = lent.numbers(alloc)?;
+    let (line, log, ring_numbers) = state_of(&numbers)?;
+    let (ring, behind) = ring_of(ring_numbers)?;
+    if !behind.is_empty() {
+        return Err(LineError::Malformed);
     }
-    is_lent_left(lent, due, &text, &records, &texts, &slots, &lens, s, r, a)
+    let mut state_after = state.clone()?;
+    let mut rings_after = rings.clone()?;
+    let a = press(&mut state_after, &mut rings_after, line, log, ring, &bytes);
+    Ok(
+        state_after.are_left(alloc, &mut due, &state, used(a.line, a.log))?
+            && rings_after.are_left(alloc, &mut due, &rings, a.ring.count)?
+            && is_answer(&due.numbers(alloc)?, a),
+    )
 }

@@ -3,107 +3,70 @@
 // The head of a data file of `test_answers` says what its fields are.
 #![tactic(auto)]
 
-pub mod left;
-pub mod record;
+ghost use Rattle.std.specs.Prelude.{◌≡◌, ◌<◌, length, [], ◌∷◌, IfOk, OnErr};
+
+mod buffers;
 mod ring_calls;
 
-use kill_ring::{AnswerAndRing, Ring, RingAnswer};
-use left::is_all_left;
-use record::{RECORD, ring_of};
-use test_fields::{NO_CALL, least, method_at, numbers_of, text_behind};
+pub use buffers::RingBuffers;
+use kill_ring::{Ring, RingAnswer};
+use ring_calls::call;
+use std::alloc::Global;
+use test_fields::{Fields, LineError};
 
-fn no_call(ring: Ring) -> AnswerAndRing {
-    let answer = RingAnswer {
-        number: NO_CALL,
-        slot: 0,
-        size: 0,
-    };
-    AnswerAndRing { answer, ring }
-}
-
-// The lengths of what a line lends and hands over, and how many numbers it has.
-#[derive(Clone, Copy)]
-pub struct LentRing {
-    pub slots: usize,
-    pub lens: usize,
-    pub text: usize,
-    pub numbers: usize,
-}
-
-// Fills a ring's buffers and a text as the first three fields say, and reads the numbers behind them.
-pub fn lend(
-    lent: &[u8],
-    slots: &mut [u8],
-    lens: &mut [u8],
-    text: &mut [u8],
-    v: &mut [usize],
-) -> LentRing {
-    let a = text_behind(lent, 0, slots);
-    let b = text_behind(lent, a.next, lens);
-    let c = text_behind(lent, b.next, text);
-    let numbers = numbers_of(lent, c.next, v);
-    LentRing {
-        slots: a.value,
-        lens: b.value,
-        text: c.value,
-        numbers,
+// The record that the first numbers say, and the numbers behind them.
+pub fn ring_of(numbers: &[usize]) -> Result<(Ring, &[usize]), LineError>
+    ensures ok { IfOk result (λ r. numbers.now ≡ r.0.size ∷ r.0.count ∷ r.0.index ∷ r.0.action ∷ r.0.yanked ∷ r.1.now) }
+    ensures err { OnErr result (length numbers.now < 5) }
+{
+    match numbers {
+        [size, count, index, action, yanked, rest @ ..] => {
+            let ring = Ring {
+                size: *size,
+                count: *count,
+                index: *index,
+                action: *action,
+                yanked: *yanked,
+            };
+            Ok((ring, rest))
+        }
+        _ => Err(LineError::Malformed),
     }
 }
 
-// The answer of the call of a name on what is lent, with the record afterwards.
-fn call_lent(
-    name: &[u8],
-    slots: &mut [u8],
-    lens: &mut [u8],
-    text: &[u8],
-    l: LentRing,
-    v: &[usize],
-) -> AnswerAndRing {
-    let i = least(l.slots, slots.len());
-    let j = least(l.lens, lens.len());
-    let k = least(l.text, text.len());
-    let end = least(l.numbers, v.len());
-    let from = method_at(name);
-    let ring = ring_of(v, 0);
-    if end < RECORD {
-        return no_call(ring);
+// The numbers that say a record.
+pub fn ring_numbers(r: Ring) -> [usize; 5]
+    ensures { result ≡ r.size ∷ r.count ∷ r.index ∷ r.action ∷ r.yanked ∷ [] }
+{
+    [r.size, r.count, r.index, r.action, r.yanked]
+}
+
+// Do these numbers say an answer, and behind it the record?
+fn is_answer(numbers: &[usize], a: RingAnswer, ring: Ring) -> bool {
+    match numbers {
+        [number, slot, size, rest @ ..] => {
+            (*number, *slot, *size) == (a.number as usize, a.slot, a.size)
+                && rest == ring_numbers(ring).as_slice()
+        }
+        _ => false,
     }
-    let key = ring_calls::key_of(&name[from..], end - RECORD);
-    if key == 0 {
-        return no_call(ring);
-    }
-    ring_calls::call(
-        key,
-        &mut slots[0..i],
-        &mut lens[0..j],
-        ring,
-        &text[0..k],
-        &v[RECORD..end],
+}
+
+// Does a line agree: the call of a name, what it is lent, and what is due?
+pub fn agrees(
+    alloc: Global,
+    name: &str,
+    mut lent: Fields<'_>,
+    mut due: Fields<'_>,
+) -> Result<bool, LineError> {
+    let before = RingBuffers::read(alloc, &mut lent)?;
+    let text = lent.next_text(alloc)?;
+    let numbers = lent.numbers(alloc)?;
+    let (ring, args) = ring_of(&numbers)?;
+    let mut after = before.clone()?;
+    let a = call(name, &mut after, ring, &text, args).ok_or(LineError::Malformed)?;
+    Ok(
+        after.are_left(alloc, &mut due, &before, a.ring.count)?
+            && is_answer(&due.numbers(alloc)?, a.answer, a.ring),
     )
-}
-
-// Is all that was lent left, and all answered, as a line says?
-fn is_lent_left(
-    lent: &[u8],
-    due: &[u8],
-    slots: &[u8],
-    lens: &[u8],
-    l: LentRing,
-    left: AnswerAndRing,
-) -> bool {
-    let mut scratch = io::large_buffer();
-    let i = least(l.slots, slots.len());
-    let j = least(l.lens, lens.len());
-    is_all_left(lent, due, &slots[0..i], &lens[0..j], left, &mut scratch)
-}
-
-// Does a line agree: a call of a name, what it is lent, and what is due?
-pub fn agrees(name: &[u8], lent: &[u8], due: &[u8]) -> bool {
-    let mut slots = io::large_buffer();
-    let mut lens = io::large_buffer();
-    let mut text = io::large_buffer();
-    let mut v = [0usize; 12];
-    let l = lend(lent, &mut slots, &mut lens, &mut text, &mut v);
-    let left = call_lent(name, &mut slots, &mut lens, &text, l, &v);
-    is_lent_left(lent, due, &slots, &lens, l, left)
 }

@@ -3,184 +3,92 @@
 // The head of a data file of `test_answers` says what its fields are.
 #![tactic(auto)]
 
-pub mod left;
-
-ghost use Rattle.std.specs.Prelude.{◌≤◌, length};
+ghost use Rattle.std.specs.Prelude.{◌≡◌, ◌+◌, ◌-◌, ◌^◌, ◌<◌, min, length, [], ◌∷◌, IfOk, OnErr, slice_index_or};
+ghost use Rattle.test_state_line.specs.Numbers.{log_numbers};
 
 use checks::Line;
 use edit::EditAnswer;
-use left::is_all_left;
 use log_state::{Log, Used};
-use test_calls::{call, no_call};
-use test_fields::{NO_CALL, least, numbers_of, text_behind, value_at};
+use std::alloc::Global;
+use test_calls::call;
+use test_fields::{Buffers, Fields, LineError};
 
-// The numbers of a state.
-pub const STATE: usize = 7;
-
-// The line of a state's numbers.
-pub fn line_of(v: &[usize]) -> Line {
-    Line {
-        len: value_at(v, 0),
-        cursor: value_at(v, 1),
-    }
-}
-
-// The log of a state's numbers.
-pub fn log_of(v: &[usize]) -> Log {
-    let undo = Used {
-        records: value_at(v, 2),
-        texts: value_at(v, 3),
-    };
-    let redo = Used {
-        records: value_at(v, 4),
-        texts: value_at(v, 5),
-    };
-    Log {
-        undo,
-        redo,
-        level: value_at(v, 6),
-    }
-}
-
-// The lengths of a text and of a log's two buffers as a line lends them, and the place after them.
-#[derive(Clone, Copy)]
-pub struct LentState {
-    pub text: usize,
-    pub records: usize,
-    pub texts: usize,
-    pub next: usize,
-}
-
-// Fills a text and a log's two buffers as the first three fields say.
-pub fn lend_state(lent: &[u8], text: &mut [u8], records: &mut [u8], texts: &mut [u8]) -> LentState
-    ensures { result.next ≤ length lent.now }
+// The line and the log that the first numbers say, and the numbers behind them.
+pub fn state_of(numbers: &[usize]) -> Result<(Line, Log, &[usize]), LineError>
+    ensures ok { IfOk result (λ r. numbers.now ≡ r.0.len ∷ r.0.cursor ∷ log_numbers r.1 r.2.now) }
+    ensures err { OnErr result (length numbers.now < 7) }
 {
-    let a = text_behind(lent, 0, text);
-    let b = text_behind(lent, a.next, records);
-    let c = text_behind(lent, b.next, texts);
-    LentState {
-        text: a.value,
-        records: b.value,
-        texts: c.value,
-        next: c.next,
+    match numbers {
+        [len, cursor, ur, ut, rr, rt, level, rest @ ..] => {
+            let line = Line {
+                len: *len,
+                cursor: *cursor,
+            };
+            let log = Log {
+                undo: Used {
+                    records: *ur,
+                    texts: *ut,
+                },
+                redo: Used {
+                    records: *rr,
+                    texts: *rt,
+                },
+                level: *level,
+            };
+            Ok((line, log, rest))
+        }
+        _ => Err(LineError::Malformed),
     }
 }
 
-// The lengths of what a line lends and hands over, and how many numbers it has.
-#[derive(Clone, Copy)]
-struct Lent {
-    text: usize,
-    records: usize,
-    texts: usize,
-    buf: usize,
-    new: usize,
-    numbers: usize,
+// The numbers that say an answer.
+pub fn answer_numbers(a: EditAnswer) -> [usize; 10]
+    ensures { result ≡ a.number ∷ a.from ∷ a.to ∷ a.line.len ∷ a.line.cursor ∷ log_numbers a.log [] }
+{
+    [
+        a.number as usize,
+        a.from,
+        a.to,
+        a.line.len,
+        a.line.cursor,
+        a.log.undo.records,
+        a.log.undo.texts,
+        a.log.redo.records,
+        a.log.redo.texts,
+        a.log.level,
+    ]
 }
 
-// Fills the buffers as a line says.
-fn lend(
-    lent: &[u8],
-    text: &mut [u8],
-    records: &mut [u8],
-    texts: &mut [u8],
-    buf: &mut [u8],
-    new: &mut [u8],
-    v: &mut [usize],
-) -> Lent {
-    let a = lend_state(lent, text, records, texts);
-    let b = text_behind(lent, a.next, buf);
-    let c = text_behind(lent, b.next, new);
-    let numbers = numbers_of(lent, c.next, v);
-    Lent {
-        text: a.text,
-        records: a.records,
-        texts: a.texts,
-        buf: b.value,
-        new: c.value,
-        numbers,
-    }
+// How many bytes of the text, the records and the texts a line and a log use.
+pub fn used(line: Line, log: Log) -> [usize; 3]
+    ensures text { slice_index_or result 0 0 ≡ line.len }
+    ensures records { slice_index_or result 1 0 ≡ min (log.undo.records + log.redo.records) (2 ^ 64 - 1) }
+    ensures texts { slice_index_or result 2 0 ≡ min (log.undo.texts + log.redo.texts) (2 ^ 64 - 1) }
+{
+    [
+        line.len,
+        log.undo.records.saturating_add(log.redo.records),
+        log.undo.texts.saturating_add(log.redo.texts),
+    ]
 }
 
-// The answer of the call of a name on what is lent.
-fn call_lent(
-    name: &[u8],
-    text: &mut [u8],
-    records: &mut [u8],
-    texts: &mut [u8],
-    buf: &[u8],
-    new: &[u8],
-    l: Lent,
-    v: &[usize],
-) -> EditAnswer {
-    let i = least(l.text, text.len());
-    let j = least(l.records, records.len());
-    let k = least(l.texts, texts.len());
-    let b = least(l.buf, buf.len());
-    let n = least(l.new, new.len());
-    let end = least(l.numbers, v.len());
-    let line = line_of(v);
-    let log = log_of(v);
-    if end < STATE {
-        return no_call(line, log);
-    }
-    call(
-        name,
-        &mut text[0..i],
-        &mut records[0..j],
-        &mut texts[0..k],
-        line,
-        log,
-        &buf[0..b],
-        &new[0..n],
-        &v[STATE..end],
+// Does a line agree: the call of a name, what it is lent, and what is due?
+pub fn agrees(
+    alloc: Global,
+    kind: &str,
+    name: &str,
+    mut lent: Fields<'_>,
+    mut due: Fields<'_>,
+) -> Result<bool, LineError> {
+    let before = Buffers::read(alloc, &mut lent)?;
+    let buf = lent.next_text(alloc)?;
+    let new = lent.next_text(alloc)?;
+    let numbers = lent.numbers(alloc)?;
+    let (line, log, args) = state_of(&numbers)?;
+    let mut after = before.clone()?;
+    let a = call(kind, name, &mut after, line, log, &buf, &new, args).ok_or(LineError::Malformed)?;
+    Ok(
+        after.are_left(alloc, &mut due, &before, used(a.line, a.log))?
+            && due.numbers(alloc)?.as_slice() == answer_numbers(a).as_slice(),
     )
-}
-
-// Is all that was lent left, and all answered, as a line says?
-fn is_lent_left(
-    lent: &[u8],
-    due: &[u8],
-    text: &[u8],
-    records: &[u8],
-    texts: &[u8],
-    l: Lent,
-    a: EditAnswer,
-) -> bool {
-    let mut scratch = io::large_buffer();
-    let i = least(l.text, text.len());
-    let j = least(l.records, records.len());
-    let k = least(l.texts, texts.len());
-    is_all_left(
-        lent,
-        due,
-        &text[0..i],
-        &records[0..j],
-        &texts[0..k],
-        a,
-        &mut scratch,
-    )
-}
-
-// Does a line agree: a call of a name, what it is lent, and what is due?
-pub fn agrees(name: &[u8], lent: &[u8], due: &[u8]) -> bool {
-    let mut text = io::large_buffer();
-    let mut records = io::large_buffer();
-    let mut texts = io::large_buffer();
-    let mut buf = io::large_buffer();
-    let mut new = io::large_buffer();
-    let mut v = [0usize; 24];
-    let l = lend(
-        lent,
-        &mut text,
-        &mut records,
-        &mut texts,
-        &mut buf,
-        &mut new,
-        &mut v,
-    );
-    let a = call_lent(name, &mut text, &mut records, &mut texts, &buf, &new, l, &v);
-    if a.number == NO_CALL {
-        return false;
-    }
-    is_lent_left(lent, due, &text, &records, &texts, l, a)
 }

@@ -2,14 +2,14 @@
 use Prim.Native.Nat.{ℕ, zero, suc, ◌+◌, ◌≤◌, ◌<◌}
 use native.Mathlib.Omega.{arith}
 use mathlib.Core.Path.{◌≡◌, refl, sym, ap, subst, ◌∙◌}
-use mathlib.Core.Bool.{true, false, cond}
-use lib.Dec.{eqb}
-use borrow.Author.Tests.{eqb-true, ne_eqb}
-use Rattle.lists.proofs.Bools.{by_test}
-use Rattle.log_model.specs.Change.{Change, begin, end, edit, insert, delete, replace, turn}
+use mathlib.Core.Bool.{true, false}
+use Rattle.log_model.specs.Change.{Change, begin, end, edit, turn}
 use Rattle.formats.specs.declared.Format.{Format}
+use Rattle.log_records.specs.declared.Kind.{Kind}
+use Rattle.log_records.specs.declared.Kind.TheVariants.{Begin, End, Edit}
 use Rattle.log_records.specs.Records.{numbers_of}
 use Rattle.undo.specs.Undo.{Waiting, owed, below, passing, settled}
+use Rattle.undo.specs.Steps.{begins_in, ends_in}
 
 -- the counter, by the Ends and the Begins that were passed
 abbrev pub Waits : Waiting → ℕ → ℕ → Type 0
@@ -42,42 +42,55 @@ none_counts : (w : Waiting) (ends begins : ℕ) → Waits w ends begins → Wait
 none_counts (owed n) ends begins h = omega arith
 none_counts (below n) ends begins h = omega arith
 
--- undone: an End has the kind 2, a Begin 1
+-- undone
 back : (F : Format) (x : Change) (w : Waiting) (ends begins : ℕ) → Waits w ends begins
-    → Waits (passing x w) (ends + cond (eqb (numbers_of F x).kind 2) 1 0) (begins + cond (eqb (numbers_of F x).kind 1) 1 0)
+    → Waits (passing x w) (ends + ends_in (numbers_of F x).kind) (begins + begins_in (numbers_of F x).kind)
 back F begin w ends begins h = begin_counts w ends begins h
 back F end w ends begins h = end_counts w ends begins h
-back F (edit (insert p s)) w ends begins h = none_counts w ends begins h
-back F (edit (delete p s)) w ends begins h = none_counts w ends begins h
-back F (edit (replace p o n)) w ends begins h = none_counts w ends begins h
+back F (edit x) w ends begins h = none_counts w ends begins h
 
 -- redone: it is passed turned round
 on : (F : Format) (x : Change) (w : Waiting) (ends begins : ℕ) → Waits w ends begins
-    → Waits (passing x w) (ends + cond (eqb (numbers_of F (turn x)).kind 1) 1 0) (begins + cond (eqb (numbers_of F (turn x)).kind 2) 1 0)
+    → Waits (passing x w) (ends + begins_in (numbers_of F (turn x)).kind) (begins + ends_in (numbers_of F (turn x)).kind)
 on F begin w ends begins h = begin_counts w ends begins h
 on F end w ends begins h = end_counts w ends begins h
-on F (edit (insert p s)) w ends begins h = none_counts w ends begins h
-on F (edit (delete p s)) w ends begins h = none_counts w ends begins h
-on F (edit (replace p o n)) w ends begins h = none_counts w ends begins h
+on F (edit x) w ends begins h = none_counts w ends begins h
 
--- the code counts a record of the kind k: i is 1 for the kind 1, j for the kind 2
-module _ (k : ℕ) {i j : ℕ} (e : i ≡ cond (eqb k 1) 1 0) (f : j ≡ cond (eqb k 2) 1 0) where
-  -- at most one of them
+-- ---- the number that the code adds for a record
+pub is_begin : {k : Kind} → k ≡ Begin → 1 ≡ begins_in k
+is_begin e = ap begins_in (sym e)
+
+pub no_begin : (k : Kind) → (k ≡ Begin → ⊥) → 0 ≡ begins_in k
+no_begin Begin e = absurd (e refl)
+no_begin End e = refl
+no_begin (Edit x) e = refl
+
+pub is_end : {k : Kind} → k ≡ End → 1 ≡ ends_in k
+is_end e = ap ends_in (sym e)
+
+pub no_end : (k : Kind) → (k ≡ End → ⊥) → 0 ≡ ends_in k
+no_end Begin e = refl
+no_end End e = absurd (e refl)
+no_end (Edit x) e = refl
+
+-- at most one of them
+pub one_in : (k : Kind) → begins_in k + ends_in k ≤ 1
+one_in Begin = omega arith
+one_in End = omega arith
+one_in (Edit x) = omega arith
+
+-- the code counts a record of the kind k: i is 1 for a Begin, j for an End
+module _ (k : Kind) {i j : ℕ} (e : i ≡ begins_in k) (f : j ≡ ends_in k) where
   pub one_of : i + j ≤ 1
-  one_of =
-      by_test (i + j ≤ 1) (eqb k 1)
-      (λ a. let b = ne_eqb k 2 (λ (c : k ≡ 2). omega (arith, eqb-true k 1 a)) in omega (arith, rw a at e, rw b at f))
-      (λ a. by_test (i + j ≤ 1) (eqb k 2) (λ b. omega (arith, rw a at e, rw b at f)) (λ b. omega (arith, rw a at e, rw b at f)))
+  one_of = omega (arith, one_in k)
 
   module _ (F : Format) (x : Change) (w : Waiting) (ends begins : ℕ) (h : Waits w ends begins) where
     pub counts_back : k ≡ (numbers_of F x).kind → Waits (passing x w) (ends + j) (begins + i)
     counts_back q =
-        subst (λ (a : ℕ). Waits (passing x w) (ends + a) (begins + i)) (sym (f ∙ ap (λ (a : ℕ). cond (eqb a 2) 1 0) q))
-        (subst (λ (a : ℕ). Waits (passing x w) (ends + cond (eqb (numbers_of F x).kind 2) 1 0) (begins + a))
-        (sym (e ∙ ap (λ (a : ℕ). cond (eqb a 1) 1 0) q)) (back F x w ends begins h))
+        subst (λ (a : ℕ). Waits (passing x w) (ends + a) (begins + i)) (sym (f ∙ ap ends_in q))
+        (subst (λ (a : ℕ). Waits (passing x w) (ends + ends_in (numbers_of F x).kind) (begins + a)) (sym (e ∙ ap begins_in q)) (back F x w ends begins h))
 
     pub counts_on : k ≡ (numbers_of F (turn x)).kind → Waits (passing x w) (ends + i) (begins + j)
     counts_on q =
-        subst (λ (a : ℕ). Waits (passing x w) (ends + a) (begins + j)) (sym (e ∙ ap (λ (a : ℕ). cond (eqb a 1) 1 0) q))
-        (subst (λ (a : ℕ). Waits (passing x w) (ends + cond (eqb (numbers_of F (turn x)).kind 1) 1 0) (begins + a))
-        (sym (f ∙ ap (λ (a : ℕ). cond (eqb a 2) 1 0) q)) (on F x w ends begins h))
+        subst (λ (a : ℕ). Waits (passing x w) (ends + a) (begins + j)) (sym (e ∙ ap begins_in q))
+        (subst (λ (a : ℕ). Waits (passing x w) (ends + begins_in (numbers_of F (turn x)).kind) (begins + a)) (sym (f ∙ ap ends_in q)) (on F x w ends begins h))

@@ -8,6 +8,9 @@ use lib.Dec.{leb, ltb}
 use lib.ListN.{length}
 use borrow.Author.Tests.{leb-true, not-false}
 use Rattle.lists.proofs.Bools.{and_both, by_test}
+use Rattle.std.specs.Prelude.{Option, None, Some, is_some}
+use Rattle.checks.specs.declared.Refused.{Refused}
+use Rattle.checks.proofs.Refusals.{never-passes}
 use Rattle.repertoire.specs.Repertoire.{Repertoire, catalogue}
 use Rattle.repertoire.specs.Text.{is_text}
 use Rattle.repertoire.proofs.Text.{text-valid}
@@ -28,9 +31,22 @@ use Rattle.edit.proofs.Answers.{cursor_in}
 use Rattle.edit.proofs.Stored.{state-stored, state-ready}
 use Rattle.edit.proofs.Splice.{splice-text, splice-end}
 use Rattle.undo_step.specs.declared.Step.{Step}
-use Rattle.undo_step.specs.UndoStep.{StepState, StepOutcome, done, stops, misfit, exchanging, undoing, step_to, UndoneOrRedone}
+use Rattle.undo_step.specs.UndoStep.{StepState, StepOutcome, done, stops, misfit, exchanging, undoing, stop_number, step_to, UndoneOrRedone}
 use Rattle.undo.specs.Steps.{step_state_by, line_of, state_at, from_of, pass_log, Leaves}
 use Rattle.undo.proofs.Seams.{holds}
+
+-- ---- whether a step was stopped, by the test that the code makes
+pub is-stop : {b : Bool} {o : Option Refused} → b ≡ is_some o → b ≡ true → o ≡ None → ⊥
+is-stop e f g = cc
+
+pub no-stop : {b : Bool} {o : Option Refused} → b ≡ is_some o → b ≡ false → o ≡ None
+no-stop {o = None} e f = refl
+no-stop {o = Some why} e f = cc
+
+-- no stop has the number 0
+pub unnumbered : (o : Option Refused) → stop_number o ≡ 0 → o ≡ None
+unnumbered None e = refl
+unnumbered (Some why) e = absurd (never-passes why e)
 
 -- ---- a stop has a number over 1
 abbrev pub Numbered : StepOutcome → Type 0
@@ -52,14 +68,14 @@ numbered C (edit x) s =
 
 -- ---- what it leaves in the bytes
 module _ (F : Format) (l : Lent) (w : groups.Log) where
-  pub stop_leaves : (v : StepOutcome) (s q : Step) (t : List ℕ) → line_of s ≡ l.line → UndoneOrRedone v s q l.text t → (q.number ≡ 0 → ⊥) → Leaves F l v w q l.log t
-  stop_leaves (done p) s q t e r n = absurd (n (ap (λ (z : Step). z.number) r.0))
-  stop_leaves (stops k) s q t e r n = (ap (λ (z : Step). z.number) r.0, ap line_of r.0 ∙ e, refl, r.1)
+  pub stop_leaves : (v : StepOutcome) (s q : Step) (t : List ℕ) → line_of s ≡ l.line → UndoneOrRedone v s q l.text t → (q.stop ≡ None → ⊥) → Leaves F l v w q l.log t
+  stop_leaves (done p) s q t e r n = absurd (n (ap (λ (z : Step). z.stop) r.0))
+  stop_leaves (stops k) s q t e r n = (r.0, ap line_of r.1 ∙ e, refl, r.2)
 
-  pub done-leaves : (v : StepOutcome) (s q : Step) (g : Log) (t : List ℕ) → Numbered v → UndoneOrRedone v s q l.text t → q.number ≡ 0 → g ≡ log.log_of F w
+  pub done-leaves : (v : StepOutcome) (s q : Step) (g : Log) (t : List ℕ) → Numbered v → UndoneOrRedone v s q l.text t → q.stop ≡ None → g ≡ log.log_of F w
       → log.Stored F w l.records l.texts → Leaves F l v w q g t
   done-leaves (done p) s q g t m r z e b = (r.0, e, record { text = r.1; log = b })
-  done-leaves (stops k) s q g t m r z e b = absurd (omega (arith, m, ap (λ (i : Step). i.number) r.0))
+  done-leaves (stops k) s q g t m r z e b = absurd (omega (arith, m, r.0, ap stop_number z))
 
 -- ---- a text stays a text, and its cursor a place between characters
 abbrev Fits : Repertoire → StepOutcome → Type 0
@@ -133,7 +149,7 @@ pub record Went (F : Format) (l : Lent) (b : Bool) (x : Change) (w : groups.Log)
 
 -- it was stopped: all is as it was
 pub record Stopped (F : Format) (l : Lent) (b : Bool) (x : Change) (q : Step) (g : Log) (t : List ℕ) : Type 0 where
-  pub tried : undoing (length l.text) x (step_state_by (state_of catalogue F l) b) ≡ stops q.number
+  pub tried : undoing (length l.text) x (step_state_by (state_of catalogue F l) b) ≡ stops (stop_number q.stop)
   pub line : line_of q ≡ l.line
   pub log : g ≡ l.log
   pub text : t ≡ l.text
@@ -142,7 +158,7 @@ module _ (F : Format) (l : Lent) (b : Bool) (x : Change) (w : groups.Log) (q : S
   abbrev tried : StepOutcome
   tried = undoing (length l.text) x (step_state_by (state_of catalogue F l) b)
 
-  pub went : Ready F l → Fine F x w → w.level ≡ l.log.level → length t ≡ length l.text → Leaves F l tried w q g t → q.number ≡ 0 → Went F l b x w q g t
+  pub went : Ready F l → Fine F x w → w.level ≡ l.log.level → length t ≡ length l.text → Leaves F l tried w q g t → q.stop ≡ None → Went F l b x w q g t
   went h n v e r z = go tried refl (numbered (length l.text) x (step_state_by (state_of catalogue F l) b))
       (undone-fits catalogue (length l.text) x (step_state_by (state_of catalogue F l) b) n.ok h.text (cursor_in F l h)) r
     where
@@ -160,11 +176,11 @@ module _ (F : Format) (l : Lent) (b : Bool) (x : Change) (w : groups.Log) (q : S
                 (subst (λ (a : Log). Ready F (lent t l.records l.texts (line_of (step_to p)) a)) (sym r.1) c);
             state = ap₂ (λ (i : Step) (j : Log). state_of catalogue F (lent t l.records l.texts (line_of i) j)) r.0 r.1 ∙ d;
           }
-      go (stops k) i m f r = absurd (omega (arith, m, r.0))
+      go (stops k) i m f r = absurd (omega (arith, m, r.0, ap stop_number z))
 
-  pub stopped : Leaves F l tried w q g t → (q.number ≡ 0 → ⊥) → Stopped F l b x q g t
+  pub stopped : Leaves F l tried w q g t → (q.stop ≡ None → ⊥) → Stopped F l b x q g t
   stopped r z = go tried refl r
     where
       go : (a : StepOutcome) → tried ≡ a → Leaves F l a w q g t → Stopped F l b x q g t
-      go (done p) i r = absurd (z (ap (λ (s : Step). s.number) r.0))
+      go (done p) i r = absurd (z (ap (λ (s : Step). s.stop) r.0))
       go (stops k) i r = record { tried = i ∙ ap stops (sym r.0); line = r.1; log = r.2; text = r.3 }

@@ -4,6 +4,7 @@ use native.Mathlib.Omega.{arith}
 use mathlib.Core.Path.{◌≡◌, refl, sym, ap, subst, ◌∙◌}
 use mathlib.Core.List.{List, ◌∷◌, ◌++◌, append_assoc}
 use lib.ListN.{length, take, drop, length-append, take-append-drop}
+use Rattle.std.specs.Prelude.{Some}
 use Rattle.repertoire.specs.Repertoire.{Repertoire}
 use Rattle.log_model.specs.Change.{Change}
 use Rattle.formats.specs.declared.Format.{Format}
@@ -11,13 +12,14 @@ use Rattle.log_model.specs.Layout.{record_of, texts_of, encode_records, encode_t
 use Rattle.log_model.specs.Holds.{Holds}
 use Rattle.log_model.proofs.Decode.{Reads, reads, record_pos, text_at}
 use Rattle.log_model.proofs.Holds.{records-append, texts-append, good_right}
-use Rattle.log_records.specs.Records.{IsWhole, record_at, Carries}
+use Rattle.log_records.specs.Records.{numbers_of, IsWhole, record_at}
 use Rattle.log_records.proofs.Records.{record_is}
 
 -- ---- the change c stands at at and t
 pub record Stands (F : Format) (rb tb : List ℕ) (at t : ℕ) (c : Change) : Type 0 where
   pub space : t + length (texts_of c) ≤ length tb
-  pub carries : Carries F c (record_at F rb at) tb t
+  pub read : record_at F rb at ≡ Some (numbers_of F c)
+  pub texts : take (length (texts_of c)) (drop t tb) ≡ texts_of c
 
 module _ {R : Repertoire} {F : Format} {rb tb : List ℕ} {ur ut rr rt : ℕ} {us rs : List Change} (h : Holds R F rb tb ur ut rr rt us rs)
     (xs ys : List Change) (c : Change) (row : us ++ rs ≡ xs ++ (c ∷ ys)) where
@@ -61,10 +63,7 @@ module _ {R : Repertoire} {F : Format} {rb tb : List ℕ} {ur ut rr rt : ℕ} {u
     stands =
         record {
           space = omega (arith, f, ap length in_texts, length-append (encode_texts xs) (texts_of c ++ texts-behind), length-append (texts_of c) texts-behind);
-          carries =
-              record {
-                numbers = record_is F rb at whole tb t c reads_in;
-                texts = subst (λ (z : List ℕ). take (length (texts_of c)) (drop t z) ≡ texts_of c) (sym in_texts)
-                    (text_at (encode_texts xs) (texts_of c) texts-behind t (length (texts_of c)) (sym f) refl);
-              };
+          read = record_is F rb at whole tb t c reads_in;
+          texts = subst (λ (z : List ℕ). take (length (texts_of c)) (drop t z) ≡ texts_of c) (sym in_texts)
+              (text_at (encode_texts xs) (texts_of c) texts-behind t (length (texts_of c)) (sym f) refl);
         }

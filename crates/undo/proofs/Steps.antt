@@ -5,6 +5,8 @@ use mathlib.Core.Path.{◌≡◌, refl, sym, ap, subst, ◌∙◌}
 use mathlib.Core.Bool.{Bool, true, false}
 use mathlib.Core.List.{List, ◌∷◌}
 use lib.ListN.{length, get_or, drop}
+use Rattle.std.specs.Prelude.{None, Some}
+use Rattle.std.proofs.lemmas.Option.{same_Some}
 use Rattle.repertoire.specs.Repertoire.{catalogue}
 use Rattle.log_model.specs.Change.{Change}
 use Rattle.formats.specs.declared.Format.{Format}
@@ -28,9 +30,9 @@ use Rattle.undo.proofs.Passes.{numbered, stop_leaves, done-leaves}
 
 -- a record r that was read where the change c stands
 module _ {F : Format} {rb tb : List ℕ} {at t : ℕ} {c : Change} (s : Stands F rb tb at t c) where
-  module _ {r : Record} (e : r ≡ record_at F rb at) where
+  module _ {r : Record} (e : Some r ≡ record_at F rb at) where
     pub is_carried : Carries F c r tb t
-    is_carried = record { numbers = e ∙ s.carries.numbers; texts = s.carries.texts }
+    is_carried = record { numbers = same_Some r (numbers_of F c) (e ∙ s.read); texts = s.texts }
 
     pub lengths : r.old + r.new ≡ length (texts_of c)
     lengths = carried_texts F c r tb t is_carried
@@ -48,7 +50,7 @@ to-undo_twice false x = turn-turn x
 
 -- the record x undone or redone, where it stands as it was written: s is where the walk was, q where it is
 module _ (F : Format) (l : Lent) (back : Bool) (x : Change) (f : List Change) {at t : ℕ} (c : Stands F l.records l.texts at t (to_undo back x))
-    {r : Record} (e : r ≡ record_at F l.records at) (s q : Step) (t' : List ℕ)
+    {r : Record} (e : Some r ≡ record_at F l.records at) (s q : Step) (t' : List ℕ)
     (tried : (G : Format) (c : Change) → Carries G c r l.texts t → UndoneOrRedone
     (undoing (length l.text) (to_undo back c) (step_state_by (state_of catalogue F l) s.undone)) s q l.text t') where
   abbrev v : groups.Log
@@ -60,13 +62,13 @@ module _ (F : Format) (l : Lent) (back : Bool) (x : Change) (f : List Change) {a
       (tried F (to_undo back x) (is_carried c e))
 
   is-kind : r.kind ≡ (numbers_of F (to_undo back x)).kind
-  is-kind = ap (λ (a : Record). a.kind) (e ∙ c.carries.numbers)
+  is-kind = ap (λ (a : Record). a.kind) (is_carried c e).numbers
 
-  pub record_stops : line_of s ≡ l.line → (q.number ≡ 0 → ⊥) → (r.kind ≡ (numbers_of F (to_undo back x)).kind)
+  pub record_stops : line_of s ≡ l.line → (q.stop ≡ None → ⊥) → (r.kind ≡ (numbers_of F (to_undo back x)).kind)
       × Leaves F l (undoing (length l.text) x (step_state_by (state_of catalogue F l) s.undone)) (pass_log back x f v) q l.log t'
   record_stops i z = (is-kind, stop_leaves F l (pass_log back x f v) (undoing (length l.text) x (step_state_by (state_of catalogue F l) s.undone)) s q t' i is_tried z)
 
-  pub record_passes : {i j : ℕ} {g : Log} → Seam F l (pass_log back x f v) i j → q.number ≡ 0
+  pub record_passes : {i j : ℕ} {g : Log} → Seam F l (pass_log back x f v) i j → q.stop ≡ None
       → g ≡ state i j (l.log.undo.records + l.log.redo.records - i) (l.log.undo.texts + l.log.redo.texts - j) l.log.level
       → (r.kind ≡ (numbers_of F (to_undo back x)).kind) × Leaves F l (undoing (length l.text) x (step_state_by (state_of catalogue F l) s.undone)) (pass_log back x f v) q g t'
   record_passes {g = g} m z k = (
@@ -102,7 +104,7 @@ module _ {F : Format} {l : Lent} (h : Ready F l) {start : ℕ} (b : LastStart F 
   pub at-start : Stands F l.records l.texts start (length (undo_texts u)) x
   at-start = newest-stands h e start_is refl
 
-  module _ {r : Record} (i : r ≡ record_at F l.records start) where
+  module _ {r : Record} (i : Some r ≡ record_at F l.records start) where
     long : r.old + r.new ≡ length (texts_of x)
     long = lengths at-start i
 
@@ -120,7 +122,7 @@ module _ {F : Format} {l : Lent} (h : Ready F l) {start : ℕ} (b : LastStart F 
 
 -- ---- the next record, which stands at the seam
 module _ {F : Format} {l : Lent} (h : Ready F l) {x : Change} {d : List Change} (e : (state_of catalogue F l).log.redo ≡ x ∷ d) where
-  module _ {r : Record} (i : r ≡ record_at F l.records l.log.undo.records) where
+  module _ {r : Record} (i : Some r ≡ record_at F l.records l.log.undo.records) where
     pub next-space : l.log.undo.texts + (r.old + r.new) ≤ length l.texts
     next-space = space (next-stands h e) i
 

@@ -2,12 +2,15 @@
 use Prim.Native.Nat.{ℕ, suc, ◌+◌, ◌-◌, ◌≤◌, ◌<◌}
 use native.Mathlib.Omega.{arith}
 use mathlib.Core.Path.{◌≡◌, refl, sym, ap, ap₂, ◌∙◌}
-use mathlib.Core.Bool.{Bool, true, false, cond}
+use mathlib.Core.Bool.{Bool, true, false}
 use mathlib.Core.List.{List, [], ◌∷◌}
 use lib.Dec.{eqb}
 use lib.ListN.{length}
-use borrow.Author.Tests.{eqb-true, eq-eqb, ne_eqb}
+use borrow.Author.Tests.{eqb-true, eq-eqb}
 use Rattle.lists.proofs.Bools.{by_test, never}
+use Rattle.std.specs.Prelude.{Option, None, Some}
+use Rattle.std.proofs.lemmas.Option.{none-some}
+use Rattle.checks.specs.declared.Refused.{Refused}
 use Rattle.repertoire.specs.Repertoire.{catalogue}
 use Rattle.log_model.specs.Change.{Change, turn}
 use Rattle.formats.specs.declared.Format.{Format}
@@ -17,10 +20,10 @@ use Rattle.edit.specs.Plan.{State}
 use Rattle.edit.specs.Calls.{Lent, lent, state_of, says, Ready}
 use Rattle.edit.specs.declared.EditAnswer.{EditAnswer}
 use Rattle.undo_step.specs.declared.Step.{Step}
-use Rattle.undo_step.specs.UndoStep.{StepState, done, undoing}
+use Rattle.undo_step.specs.UndoStep.{StepState, done, stop_number, undoing}
 use Rattle.undo.specs.declared.Taken.{Taken}
 use Rattle.undo.specs.Undo.{Waiting, owed, passing, Walked, walk, number_of, undo_walk}
-use Rattle.undo.specs.Steps.{step_state_by, line_of, from_of, to_of, PassesOne}
+use Rattle.undo.specs.Steps.{begins_in, ends_in, step_state_by, line_of, from_of, to_of, PassesOne}
 use Rattle.undo.proofs.Seams.{used_of}
 use Rattle.undo.proofs.Counts.{Waits, settles, unsettled, one_of, counts_back}
 use Rattle.undo.proofs.Walks.{walked, walk_end, walk_stop, walk_on, walk_last, walk-next, Come, come_first, Ends, ended}
@@ -47,7 +50,7 @@ used-few false h = omega (arith, h.log.hold.room, h.log.records, h.log.fit.recor
 pub walking_first : (back : Bool) (n : ℕ) {F : Format} {l₀ : Lent} → Ready F l₀
     → Walking F l₀ back (walk (length l₀.text) n (owed 0) (from_of back (state_of catalogue F l₀).log) (to_of back (state_of catalogue F l₀).log)
     (step_state_by (state_of catalogue F l₀) false))
-    l₀.text (record { number = 0; len = l₀.line.len; cursor = l₀.line.cursor; undone = false }) l₀.log n 0 0
+    l₀.text (record { stop = None; len = l₀.line.len; cursor = l₀.line.cursor; undone = false }) l₀.log n 0 0
 walking_first back n h = record { waiting = owed 0; come = come_first h; waits = refl; few = omega (arith, used-few back h); same = refl }
 
 module _ {F : Format} {l₀ : Lent} {back : Bool} {W : Walked} {t : List ℕ} {s : Step} {g : Log} {n ends begins : ℕ} (k : Walking F l₀ back W t s g n ends begins) where
@@ -55,13 +58,13 @@ module _ {F : Format} {l₀ : Lent} {back : Bool} {W : Walked} {t : List ℕ} {s
   now = state_of catalogue F (lent t l₀.records l₀.texts (line_of s) g)
 
   -- no record is left
-  pub walked_all : from_of back now.log ≡ [] → {r : EditAnswer} → r ≡ says (number_of s.number s.undone) (line_of s) g → Ends F l₀ back W r t
+  pub walked_all : from_of back now.log ≡ [] → {r : EditAnswer} → r ≡ says (number_of (stop_number s.stop) s.undone) (line_of s) g → Ends F l₀ back W r t
   walked_all e q =
       ended back k.come s.undone 0
       (sym k.same ∙ ap (λ (f : List Change). walk (length l₀.text) n k.waiting f (to_of back now.log) (step_state_by now s.undone)) e
       ∙ walk_end (length l₀.text) n k.waiting (to_of back now.log) (step_state_by now s.undone)
       ∙ ap (λ (f : List Change). walked f (to_of back now.log) (step_state_by now s.undone) 0) (sym e))
-      (q ∙ ap (λ (i : ℕ). says (number_of i s.undone) (line_of s) g) k.come.number)
+      (q ∙ ap (λ (i : ℕ). says (number_of i s.undone) (line_of s) g) (ap stop_number k.come.on))
 
   module _ {x : Change} {f : List Change} (e : from_of back now.log ≡ x ∷ f) (p : Taken) (t' : List ℕ)
       (o : PassesOne F (lent t l₀.records l₀.texts (line_of s) g) back s.undone p t') where
@@ -70,14 +73,14 @@ module _ {F : Format} {l₀ : Lent} {back : Bool} {W : Walked} {t : List ℕ} {s
     at_record = sym k.same ∙ ap (λ (a : List Change). walk (length l₀.text) n k.waiting a (to_of back now.log) (step_state_by now s.undone)) e
 
     -- a record stops it
-    pub walked_stop : (p.step.number ≡ 0 → ⊥) → {r : EditAnswer} → r ≡ says (number_of p.step.number p.step.undone) (line_of p.step) p.log → Ends F l₀ back W r t'
+    pub walked_stop : (p.step.stop ≡ None → ⊥) → {r : EditAnswer} → r ≡ says (number_of (stop_number p.step.stop) p.step.undone) (line_of p.step) p.log → Ends F l₀ back W r t'
     walked_stop z q =
         stop_ended back k.come e p t' o z
         (at_record
-        ∙ walk_stop (length l₀.text) n k.waiting (to_of back now.log) (step_state_by now s.undone) x f p.step.number (stopped_there back k.come e p t' o z))
+        ∙ walk_stop (length l₀.text) n k.waiting (to_of back now.log) (step_state_by now s.undone) x f (stop_number p.step.stop) (stopped_there back k.come e p t' o z))
         q
 
-    module _ (i : length t' ≡ length t) (z : p.step.number ≡ 0) where
+    module _ (i : length t' ≡ length t) (z : p.step.stop ≡ None) where
       abbrev next : State
       next = state_of catalogue F (lent t' l₀.records l₀.texts (line_of p.step) p.log)
 
@@ -133,7 +136,7 @@ module _ {F : Format} {l₀ : Lent} {back : Bool} {W : Walked} {t : List ℕ} {s
             }
 
         -- it is done, and was the last
-        pub walked_last : ends' ≤ begins' → n ≡ 0 → {r : EditAnswer} → r ≡ says (number_of p.step.number p.step.undone) (line_of p.step) p.log → Ends F l₀ back W r t'
+        pub walked_last : ends' ≤ begins' → n ≡ 0 → {r : EditAnswer} → r ≡ says (number_of (stop_number p.step.stop) p.step.undone) (line_of p.step) p.log → Ends F l₀ back W r t'
         walked_last u v q =
             ended back come p.step.undone 0
             (at_record ∙ ap (λ (a : ℕ). walk (length l₀.text) a k.waiting (x ∷ f) (to_of back now.log) (step_state_by now s.undone)) v
@@ -141,22 +144,24 @@ module _ {F : Format} {l₀ : Lent} {back : Bool} {W : Walked} {t : List ℕ} {s
             ∙ sym
             (ap₂ (λ (a b : List Change). walked a b (step_state_by next p.step.undone) 0) (from_there back k.come e p t' o i z) (to_there back k.come e p t' o i z)
             ∙ ap (λ (a : StepState). walked f (turn x ∷ to_of back now.log) a 0) (reached_there back k.come e p t' o i z)))
-            (q ∙ ap (λ (a : ℕ). says (number_of a p.step.undone) (line_of p.step) p.log) z)
+            (q ∙ ap (λ (a : ℕ). says (number_of a p.step.undone) (line_of p.step) p.log) (ap stop_number z))
 
 -- ---- one unit that is the newest record alone: it is no End
 module _ {F : Format} {l : Lent} (h : Ready F l) {x : Change} {u : List Change} (e : (state_of catalogue F l).log.undo ≡ x ∷ u) (p : Taken) (t' : List ℕ)
     (o : PassesOne F l true false p t') (i : length t' ≡ length l.text) where
-  pub newest-ended : {n : ℕ} → n ≤ 1 → (p.kind ≡ 2 → ⊥) → {r : EditAnswer}
-      → r ≡ says (number_of p.step.number p.step.undone) (line_of p.step) p.log
+  pub newest-ended : {n : ℕ} → n ≤ 1 → ends_in p.kind ≡ 0 → {r : EditAnswer}
+      → r ≡ says (number_of (stop_number p.step.stop) p.step.undone) (line_of p.step) p.log
       → Ends F l true (undo_walk (length l.text) n (state_of catalogue F l)) r t'
   newest-ended {n} m d q =
       let k = walking_first true (n - 1) h in
-      by_test _ (eqb p.step.number 0)
+      none_or_some p.step.stop
       (λ z.
-      let count : Bool → ℕ = λ b. cond b 1 0 in
-      let no_end : count (eqb p.kind 2) ≡ 0 = ap count (ne_eqb p.kind 2 d) in
-      walked_last k e p t' o i (eqb-true p.step.number 0 z) (0 + cond (eqb p.kind 2) 1 0) (0 + cond (eqb p.kind 1) 1 0)
+      walked_last k e p t' o i z (0 + ends_in p.kind) (0 + begins_in p.kind)
       (counts_back p.kind refl refl F x k.waiting 0 0 k.waits (o x u e).0)
-      (omega (arith, one_of p.kind {i = cond (eqb p.kind 1) 1 0} {j = cond (eqb p.kind 2) 1 0} refl refl))
-      (omega (arith, no_end)) (omega arith) q)
-      (λ z. walked_stop k e p t' o (λ a. never _ _ (eq-eqb p.step.number 0 a) z) q)
+      (omega (arith, one_of p.kind {i = begins_in p.kind} {j = ends_in p.kind} refl refl))
+      (omega (arith, d)) (omega arith) q)
+      (λ z. walked_stop k e p t' o z q)
+    where
+      none_or_some : {T : Type 0} (a : Option Refused) → (a ≡ None → T) → ((a ≡ None → ⊥) → T) → T
+      none_or_some None f g = f refl
+      none_or_some (Some why) f g = g (λ z. none-some why (sym z))

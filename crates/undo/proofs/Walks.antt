@@ -2,13 +2,17 @@
 use Prim.Native.Nat.{ℕ, zero, suc, ◌<◌}
 use native.Mathlib.Omega.{arith}
 use mathlib.Core.Path.{◌≡◌, refl, sym, ap, ap₂, subst, ◌∙◌}
-use mathlib.Core.Bool.{Bool, true, false, not, ◌&&◌}
+use mathlib.Core.Bool.{Bool, true, false, cond, not}
 use mathlib.Core.List.{List, [], ◌∷◌}
 use lib.Dec.{eqb}
 use lib.ListN.{length}
 use borrow.Author.Tests.{eqb-true}
 use Rattle.lists.proofs.Bools.{never, and_both}
 use Rattle.repertoire.specs.Repertoire.{catalogue}
+use Rattle.std.specs.Prelude.{Option, None, Some}
+use Rattle.checks.specs.declared.Refused.{Refused}
+use Rattle.checks.specs.Refused.{number_of as number_of_refused}
+use Rattle.checks.proofs.Refusals.{never-passes}
 use Rattle.checks.specs.Outcome.{Outcome, answered}
 use Rattle.log_model.specs.Change.{Change, turn}
 use Rattle.formats.specs.declared.Format.{Format}
@@ -20,7 +24,7 @@ use Rattle.edit.specs.Calls.{Lent, lent, state_of, says, Edited, Ready}
 use Rattle.edit.specs.declared.EditAnswer.{EditAnswer}
 use Rattle.edit.proofs.Answers.{log-kept, length-kept, state-kept}
 use Rattle.undo_step.specs.declared.Step.{Step}
-use Rattle.undo_step.specs.UndoStep.{StepState, done, stops, undoing}
+use Rattle.undo_step.specs.UndoStep.{StepState, done, stops, undoing, stop_number}
 use Rattle.log_records.specs.Walks.{SizesOf}
 use Rattle.undo.specs.declared.Taken.{Taken}
 use Rattle.undo.specs.Undo.{Waiting, passing, settled, Walked, walk, number_of}
@@ -62,23 +66,14 @@ module _ (C : ℕ) (w : Waiting) (r : List Change) (s : StepState) (x : Change) 
   unfolding walk
   walk-next l = rw (e, f)
 
--- ---- the number of a walk
--- nothing was undone
-pub number_none : (k : ℕ) (b : Bool) → (eqb k 0 && not b) ≡ true → 1 ≡ number_of k b
-number_none zero true e = never _ false e refl
-number_none zero false e = refl
-number_none (suc k) b e = absurd (omega (arith, eqb-true (suc k) 0 (and_both (eqb (suc k) 0) (not b) e).0))
-
--- it is as it came
-pub number-kept : (k : ℕ) (b : Bool) → (eqb k 0 && not b) ≡ false → k ≡ number_of k b
-number-kept zero true e = refl
-number-kept zero false e = never _ true refl e
-number-kept (suc k) b e = refl
-
--- a stop's
-stop_number : (k : ℕ) (a b : Bool) → (k ≡ 0 → ⊥) → number_of k a ≡ number_of k b
-stop_number zero a b z = absurd (z refl)
-stop_number (suc k) a b z = refl
+-- the number of a walk that a record stopped
+stopped_number : (o : Option Refused) (a b : Bool) → (o ≡ None → ⊥) → number_of (stop_number o) a ≡ number_of (stop_number o) b
+stopped_number None a b z = absurd (z refl)
+stopped_number (Some why) a b z = over (number_of_refused why) (never-passes why)
+  where
+    over : (k : ℕ) → (k ≡ 0 → ⊥) → number_of k a ≡ number_of k b
+    over zero y = absurd (y refl)
+    over (suc k) y = refl
 
 -- ---- the two lists of a log, and its level, by the direction of a walk
 from_by : (back : Bool) (f g : List Change) (n : ℕ) → from_of back (log_by back f g n) ≡ f
@@ -100,7 +95,7 @@ lists_of false v = refl
 -- ---- where a walk that was lent l₀ has come to
 pub record Come (F : Format) (l₀ : Lent) (back : Bool) (t : List ℕ) (s : Step) (g : Log) : Type 0 where
   pub ready : Ready F (lent t l₀.records l₀.texts (line_of s) g)
-  pub number : s.number ≡ 0
+  pub on : s.stop ≡ None
   pub text : length t ≡ length l₀.text
   pub level : g.level ≡ l₀.log.level
   pub unmoved : Unmoved (used_of back l₀.log) (used_of back g) l₀.text t
@@ -118,8 +113,8 @@ unmoved-both k i =
     }
 
 pub come_first : {F : Format} {l₀ : Lent} {back : Bool} → Ready F l₀
-    → Come F l₀ back l₀.text (record { number = 0; len = l₀.line.len; cursor = l₀.line.cursor; undone = false }) l₀.log
-come_first h = record { ready = h; number = refl; text = refl; level = refl; unmoved = unmoved-first }
+    → Come F l₀ back l₀.text (record { stop = None; len = l₀.line.len; cursor = l₀.line.cursor; undone = false }) l₀.log
+come_first h = record { ready = h; on = refl; text = refl; level = refl; unmoved = unmoved-first }
 
 -- what a walk has come to is its outcome
 abbrev pub out_of : Bool → Walked → ℕ → Outcome State
@@ -182,25 +177,25 @@ module _ (back : Bool) {F : Format} {l₀ : Lent} {t : List ℕ} {s : Step} {g :
     w = pass_log back x f st.log
 
     -- it was stopped, or it was undone
-    is-stopped : (q.step.number ≡ 0 → ⊥) → Stopped F l s.undone x q.step q.log t'
+    is-stopped : (q.step.stop ≡ None → ⊥) → Stopped F l s.undone x q.step q.log t'
     is-stopped z = stopped F l s.undone x w q.step q.log t' (p x f e).1 z
 
-    module _ (z : q.step.number ≡ 0 → ⊥) where
-      pub stopped_there : undoing (length l₀.text) x (step_state_by st s.undone) ≡ stops q.step.number
+    module _ (z : q.step.stop ≡ None → ⊥) where
+      pub stopped_there : undoing (length l₀.text) x (step_state_by st s.undone) ≡ stops (stop_number q.step.stop)
       stopped_there = ap (λ (n : ℕ). undoing n x (step_state_by st s.undone)) (sym c.text) ∙ (is-stopped z).tried
 
       -- the walk ends before it
-      pub stop_ended : {W : Walked} {r : EditAnswer} → W ≡ walked (x ∷ f) (to_of back st.log) (step_state_by st s.undone) q.step.number
-          → r ≡ says (number_of q.step.number q.step.undone) (line_of q.step) q.log
+      pub stop_ended : {W : Walked} {r : EditAnswer} → W ≡ walked (x ∷ f) (to_of back st.log) (step_state_by st s.undone) (stop_number q.step.stop)
+          → r ≡ says (number_of (stop_number q.step.stop) q.step.undone) (line_of q.step) q.log
           → Ends F l₀ back W r t'
       stop_ended {W} {r} y k =
           let i = is-stopped z in
           subst (Ends F l₀ back W r) (sym i.text)
-          (ended s.undone q.step.number (y ∙ ap (λ (a : List Change). walked a (to_of back st.log) (step_state_by st s.undone) q.step.number) (sym e))
-          (k ∙ ap (λ (a : ℕ). says a (line_of q.step) q.log) (stop_number q.step.number q.step.undone s.undone z)
-          ∙ ap₂ (says (number_of q.step.number s.undone)) i.line i.log))
+          (ended s.undone (stop_number q.step.stop) (y ∙ ap (λ (a : List Change). walked a (to_of back st.log) (step_state_by st s.undone) (stop_number q.step.stop)) (sym e))
+          (k ∙ ap (λ (a : ℕ). says a (line_of q.step) q.log) (stopped_number q.step.stop q.step.undone s.undone z)
+          ∙ ap₂ (says (number_of (stop_number q.step.stop) s.undone)) i.line i.log))
 
-    module _ (i : length t' ≡ length t) (z : q.step.number ≡ 0) where
+    module _ (i : length t' ≡ length t) (z : q.step.stop ≡ None) where
       pub goes : Went F l s.undone x w q.step q.log t'
       goes = went F l s.undone x w q.step q.log t' c.ready (fine c.ready back e) (level_by back f (turn x ∷ to_of back st.log) g.level) i (p x f e).1 z
 
@@ -217,7 +212,7 @@ module _ (back : Bool) {F : Format} {l₀ : Lent} {t : List ℕ} {s : Step} {g :
       come_next =
           record {
             ready = goes.ready;
-            number = z;
+            on = z;
             text = i ∙ c.text;
             level = ap (λ (a : Log). a.level) goes_log ∙ level_by back f (turn x ∷ to_of back st.log) g.level ∙ c.level;
             unmoved = record { fewer = omega (arith, falls, c.unmoved.fewer); same = λ j. absurd (omega (arith, falls, c.unmoved.fewer)) };
@@ -243,7 +238,7 @@ module _ (back : Bool) {F : Format} {l₀ : Lent} {t : List ℕ} {s : Step} {g :
 -- the sizes that are written of the undo list are those of what is left of it
 pub sizes-next : {F : Format} {l₀ : Lent} {t : List ℕ} {s : Step} {g : Log} (c : Come F l₀ true t s g) {x : Change} {f : List Change}
     (e : (state_of catalogue F (lent t l₀.records l₀.texts (line_of s) g)).log.undo ≡ x ∷ f) (q : Taken) (t' : List ℕ)
-    (p : PassesOne F (lent t l₀.records l₀.texts (line_of s) g) true s.undone q t') (i : length t' ≡ length t) (z : q.step.number ≡ 0) (sizes : List ℕ)
+    (p : PassesOne F (lent t l₀.records l₀.texts (line_of s) g) true s.undone q t') (i : length t' ≡ length t) (z : q.step.stop ≡ None) (sizes : List ℕ)
     → SizesOf F sizes (state_of catalogue F (lent t l₀.records l₀.texts (line_of s) g)).log.undo
     → SizesOf F sizes (state_of catalogue F (lent t' l₀.records l₀.texts (line_of q.step) q.log)).log.undo
 sizes-next {F} c e q t' p i z sizes y =

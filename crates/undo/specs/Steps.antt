@@ -6,14 +6,27 @@ use Rattle.log_model.specs.Change.{Change, turn}
 use Rattle.formats.specs.declared.Format.{Format}
 use Rattle.log_model.specs.Groups as groups
 use Rattle.log_model.specs.UndoBytes.{undo_records}
+use Rattle.log_records.specs.declared.Kind.{Kind}
+use Rattle.log_records.specs.declared.Kind.TheVariants.{Begin, End, Edit}
 use Rattle.log_records.specs.Records.{numbers_of}
 use Rattle.log_state.specs.declared.Log.{Log}
 use Rattle.log_state.specs.Calls.{log_of}
 use Rattle.edit.specs.Plan.{State}
 use Rattle.edit.specs.Calls.{Lent, lent, state_of, Stored}
 use Rattle.undo_step.specs.declared.Step.{Step}
-use Rattle.undo_step.specs.UndoStep.{StepState, StepOutcome, done, stops, undoing, to_undo, step_to}
+use Rattle.undo_step.specs.UndoStep.{StepState, StepOutcome, done, stops, undoing, to_undo, stop_number, step_to}
 use Rattle.undo.specs.declared.Taken.{Taken}
+
+-- 1 where a record is a Begin, and where it is an End; else 0
+abbrev pub begins_in : Kind → ℕ
+begins_in Begin = 1
+begins_in End = 0
+begins_in (Edit k) = 0
+
+abbrev pub ends_in : Kind → ℕ
+ends_in Begin = 0
+ends_in End = 1
+ends_in (Edit k) = 0
 
 -- a text and a cursor, and whether a record of a text was undone
 abbrev pub step_state_by : State → Bool → StepState
@@ -55,7 +68,7 @@ pass_log back x f v = log_by back f (turn x ∷ to_of back v) v.level
 -- what a record that was tried leaves, where it leads to the log v: a stop changes nothing
 abbrev pub Leaves : Format → Lent → StepOutcome → groups.Log → Step → Log → List ℕ → Type 0
 Leaves F l (done p) v s g t = (s ≡ step_to p) × (g ≡ log_of F v) × Stored F (state_at p v) t l.records l.texts
-Leaves F l (stops k) v s g t = (s.number ≡ k) × (line_of s ≡ l.line) × (g ≡ l.log) × (t ≡ l.text)
+Leaves F l (stops k) v s g t = (stop_number s.stop ≡ k) × (line_of s ≡ l.line) × (g ≡ l.log) × (t ≡ l.text)
 
 -- the newest record undone, or the next one redone: its kind is that of the record as it is written
 abbrev pub PassesOne : Format → Lent → Bool → Bool → Taken → List ℕ → Type 0

@@ -3,20 +3,21 @@
 // The text is changed as edits change it: a cut closes the gap, an insertion shifts the tail from its place onward.
 #![tactic(auto)]
 
-ghost use Rattle.std.specs.Prelude.{◌≡◌, true, false, cond, ◌≤◌, ◌<◌, eqb, length};
+ghost use Rattle.std.specs.Prelude.{◌≡◌, true, false, ◌≤◌, ◌<◌, None, length, IfSome};
 ghost use Rattle.repertoire.specs.Repertoire.{catalogue};
 ghost use Rattle.formats.specs.Formats.{Fit};
 ghost use Rattle.edit.specs.Calls.{lent, state_of, Edited, Ready, Answers};
 ghost use Rattle.log_records.specs.Records.{record_at};
 ghost use Rattle.log_records.specs.Walks.{SizesOf};
+ghost use Rattle.undo_step.specs.UndoStep.{stop_number};
 ghost use Rattle.undo.specs.Undo.{number_of, undo_out, undo_call};
-ghost use Rattle.undo.specs.Steps.{line_of, lent_by, LastStart, PassesOne};
+ghost use Rattle.undo.specs.Steps.{ends_in, line_of, lent_by, LastStart, PassesOne};
 
 use checks::Line;
-use edit::{EditAnswer, Own, check, says};
+use edit::{Checked, EditAnswer, Own, admit, refused, says};
 use formats::{Format, RECORDS_MAX, format_for};
 use keymap::RepeatCount;
-use log_records::{read_record, write_sizes};
+use log_records::{Kind, read_record, write_sizes};
 use log_state::Log;
 use undo_step::{Step, undo_or_redo};
 
@@ -25,7 +26,7 @@ use undo_step::{Step, undo_or_redo};
 pub struct Taken {
     pub step: Step,
     pub log: Log,
-    pub kind: usize,
+    pub kind: Kind,
 }
 
 // The newest record undone, which begins at start. A stop changes nothing.
@@ -40,16 +41,16 @@ fn undo_at(
 ) -> Taken
     requires fit { Fit f }
     requires ready { Ready f (lent_by text.old records.now texts.now s log) }
-    requires number_value { (s.number ≡ 0) × (0 < log.undo.records) }
+    requires number_value { (s.stop ≡ None) × (0 < log.undo.records) }
     requires last_start { LastStart f (lent_by text.old records.now texts.now s log) start }
     ensures { PassesOne f (lent_by text.old records.now texts.now s log) true s.undone result text.new }
 {
     let u = log.undo;
-    let r = read_record(f, records, start);
+    let r = read_record(f, records, start).unwrap();
     let first = u.texts - (r.old + r.new);
     let step = undo_or_redo(text, texts, s, r, first, true);
     let kind = r.kind;
-    if step.number != 0 {
+    if step.stop.is_some() {
         return Taken { step, log, kind };
     }
     Taken {
@@ -71,67 +72,55 @@ pub fn undo_record(
 ) -> Taken
     requires fit { Fit f }
     requires ready { Ready f (lent_by text.old records.now texts.now s log) }
-    requires number_value { (s.number ≡ 0) × (0 < log.undo.records) × (log.undo.records ≤ length sizes.now) }
+    requires number_value { (s.stop ≡ None) × (0 < log.undo.records) × (log.undo.records ≤ length sizes.now) }
     requires sizes_of { SizesOf f sizes.now (state_of catalogue f (lent_by text.old records.now texts.now s log)).log.undo }
     ensures { PassesOne f (lent_by text.old records.now texts.now s log) true s.undone result text.new }
 {
     let u = log.undo;
     let at = u.records;
-    let start = at - sizes[at - 1] as usize;
+    let start = at - usize::from(sizes[at - 1]);
     undo_at(f, text, records, texts, start, s, log)
 }
 
 // The answer of a walk: the number of a stop, else 0 exactly where a record of a text was undone.
 pub fn answer(s: Step, log: Log) -> EditAnswer
-    ensures { result ≡ record { number = number_of s.number s.undone; from = 0; to = 0; line = line_of s; log = log } }
+    ensures { result ≡ record { number = number_of (stop_number s.stop) s.undone; from = 0; to = 0; line = line_of s; log = log } }
 {
     let line = Line {
         len: s.len,
         cursor: s.cursor,
     };
-    if (s.number == 0) & !s.undone {
-        return says(1, line, log);
+    match s.stop {
+        Some(why) => says(why.into(), line, log),
+        None => says(u32::from(!s.undone), line, log),
     }
-    says(s.number, line, log)
-}
-
-// 1 where a record is of a kind, else 0.
-pub fn one_if(kind: usize, k: usize) -> usize
-    ensures { (result ≡ cond (eqb kind k) 1 0) × (result ≤ 1) }
-{
-    if kind == k {
-        return 1;
-    }
-    0
 }
 
 // undo_units with the sizes of the undo list's records written down. A unit is done where the Ends passed are no more than the Begins.
 fn undo_by_sizes(
-    f: Format,
+    checked: Checked,
     text: &mut [u8],
     records: &[u8],
     texts: &[u8],
     sizes: &[u8],
-    line: Line,
-    log: Log,
     n: usize,
 ) -> EditAnswer
-    requires fit { Fit f }
-    requires ready { Ready f (lent text.old records.now texts.now line log) }
-    requires records_in_bounds { log.undo.records ≤ length sizes.now }
-    requires sizes_of { SizesOf f sizes.now (state_of catalogue f (lent text.old records.now texts.now line log)).log.undo }
-    ensures outcome { Edited f (lent text.old records.now texts.now line log)
-        (undo_out (length text.old) n (state_of catalogue f (lent text.old records.now texts.now line log)))
+    requires fit { Fit checked.format }
+    requires ready { Ready checked.format (lent text.old records.now texts.now checked.line checked.log) }
+    requires records_in_bounds { checked.log.undo.records ≤ length sizes.now }
+    requires sizes_of { SizesOf checked.format sizes.now (state_of catalogue checked.format (lent text.old records.now texts.now checked.line checked.log)).log.undo }
+    ensures outcome { Edited checked.format (lent text.old records.now texts.now checked.line checked.log)
+        (undo_out (length text.old) n (state_of catalogue checked.format (lent text.old records.now texts.now checked.line checked.log)))
         result text.new records.now texts.now }
-    ensures still { result.log ≡ log → text.new ≡ text.old }
+    ensures still { result.log ≡ checked.log → text.new ≡ text.old }
 {
     let mut s = Step {
-        number: 0,
-        len: line.len,
-        cursor: line.cursor,
+        stop: None,
+        len: checked.line.len,
+        cursor: checked.line.cursor,
         undone: false,
     };
-    let mut g = log;
+    let mut g = checked.log;
     let mut left = n;
     let mut ends: usize = 0;
     let mut begins: usize = 0;
@@ -140,14 +129,14 @@ fn undo_by_sizes(
         if u.records == 0 {
             return answer(s, g);
         }
-        let p = undo_record(f, text, records, texts, sizes, s, g);
+        let p = undo_record(checked.format, text, records, texts, sizes, s, g);
         s = p.step;
         g = p.log;
-        if s.number != 0 {
+        if s.stop.is_some() {
             return answer(s, g);
         }
-        begins += one_if(p.kind, 1);
-        ends += one_if(p.kind, 2);
+        begins += usize::from(matches!(p.kind, Kind::Begin));
+        ends += usize::from(matches!(p.kind, Kind::End));
         if begins < ends {
             continue;
         }
@@ -160,32 +149,37 @@ fn undo_by_sizes(
 
 // One unit that is the newest record alone: it begins at last, and is no End.
 fn undo_newest(
-    f: Format,
+    checked: Checked,
     text: &mut [u8],
     records: &[u8],
     texts: &[u8],
-    line: Line,
-    log: Log,
-    last: usize,
     n: usize,
 ) -> EditAnswer
-    requires fit { Fit f }
-    requires ready { Ready f (lent text.old records.now texts.now line log) }
-    requires n_bound { (n ≤ 1) × (0 < log.undo.records) }
-    requires last_start { LastStart f (lent text.old records.now texts.now line log) last }
-    requires not_end { (record_at f records.now last).kind ≡ 2 → ⊥ }
-    ensures outcome { Edited f (lent text.old records.now texts.now line log)
-        (undo_out (length text.old) n (state_of catalogue f (lent text.old records.now texts.now line log)))
+    requires fit { Fit checked.format }
+    requires ready { Ready checked.format (lent text.old records.now texts.now checked.line checked.log) }
+    requires n_bound { (n ≤ 1) × (0 < checked.log.undo.records) }
+    requires last_start { LastStart checked.format (lent text.old records.now texts.now checked.line checked.log) checked.last }
+    requires not_end { IfSome (record_at checked.format records.now checked.last) (λ r. ends_in r.kind ≡ 0) }
+    ensures outcome { Edited checked.format (lent text.old records.now texts.now checked.line checked.log)
+        (undo_out (length text.old) n (state_of catalogue checked.format (lent text.old records.now texts.now checked.line checked.log)))
         result text.new records.now texts.now }
-    ensures still { result.log ≡ log → text.new ≡ text.old }
+    ensures still { result.log ≡ checked.log → text.new ≡ text.old }
 {
     let s = Step {
-        number: 0,
-        len: line.len,
-        cursor: line.cursor,
+        stop: None,
+        len: checked.line.len,
+        cursor: checked.line.cursor,
         undone: false,
     };
-    let p = undo_at(f, text, records, texts, last, s, log);
+    let p = undo_at(
+        checked.format,
+        text,
+        records,
+        texts,
+        checked.last,
+        s,
+        checked.log,
+    );
     answer(p.step, p.log)
 }
 
@@ -193,39 +187,36 @@ fn undo_newest(
 // was passed waits for its Begin. The newest record, which begins at last, is all of a single unit where it is no End; else the sizes
 // of the records are written down, in an array that is cleared at each call, so that a short list has a short one.
 pub fn undo_units(
-    f: Format,
+    checked: Checked,
     text: &mut [u8],
     records: &[u8],
     texts: &[u8],
-    line: Line,
-    log: Log,
-    last: usize,
     n: usize,
 ) -> EditAnswer
-    requires fit { Fit f }
-    requires ready { Ready f (lent text.old records.now texts.now line log) }
-    requires last_start { LastStart f (lent text.old records.now texts.now line log) last }
-    ensures outcome { Edited f (lent text.old records.now texts.now line log)
-        (undo_out (length text.old) n (state_of catalogue f (lent text.old records.now texts.now line log)))
+    requires fit { Fit checked.format }
+    requires ready { Ready checked.format (lent text.old records.now texts.now checked.line checked.log) }
+    requires last_start { LastStart checked.format (lent text.old records.now texts.now checked.line checked.log) checked.last }
+    ensures outcome { Edited checked.format (lent text.old records.now texts.now checked.line checked.log)
+        (undo_out (length text.old) n (state_of catalogue checked.format (lent text.old records.now texts.now checked.line checked.log)))
         result text.new records.now texts.now }
-    ensures still { result.log ≡ log → text.new ≡ text.old }
+    ensures still { result.log ≡ checked.log → text.new ≡ text.old }
 {
-    let u = log.undo;
+    let u = checked.log.undo;
     let ur = u.records;
     if (n <= 1) & (0 < ur) {
-        let r = read_record(f, records, last);
-        if r.kind != 2 {
-            return undo_newest(f, text, records, texts, line, log, last, n);
+        let r = read_record(checked.format, records, checked.last).unwrap();
+        if !matches!(r.kind, Kind::End) {
+            return undo_newest(checked, text, records, texts, n);
         }
     }
     if ur <= 1024 {
         let mut few = [0u8; 1024];
-        write_sizes(f, &records[..ur], &mut few);
-        return undo_by_sizes(f, text, records, texts, &few, line, log, n);
+        write_sizes(checked.format, &records[..ur], &mut few);
+        return undo_by_sizes(checked, text, records, texts, &few, n);
     }
     let mut sizes = [0u8; RECORDS_MAX];
-    write_sizes(f, &records[..ur], &mut sizes);
-    undo_by_sizes(f, text, records, texts, &sizes, line, log, n)
+    write_sizes(checked.format, &records[..ur], &mut sizes);
+    undo_by_sizes(checked, text, records, texts, &sizes, n)
 }
 
 // Where the log is as it was, no record was handled, and not a byte of the text's buffer is changed (still).
@@ -243,10 +234,9 @@ pub fn undo(
     ensures still { result.log ≡ log → text.new ≡ text.old }
 {
     let f = format_for(text.len());
-    let c = check(f, text, records, texts, line, log, Own::none());
-    if c.number != 0 {
-        return says(c.number, line, log);
-    }
-    let newest = c.newest;
-    undo_units(f, text, records, texts, line, log, newest.last, n as usize)
+    let checked = match admit(f, text, records, texts, line, log, Own::NONE) {
+        Ok(checked) => checked,
+        Err(why) => return refused(why, line, log),
+    };
+    undo_units(checked, text, records, texts, usize::from(n))
 }

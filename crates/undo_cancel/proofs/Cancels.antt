@@ -7,6 +7,8 @@ use mathlib.Core.List.{List, [], ◌∷◌, map, reverse}
 use lib.Dec.{eqb}
 use lib.ListN.{length}
 use borrow.Author.Tests.{eqb-true, eq-eqb, ne_eqb}
+use Rattle.std.specs.Prelude.{Some, None}
+use Rattle.std.proofs.lemmas.Option.{none-some, same_Some}
 use Rattle.lists.proofs.Bools.{by_test, never}
 use Rattle.repertoire.specs.Repertoire.{catalogue}
 use Rattle.checks.specs.Outcome.{Outcome, answered}
@@ -21,10 +23,11 @@ use Rattle.edit.specs.Calls.{Lent, lent, state_of, says, Edited, Ready}
 use Rattle.edit.specs.declared.EditAnswer.{EditAnswer}
 use Rattle.edit.proofs.Answers.{length-kept, state-kept}
 use Rattle.undo_step.specs.declared.Step.{Step}
-use Rattle.undo_step.specs.UndoStep.{StepState, done, stops, undoing}
+use Rattle.undo_step.specs.UndoStep.{StepState, done, stops, stop_number, undoing}
 use Rattle.undo.specs.declared.Taken.{Taken}
 use Rattle.undo.specs.Undo.{Walked, number_of, step_state_of}
 use Rattle.undo.specs.Steps.{step_state_by, line_of, PassesOne}
+use Rattle.undo.proofs.Passes.{unnumbered}
 use Rattle.undo.proofs.Seams.{holds}
 use Rattle.undo.proofs.Walks.{walked, Come, come_first, out_of, edited, still, ended, stopped_there, stop_ended, goes, come_next}
 use Rattle.undo.proofs.Walks.{from_there, to_there, reached_there, tried_there}
@@ -56,19 +59,20 @@ opens-within m (begin ∷ u) e = go (opens-within m u) (eqb (length u) m) refl e
 opens-within m (end ∷ u) e = never _ false e refl
 opens-within m (edit x ∷ u) e = omega (arith, opens-within m u e)
 
-module _ {n : ℕ} (m : ℕ) (u : List Change) (e : n ≡ open_begins m u) where
-  -- found by the number of its Begins
-  pub not_open : n ≡ 0 → opens m u ≡ false
+module _ (m : ℕ) (u : List Change) where
+  -- found with the number of its Begins
+  pub not_open : None ≡ open_begins m u → opens m u ≡ false
   unfolding open_begins
-  not_open z = by_test (opens m u ≡ false) (opens m u) (λ f. absurd (omega (arith, begins_some m u f, rw f at e))) (λ f. f)
+  not_open e = by_test (opens m u ≡ false) (opens m u) (λ f. absurd (none-some (begins_down m u) (rw f at e))) (λ f. f)
 
-  pub is_open : (n ≡ 0 → ⊥) → opens m u ≡ true
-  unfolding open_begins
-  is_open z = by_test (opens m u ≡ true) (opens m u) (λ f. f) (λ f. absurd (z (rw f at e)))
+  module _ {n : ℕ} (e : Some n ≡ open_begins m u) where
+    pub is_open : opens m u ≡ true
+    unfolding open_begins
+    is_open = by_test (opens m u ≡ true) (opens m u) (λ f. f) (λ f. absurd (none-some n (sym (rw f at e))))
 
-  pub its_begins : (n ≡ 0 → ⊥) → n ≡ begins_down m u
-  unfolding open_begins
-  its_begins z = e ∙ rw (is_open z)
+    pub its_begins : n ≡ begins_down m u
+    unfolding open_begins
+    its_begins = same_Some n (begins_down m u) (e ∙ rw is_open)
 
 -- ---- the outcome of a cancel
 module _ (C m : ℕ) (s : State) where
@@ -129,13 +133,9 @@ module _ {F : Format} {l₀ : Lent} (h : Ready F l₀) (m : ℕ) (o : opens m (s
   abbrev st : State
   st = state_of catalogue F l₀
 
-  -- the mark is one of the list's
-  pub mark-within : {n : ℕ} → n ≡ length st.log.undo → m ≤ n
-  mark-within e = omega (arith, opens-within m st.log.undo o)
-
   -- at its beginning
   pub cancelling_first : {n : ℕ} → n ≡ length st.log.undo → Cancelling F l₀ m l₀.text
-      (record { number = 0; len = l₀.line.len; cursor = l₀.line.cursor; undone = false }) l₀.log (n - m)
+      (record { stop = None; len = l₀.line.len; cursor = l₀.line.cursor; undone = false }) l₀.log (n - m)
   cancelling_first {n} e =
       record { come = come_first h; count = omega (arith, opens-within m st.log.undo o); same = go (n - m) (omega (arith, opens-within m st.log.undo o)) }
     where
@@ -166,19 +166,19 @@ module _ {F : Format} {l₀ : Lent} {m : ℕ} {t : List ℕ} {s : Step} {g : Log
     at_record = sym k.same ∙ ap (λ (a : List Change). down_to (length l₀.text) m n a now.log.redo (step_state_by now s.undone)) e
 
     -- a record stops it
-    pub cancel_stop : (p.step.number ≡ 0 → ⊥) → {r : EditAnswer} → r ≡ says (number_of p.step.number p.step.undone) (line_of p.step) p.log
+    pub cancel_stop : (p.step.stop ≡ None → ⊥) → {r : EditAnswer} → r ≡ says (number_of (stop_number p.step.stop) p.step.undone) (line_of p.step) p.log
         → Edited F l₀ (cancel_out (length l₀.text) m start) r t' l₀.records l₀.texts × (r.log ≡ l₀.log → t' ≡ l₀.text)
     cancel_stop z {r} y =
-        let a = at_record ∙ to_stop (length l₀.text) m n x f now.log.redo (step_state_by now s.undone) p.step.number h (stopped_there true k.come e p t' q z) in
+        let a = at_record ∙ to_stop (length l₀.text) m n x f now.log.redo (step_state_by now s.undone) (stop_number p.step.stop) h (stopped_there true k.come e p t' q z) in
         let w = stop_ended true k.come e p t' q z a y in (
           subst (λ (c : Outcome State). Edited F l₀ c r t' l₀.records l₀.texts)
-              (sym (cancel-stopped (length l₀.text) m start o (λ b. z (sym (ap (λ (w : Walked). w.stopped) a) ∙ b))))
+              (sym (cancel-stopped (length l₀.text) m start o (λ b. z (unnumbered p.step.stop (sym (ap (λ (w : Walked). w.stopped) a) ∙ b)))))
               (edited w),
           still w,
         )
 
     -- one less is left
-    pub cancelling_next : (i : length t' ≡ length t) (z : p.step.number ≡ 0) → Cancelling F l₀ m t' p.step p.log (n - 1)
+    pub cancelling_next : (i : length t' ≡ length t) (z : p.step.stop ≡ None) → Cancelling F l₀ m t' p.step p.log (n - 1)
     cancelling_next i z =
         let j : n ≡ suc (n - 1) = omega arith in
         let b : length f ≡ m + (n - 1) = omega (arith, k.count, ap length e) in

@@ -2,15 +2,15 @@
 use Prim.Native.Nat.{ℕ, suc, ◌+◌, ◌-◌, ◌≤◌, ◌<◌}
 use native.Mathlib.Omega.{arith}
 use mathlib.Core.Path.{◌≡◌, refl, sym, ap, subst, ◌∙◌}
-use mathlib.Core.Bool.{Bool, true, false, cond, ◌&&◌}
+use mathlib.Core.Bool.{true, false, cond}
 use mathlib.Core.List.{List, [], ◌∷◌, ◌++◌, reverse, reverse-cons, reverse-reverse, append_assoc, append-nil}
 use lib.Dec.{eqb}
 use lib.ListN.{length, get_or, length-reverse}
-use native.Mathlib.Nat.{add-zero}
-use borrow.Author.Tests.{eqb-true, eqb-false}
-use Rattle.lists.proofs.Bools.{and_both, by_test}
+use borrow.Author.Tests.{eq-eqb, ne_eqb}
+use Rattle.std.specs.Prelude.{Option, Some, None}
+use Rattle.std.proofs.lemmas.Option.{same_Some}
 use Rattle.repertoire.specs.Repertoire.{Repertoire}
-use Rattle.log_model.specs.Change.{Change, begin, end, edit, insert, delete, replace}
+use Rattle.log_model.specs.Change.{Change, begin, end, edit}
 use Rattle.formats.specs.declared.Format.{Format}
 use Rattle.log_model.specs.Layout.{record_of, encode_texts, Layout}
 use Rattle.log_model.specs.UndoBytes.{undo_records}
@@ -18,6 +18,8 @@ use Rattle.log_model.proofs.Decode.{record_pos}
 use Rattle.log_model.proofs.Newest.{undo-reverse, undo_nil}
 use Rattle.log_model.proofs.UndoBytes.{records-size}
 use Rattle.log_model.proofs.Walk.{reads_at, whole-at}
+use Rattle.log_records.specs.declared.EditKind.{EditKind}
+use Rattle.log_records.specs.declared.Kind.TheVariants.{Begin, End, Edit}
 use Rattle.log_records.specs.declared.Record.{Record}
 use Rattle.log_records.specs.Records.{numbers_of, record_at}
 use Rattle.log_records.specs.Walks.{SizesOf, SizesWritten}
@@ -26,36 +28,32 @@ use Rattle.undo_cancel.specs.Cancel.{opens, begins_down}
 use Rattle.undo_cancel.specs.Open.{open_begins}
 
 -- ---- with b Begins passed already
-abbrev pub open_down : ℕ → ℕ → List Change → ℕ
-open_down b m u = cond (opens m u) (b + begins_down m u) 0
+abbrev pub open_down : ℕ → ℕ → List Change → Option ℕ
+open_down b m u = cond (opens m u) (Some (b + begins_down m u)) None
 
--- ---- a record by its kind k
+-- ---- a record by its kind
 -- an edit is passed
-kind-edit : (F : Format) (k : ℕ) (c : Change) → k ≡ (numbers_of F c).kind → (k ≡ 1 → ⊥) → (k ≡ 2 → ⊥) → (m : ℕ) (u : List Change) (b : ℕ) → open_down b m (c ∷ u) ≡ open_down b m u
+kind-edit : (F : Format) (c : Change) (k : EditKind) → (numbers_of F c).kind ≡ Edit k → (m : ℕ) (u : List Change) (b : ℕ) → open_down b m (c ∷ u) ≡ open_down b m u
 unfolding opens begins_down
-kind-edit F k begin e f g m u b = absurd (f e)
-kind-edit F k end e f g m u b = absurd (g e)
-kind-edit F k (edit x) e f g m u b = refl
+kind-edit F begin k e m u b = cc
+kind-edit F end k e m u b = cc
+kind-edit F (edit x) k e m u b = refl
 
 -- an End closes what is before it
-kind-end : (F : Format) (k : ℕ) (c : Change) → k ≡ (numbers_of F c).kind → k ≡ 2 → (m : ℕ) (u : List Change) (b : ℕ) → open_down b m (c ∷ u) ≡ 0
+kind-end : (F : Format) (c : Change) → (numbers_of F c).kind ≡ End → (m : ℕ) (u : List Change) (b : ℕ) → open_down b m (c ∷ u) ≡ None
 unfolding opens
-kind-end F k begin e f m u b = absurd (omega arith)
-kind-end F k end e f m u b = refl
-kind-end F k (edit (insert p s)) e f m u b = absurd (omega arith)
-kind-end F k (edit (delete p s)) e f m u b = absurd (omega arith)
-kind-end F k (edit (replace p o n)) e f m u b = absurd (omega arith)
+kind-end F begin e m u b = cc
+kind-end F end e m u b = refl
+kind-end F (edit x) e m u b = cc
 
 -- a Begin
-kind-begin : (F : Format) (k : ℕ) (c : Change) → k ≡ (numbers_of F c).kind → k ≡ 1 → c ≡ begin
-kind-begin F k begin e f = refl
-kind-begin F k end e f = absurd (omega arith)
-kind-begin F k (edit (insert p s)) e f = absurd (omega arith)
-kind-begin F k (edit (delete p s)) e f = absurd (omega arith)
-kind-begin F k (edit (replace p o n)) e f = absurd (omega arith)
+kind-begin : (F : Format) (c : Change) → (numbers_of F c).kind ≡ Begin → c ≡ begin
+kind-begin F begin e = refl
+kind-begin F end e = cc
+kind-begin F (edit x) e = cc
 
 -- the one of the mark is the last that is counted
-begin-mark : (b m : ℕ) (u : List Change) → eqb (length u) m ≡ true → open_down b m (begin ∷ u) ≡ b + 1
+begin-mark : (b m : ℕ) (u : List Change) → eqb (length u) m ≡ true → open_down b m (begin ∷ u) ≡ Some (b + 1)
 unfolding opens begins_down
 begin-mark b m u e = rw e
 
@@ -65,7 +63,7 @@ unfolding opens begins_down
 begin_on b m u e = let a : b + suc (begins_down m u) ≡ b + 1 + begins_down m u = omega arith in rw (e, a)
 
 -- no record, and all of them
-pub down_none : (b m : ℕ) → open_down b m [] ≡ 0
+pub down_none : (b m : ℕ) → open_down b m [] ≡ None
 unfolding opens
 down_none b m = refl
 
@@ -94,7 +92,7 @@ pub record Last (F : Format) (rs : List ℕ) (n at left : ℕ) (rest : List Chan
   pub fewer : left - 1 ≡ length before
   pub whole : at ≤ length rs
   pub more : 0 < left
-  pub numbers : record_at F rs (at - n) ≡ numbers_of F change
+  pub numbers : record_at F rs (at - n) ≡ Some (numbers_of F change)
   pub place : at - n ≡ length (undo_records F before)
 
 module _ (R : Repertoire) (F : Format) (rs sizes : List ℕ) (m : ℕ) where
@@ -118,12 +116,20 @@ module _ (R : Repertoire) (F : Format) (rs sizes : List ℕ) (m : ℕ) where
 module _ {R : Repertoire} {F : Format} {rs sizes : List ℕ} {m at left begins : ℕ} {ts : List ℕ} {us : List Change} (l : Layout R F rs ts us)
     (d : Downto F sizes m at left begins us) where
   -- no record is left
-  pub down_ended : at ≤ 0 → 0 ≡ open_begins m (reverse us)
+  pub down_ended : left ≤ 0 → None ≡ open_begins m (reverse us)
   down_ended h = sym (d.same ∙ go d.rest refl)
     where
-      go : (u : List Change) → d.rest ≡ u → open_down begins m d.rest ≡ 0
+      go : (u : List Change) → d.rest ≡ u → open_down begins m d.rest ≡ None
       go [] e = ap (open_down begins m) e ∙ down_none begins m
-      go (c ∷ u) e = absurd (omega (arith, d.place, ap (λ (a : List Change). length (undo_records F a)) e, records-size F c u, record_pos F c))
+      go (c ∷ u) e = absurd (omega (arith, d.count, ap length e))
+
+  -- where a record is left there are bytes
+  pub some_left : 0 < left → 0 < at
+  some_left h = go d.rest refl
+    where
+      go : (u : List Change) → d.rest ≡ u → 0 < at
+      go [] e = absurd (omega (arith, d.count, ap length e))
+      go (c ∷ u) e = omega (arith, d.place, ap (λ (a : List Change). length (undo_records F a)) e, records-size F c u, record_pos F c)
 
   -- the change c of the list stands before those that were passed
   row_at : (c : Change) (u : List Change) → d.rest ≡ c ∷ u → us ≡ reverse u ++ (c ∷ d.passed)
@@ -132,7 +138,7 @@ module _ {R : Repertoire} {F : Format} {rs sizes : List ℕ} {m at left begins :
 
   -- its numbers are read there, and its bytes lie in the list
   module _ (c : Change) (u : List Change) (e : d.rest ≡ c ∷ u) (i : ℕ) (p : i ≡ length (undo_records F u)) where
-    numbers-at : record_at F rs i ≡ numbers_of F c
+    numbers-at : record_at F rs i ≡ Some (numbers_of F c)
     unfolding undo_records
     numbers-at = record_behind R F rs ts (reverse u) d.passed c i (subst (Layout R F rs ts) (row_at c u e) l) p
 
@@ -168,49 +174,42 @@ module _ {R : Repertoire} {F : Format} {rs sizes : List ℕ} {m at left begins :
           }
 
   -- it is read as r
-  module _ (h : 0 < at) {r : Record} (q : r ≡ record_at F rs (at - get_or sizes (at - 1) 0)) where
-    abbrev k : ℕ
-    k = r.kind
-
+  module _ (h : 0 < at) {r : Record} (q : Some r ≡ record_at F rs (at - get_or sizes (at - 1) 0)) where
     abbrev x : Last F rs (get_or sizes (at - 1) 0) at left d.rest
     x = last h
 
-    kind-is : k ≡ (numbers_of F x.change).kind
-    kind-is = ap (λ (a : Record). a.kind) (q ∙ x.numbers)
+    kind-is : (numbers_of F x.change).kind ≡ r.kind
+    kind-is = ap (λ (a : Record). a.kind) (same_Some (numbers_of F x.change) r (sym x.numbers ∙ sym q))
 
     -- an End comes before the mark
-    pub down_end : k ≡ 2 → 0 ≡ open_begins m (reverse us)
-    down_end z = sym (d.same ∙ ap (open_down begins m) x.is ∙ kind-end F k x.change kind-is z m x.before begins)
+    pub down_end : r.kind ≡ End → None ≡ open_begins m (reverse us)
+    down_end z = sym (d.same ∙ ap (open_down begins m) x.is ∙ kind-end F x.change (kind-is ∙ z) m x.before begins)
 
-    module _ {i : ℕ} (f : i ≡ cond (eqb k 1) 1 0) where
+    passed_by : (b : ℕ) → open_down begins m (x.change ∷ x.before) ≡ open_down b m x.before → Downto F sizes m (at - get_or sizes (at - 1) 0) (left - 1) b us
+    passed_by b e =
+        record {
+          rest = x.before;
+          passed = x.change ∷ d.passed;
+          row = row_at x.change x.before x.is;
+          place = x.place;
+          count = x.fewer;
+          written = (subst (SizesOf F sizes) x.is d.written).1;
+          same = d.same ∙ ap (open_down begins m) x.is ∙ e;
+        }
+
+    -- an edit
+    pub down_edit : (k : EditKind) → r.kind ≡ Edit k → Downto F sizes m (at - get_or sizes (at - 1) 0) (left - 1) begins us
+    down_edit k z = passed_by begins (kind-edit F x.change k (kind-is ∙ z) m x.before begins)
+
+    module _ (z : r.kind ≡ Begin) where
+      is-begin : open_down begins m (x.change ∷ x.before) ≡ open_down begins m (begin ∷ x.before)
+      is-begin = ap (λ (a : Change). open_down begins m (a ∷ x.before)) (kind-begin F x.change (kind-is ∙ z))
+
       -- the Begin of the mark
-      pub down_found : (eqb k 1 && eqb (left - 1) m) ≡ true → begins + i ≡ open_begins m (reverse us)
-      down_found z =
-          let b = and_both (eqb k 1) (eqb (left - 1) m) z in
-          sym
-          (d.same ∙ ap (open_down begins m) (x.is ∙ ap (λ (a : Change). a ∷ x.before) (kind-begin F k x.change kind-is (eqb-true k 1 b.0)))
-          ∙ begin-mark begins m x.before (ap (λ (a : ℕ). eqb a m) (sym x.fewer) ∙ b.1) ∙ ap (λ (a : ℕ). begins + a) (sym (f ∙ ap (λ (a : Bool). cond a 1 0) b.0)))
+      pub down_found : left - 1 ≡ m → Some (begins + 1) ≡ open_begins m (reverse us)
+      down_found e =
+          sym (d.same ∙ ap (open_down begins m) x.is ∙ is-begin ∙ begin-mark begins m x.before (eq-eqb (length x.before) m (sym x.fewer ∙ e)))
 
-      -- neither
-      pub down_on : (k ≡ 2 → ⊥) → (eqb k 1 && eqb (left - 1) m) ≡ false → Downto F sizes m (at - get_or sizes (at - 1) 0) (left - 1) (begins + i) us
-      down_on z w =
-          record {
-            rest = x.before;
-            passed = x.change ∷ d.passed;
-            row = row_at x.change x.before x.is;
-            place = x.place;
-            count = x.fewer;
-            written = (subst (SizesOf F sizes) x.is d.written).1;
-            same = d.same ∙ ap (open_down begins m) x.is ∙ by_test (open_down begins m (x.change ∷ x.before) ≡ open_down (begins + i) m x.before) (eqb k 1) one other;
-          }
-        where
-          one : eqb k 1 ≡ true → open_down begins m (x.change ∷ x.before) ≡ open_down (begins + i) m x.before
-          one b =
-              ap (λ (a : Change). open_down begins m (a ∷ x.before)) (kind-begin F k x.change kind-is (eqb-true k 1 b))
-              ∙ begin_on begins m x.before (ap (λ (a : ℕ). eqb a m) (sym x.fewer) ∙ (rw b at w))
-              ∙ ap (λ (a : ℕ). open_down (begins + a) m x.before) (sym (f ∙ ap (λ (a : Bool). cond a 1 0) b))
-
-          other : eqb k 1 ≡ false → open_down begins m (x.change ∷ x.before) ≡ open_down (begins + i) m x.before
-          other b =
-              kind-edit F k x.change kind-is (eqb-false k 1 b) z m x.before begins
-              ∙ ap (λ (a : ℕ). open_down a m x.before) (sym (ap (λ (a : ℕ). begins + a) (f ∙ ap (λ (a : Bool). cond a 1 0) b) ∙ add-zero begins))
+      -- another
+      pub down_begin : (left - 1 ≡ m → ⊥) → Downto F sizes m (at - get_or sizes (at - 1) 0) (left - 1) (begins + 1) us
+      down_begin e = passed_by (begins + 1) (is-begin ∙ begin_on begins m x.before (ne_eqb (length x.before) m (λ g. e (x.fewer ∙ g))))

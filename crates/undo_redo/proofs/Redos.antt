@@ -2,12 +2,12 @@
 use Prim.Native.Nat.{ℕ, zero, suc, ◌-◌, ◌≤◌, ◌<◌}
 use native.Mathlib.Omega.{arith}
 use mathlib.Core.Path.{◌≡◌, refl, sym, ap, ap₂, subst, ◌∙◌}
-use mathlib.Core.Bool.{Bool, true, false, cond, ◌&&◌, ◌||◌}
+use mathlib.Core.Bool.{Bool, true, false, cond, ◌&&◌}
 use mathlib.Core.List.{List, [], ◌∷◌}
 use lib.Dec.{eqb}
 use lib.ListN.{length}
-use borrow.Author.Tests.{eqb-true, eqb-false, eq-eqb, ne_eqb}
-use Rattle.lists.proofs.Bools.{by_test, and_both, or_none}
+use borrow.Author.Tests.{eqb-true, eq-eqb, ne_eqb}
+use Rattle.lists.proofs.Bools.{by_test, and_both}
 use Rattle.repertoire.specs.Repertoire.{catalogue}
 use Rattle.checks.specs.declared.Line.{Line}
 use Rattle.checks.specs.Outcome.{Outcome, refused, answered}
@@ -168,28 +168,23 @@ module _ {F : Format} {l₀ : Lent} {n : ℕ} {t : List ℕ} {a : Line} {g : Log
   abbrev l : Lent
   l = lent t l₀.records l₀.texts a g
 
-  -- none is left
-  pub redo-ended : (eqb left 0 || eqb g.redo.records 0) ≡ true → {r : EditAnswer} → r ≡ says number a g
+  abbrev now : State
+  now = state_of catalogue F l
+
+  -- no unit is left; no record is left to redo
+  pub units_done : left ≡ 0 → redo_out (length l₀.text) left now ≡ answered 1 0 0 now
+  units_done e = ap (λ (i : ℕ). redo_out (length l₀.text) i now) e ∙ redo-zero (length l₀.text) now
+
+  pub records_done : g.redo.records ≡ 0 → redo_out (length l₀.text) left now ≡ answered 1 0 0 now
+  records_done e = redo_none (length l₀.text) left now (none_next k.ready e)
+
+  pub redo-ended : redo_out (length l₀.text) left now ≡ answered 1 0 0 now → {r : EditAnswer} → r ≡ says number a g
       → Edited F l₀ (redo_out (length l₀.text) n (state_of catalogue F l₀)) r t l₀.records l₀.texts
-  redo-ended z {r} q =
+  redo-ended last {r} q =
       subst (λ (o : Outcome State). Edited F l₀ o r t l₀.records l₀.texts)
-      (sym (k.same ∙ ap (behind_number number) last ∙ behind_last number (state_of catalogue F l) k.low))
-      (subst (λ (b : EditAnswer). Edited F l₀ (answered number 0 0 (state_of catalogue F l)) b t l₀.records l₀.texts) (sym q)
+      (sym (k.same ∙ ap (behind_number number) last ∙ behind_last number now k.low))
+      (subst (λ (b : EditAnswer). Edited F l₀ (answered number 0 0 now) b t l₀.records l₀.texts) (sym q)
       (answers_as F l₀ t (says number a g) refl k.ready))
-    where
-      last : redo_out (length l₀.text) left (state_of catalogue F l) ≡ answered 1 0 0 (state_of catalogue F l)
-      last =
-          by_test _ (eqb left 0)
-          (λ e. ap (λ (i : ℕ). redo_out (length l₀.text) i (state_of catalogue F l)) (eqb-true left 0 e) ∙ redo-zero (length l₀.text) (state_of catalogue F l))
-          (λ e. redo_none (length l₀.text) left (state_of catalogue F l) (none_next k.ready (eqb-true g.redo.records 0 (rw e at z))))
-
-  -- where the log is as it was, not a byte of the text's buffer is changed
-  pub ended-still : {r : EditAnswer} → r ≡ says number a g → r.log ≡ l₀.log → t ≡ l₀.text
-  ended-still q e = k.unmoved.same (ap (λ (i : Log). i.redo.records) (ap (λ (b : EditAnswer). b.log) (sym q) ∙ e))
-
-  -- one is left
-  pub more_left : (eqb left 0 || eqb g.redo.records 0) ≡ false → 0 < left
-  more_left z = let e = eqb-false left 0 (or_none (eqb left 0) (eqb g.redo.records 0) z).0 in omega arith
 
   -- a unit is redone: j is the number of both together
   module _ (h : 0 < left) {b : EditAnswer} {t' : List ℕ} (d : Redone F l b t') {j : ℕ} (e : j ≡ cond (eqb number 0 && eqb b.number 1) 0 b.number) where
@@ -241,6 +236,3 @@ module _ {F : Format} {l₀ : Lent} {n : ℕ} {t : List ℕ} {a : Line} {g : Log
       where
         high : 1 < b.number
         high = by_test _ (eqb number 0 && eqb b.number 1) (λ f. absurd (omega (arith, rw f at e))) (λ f. omega (arith, rw f at e))
-
-    pub stopped-still : {r : EditAnswer} → r ≡ says j b.line b.log → r.log ≡ l₀.log → t' ≡ l₀.text
-    stopped-still q i = (unmoved-both k.unmoved d.unmoved).same (ap (λ (g : Log). g.redo.records) (ap (λ (c : EditAnswer). c.log) (sym q) ∙ i))

@@ -3,7 +3,7 @@
 // The text is changed as edits change it, as in undo.
 #![tactic(auto)]
 
-ghost use Rattle.std.specs.Prelude.{◌≡◌, false, cond, ◌&&◌, ◌<◌, eqb, length};
+ghost use Rattle.std.specs.Prelude.{◌≡◌, false, cond, ◌&&◌, ◌<◌, None, eqb, length};
 ghost use Rattle.repertoire.specs.Repertoire.{catalogue};
 ghost use Rattle.formats.specs.Formats.{Fit};
 ghost use Rattle.edit.specs.Calls.{lent, state_of, Edited, Ready, Answers};
@@ -11,28 +11,28 @@ ghost use Rattle.undo_redo.specs.Redo.{redo_out, redo_call, Redone};
 ghost use Rattle.undo.specs.Steps.{lent_by, PassesOne};
 
 use checks::Line;
-use edit::{EditAnswer, Own, refusal, says};
+use edit::{Checked, EditAnswer, Own, admit, refused, says};
 use formats::{Format, format_for};
 use keymap::RepeatCount;
-use log_records::read_record;
+use log_records::{Kind, read_record};
 use log_state::Log;
-use undo::{Taken, answer, one_if};
+use undo::{Taken, answer};
 use undo_step::{Step, undo_or_redo};
 
 // The next record redone. A stop changes nothing.
 fn redo_record(f: Format, text: &mut [u8], records: &[u8], texts: &[u8], s: Step, log: Log) -> Taken
     requires fit { Fit f }
     requires ready { Ready f (lent_by text.old records.now texts.now s log) }
-    requires number_value { (s.number ≡ 0) × (0 < log.redo.records) }
+    requires number_value { (s.stop ≡ None) × (0 < log.redo.records) }
     ensures { PassesOne f (lent_by text.old records.now texts.now s log) false s.undone result text.new }
 {
     let u = log.undo;
     let at = u.records;
     let t = u.texts;
-    let r = read_record(f, records, at);
+    let r = read_record(f, records, at).unwrap();
     let step = undo_or_redo(text, texts, s, r, t, false);
     let kind = r.kind;
-    if step.number != 0 {
+    if step.stop.is_some() {
         return Taken { step, log, kind };
     }
     Taken {
@@ -43,25 +43,18 @@ fn redo_record(f: Format, text: &mut [u8], records: &[u8], texts: &[u8], s: Step
 }
 
 // The records of one unit redone. A record redone is passed turned round: a Begin as an End, an End as a Begin.
-fn redo_unit(
-    f: Format,
-    text: &mut [u8],
-    records: &[u8],
-    texts: &[u8],
-    line: Line,
-    log: Log,
-) -> EditAnswer
-    requires fit { Fit f }
-    requires ready { Ready f (lent text.old records.now texts.now line log) }
-    ensures { Redone f (lent text.old records.now texts.now line log) result text.new }
+fn redo_unit(checked: Checked, text: &mut [u8], records: &[u8], texts: &[u8]) -> EditAnswer
+    requires fit { Fit checked.format }
+    requires ready { Ready checked.format (lent text.old records.now texts.now checked.line checked.log) }
+    ensures { Redone checked.format (lent text.old records.now texts.now checked.line checked.log) result text.new }
 {
     let mut s = Step {
-        number: 0,
-        len: line.len,
-        cursor: line.cursor,
+        stop: None,
+        len: checked.line.len,
+        cursor: checked.line.cursor,
         undone: false,
     };
-    let mut g = log;
+    let mut g = checked.log;
     let mut ends: usize = 0;
     let mut begins: usize = 0;
     loop {
@@ -69,14 +62,14 @@ fn redo_unit(
         if d.records == 0 {
             return answer(s, g);
         }
-        let p = redo_record(f, text, records, texts, s, g);
+        let p = redo_record(checked.format, text, records, texts, s, g);
         s = p.step;
         g = p.log;
-        if s.number != 0 {
+        if s.stop.is_some() {
             return answer(s, g);
         }
-        ends += one_if(p.kind, 1);
-        begins += one_if(p.kind, 2);
+        ends += usize::from(matches!(p.kind, Kind::Begin));
+        begins += usize::from(matches!(p.kind, Kind::End));
         if ends <= begins {
             return answer(s, g);
         }
@@ -87,48 +80,53 @@ fn redo_unit(
 fn behind(number: u32, k: u32) -> u32
     ensures { result ≡ cond (eqb number 0 && eqb k 1) 0 k }
 {
-    if (number == 0) & (k == 1) {
-        return 0;
+    match (number, k) {
+        (0, 1) => 0,
+        _ => k,
     }
-    k
 }
 
 // Redo on a text and a log that the checks pass: n times the records of one unit. A stop ends them; where no record is left to
 // redo, the units left would change nothing.
 fn redo_units(
-    f: Format,
+    checked: Checked,
     text: &mut [u8],
     records: &[u8],
     texts: &[u8],
-    line: Line,
-    log: Log,
     n: usize,
 ) -> EditAnswer
-    requires fit { Fit f }
-    requires ready { Ready f (lent text.old records.now texts.now line log) }
-    ensures outcome { Edited f (lent text.old records.now texts.now line log)
-        (redo_out (length text.old) n (state_of catalogue f (lent text.old records.now texts.now line log)))
+    requires fit { Fit checked.format }
+    requires ready { Ready checked.format (lent text.old records.now texts.now checked.line checked.log) }
+    ensures outcome { Edited checked.format (lent text.old records.now texts.now checked.line checked.log)
+        (redo_out (length text.old) n (state_of catalogue checked.format (lent text.old records.now texts.now checked.line checked.log)))
         result text.new records.now texts.now }
-    ensures still { result.log ≡ log → text.new ≡ text.old }
+    ensures still { result.log ≡ checked.log → text.new ≡ text.old }
 {
-    let mut line_now = line;
-    let mut log_now = log;
+    let mut line_now = checked.line;
+    let mut log_now = checked.log;
     let mut number: u32 = 1;
-    let mut left = n;
-    loop {
-        let d = log_now.redo;
-        if (left == 0) | (d.records == 0) {
-            return says(number, line_now, log_now);
+    for _ in 0..n {
+        if log_now.redo.records == 0 {
+            break;
         }
-        let a = redo_unit(f, text, records, texts, line_now, log_now);
+        let a = redo_unit(
+            Checked {
+                line: line_now,
+                log: log_now,
+                ..checked
+            },
+            text,
+            records,
+            texts,
+        );
         line_now = a.line;
         log_now = a.log;
         number = behind(number, a.number);
         if 1 < number {
-            return says(number, line_now, log_now);
+            break;
         }
-        left -= 1;
     }
+    says(number, line_now, log_now)
 }
 
 // Where the log is as it was, no record was handled, and not a byte of the text's buffer is changed (still).
@@ -146,9 +144,9 @@ pub fn redo(
     ensures still { result.log ≡ log → text.new ≡ text.old }
 {
     let f = format_for(text.len());
-    let k = refusal(f, text, records, texts, line, log, Own::none());
-    if k != 0 {
-        return says(k, line, log);
-    }
-    redo_units(f, text, records, texts, line, log, n as usize)
+    let checked = match admit(f, text, records, texts, line, log, Own::NONE) {
+        Ok(checked) => checked,
+        Err(why) => return refused(why, line, log),
+    };
+    redo_units(checked, text, records, texts, usize::from(n))
 }

@@ -1,6 +1,8 @@
 -- One record undone, on values: undo.rs, undo of Change, and document 01's stops 12 and 9.
-use Rattle.std.specs.Prelude.{ℕ, ◌+◌, ◌≡◌, Bool, true, cond, not, ◌&&◌, List, leb, ltb, length, take}
+use Rattle.std.specs.Prelude.{ℕ, ◌+◌, ◌≡◌, Bool, true, cond, not, ◌&&◌, Option, None, Some, List, leb, ltb, length, take}
 use Rattle.utf8.specs.Chars.{boundary}
+use Rattle.checks.specs.declared.Refused.{Refused}
+use Rattle.checks.specs.Refused.{number_of}
 use Rattle.log_model.specs.Change.{Change, begin, end, edit, place, old, new, turn}
 use Rattle.edit.specs.Plan.{splice}
 use Rattle.undo_step.specs.declared.Step.{Step}
@@ -42,9 +44,15 @@ abbrev pub Exchanged : StepOutcome → ℕ → List ℕ → List ℕ → Type 0
 Exchanged (done s) k b b' = (k ≡ 0) × (take (length s.text) b' ≡ s.text)
 Exchanged (stops n) k b b' = (k ≡ n) × (b' ≡ b)
 
+-- the number of what stopped a step, 0 where nothing did
+abbrev pub stop_number : Option Refused → ℕ
+stop_number None = 0
+stop_number (Some why) = number_of why
+
 abbrev pub step_to : StepState → Step
-step_to s = record { number = 0; len = length s.text; cursor = s.cursor; undone = s.undone }
+step_to s = record { stop = None; len = length s.text; cursor = s.cursor; undone = s.undone }
 
 abbrev pub UndoneOrRedone : StepOutcome → Step → Step → List ℕ → List ℕ → Type 0
 UndoneOrRedone (done s) q r b b' = (r ≡ step_to s) × (take (length s.text) b' ≡ s.text)
-UndoneOrRedone (stops n) q r b b' = (r ≡ record { number = n; len = q.len; cursor = q.cursor; undone = q.undone }) × (b' ≡ b)
+UndoneOrRedone (stops n) q r b b' =
+    (stop_number r.stop ≡ n) × (r ≡ record { stop = r.stop; len = q.len; cursor = q.cursor; undone = q.undone }) × (b' ≡ b)

@@ -1,47 +1,55 @@
 // One record undone or redone: undo.rs, undo and redo of Change. Records and their texts are only read.
 #![tactic(auto)]
 
-ghost use Rattle.std.specs.Prelude.{◌≡◌, true, ◌+◌, ◌≤◌, ◌<◌, length, take};
+ghost use Rattle.std.specs.Prelude.{◌≡◌, true, ◌+◌, ◌≤◌, ◌<◌, None, length, take};
 ghost use Rattle.repertoire.specs.Repertoire.{catalogue};
 ghost use Rattle.repertoire.specs.Text.{is_text};
+ghost use Rattle.checks.specs.Refused.{refused_by};
 ghost use Rattle.log_model.specs.Change.{Change};
 ghost use Rattle.formats.specs.declared.Format.{Format};
 ghost use Rattle.log_records.specs.Records.{Carries};
 ghost use Rattle.undo_step.specs.UndoStep.{exchanging, undoing, to_undo, Exchanged, UndoneOrRedone};
 
 use buffer::{cut_bytes, insert_bytes};
-use log_records::Record;
+use checks::Refused;
+use log_records::{Kind, Record};
 use utf8::is_boundary;
 
 // Takes the bytes at a place out of the text and puts a text in there; or 12, then 9, and nothing is changed.
-fn exchange(text: &mut [u8], len: usize, place: usize, out: usize, put: &[u8]) -> u32
+fn exchange(
+    text: &mut [u8],
+    len: usize,
+    place: usize,
+    out: usize,
+    put: &[u8],
+) -> Result<(), Refused>
     requires len_in_bounds { (len ≤ length text.old) × (place < 4294967296) × (out < 4294967296) }
     requires text_value { is_text catalogue (take len text.old) ≡ true }
-    ensures { Exchanged (exchanging (length text.old) place out put.now (take len text.old)) result text.old text.new }
+    ensures { Exchanged (exchanging (length text.old) place out put.now (take len text.old)) (refused_by result) text.old text.new }
 {
     let end = place + out;
     if len < end {
-        return 12;
+        return Err(Refused::Misfit);
     }
     if !is_boundary(&text[..len], place) {
-        return 12;
+        return Err(Refused::Misfit);
     }
     if !is_boundary(&text[..len], end) {
-        return 12;
+        return Err(Refused::Misfit);
     }
     let left = len - out;
     if text.len() - left < put.len() {
-        return 9;
+        return Err(Refused::Full);
     }
     cut_bytes(text, len, place, end);
     insert_bytes(text, left, place, put);
-    0
+    Ok(())
 }
 
-// The text's length, the cursor and whether a record of a text was undone; and the number of a stop, 0 where there was none.
+// The text's length, the cursor and whether a record of a text was undone; and what stopped it, if anything did.
 #[derive(Clone, Copy)]
 pub struct Step {
-    pub number: u32,
+    pub stop: Option<Refused>,
     pub len: usize,
     pub cursor: usize,
     pub undone: bool,
@@ -49,15 +57,15 @@ pub struct Step {
 
 // A record undone (back) or redone, whose texts begin at t.
 pub fn undo_or_redo(text: &mut [u8], texts: &[u8], s: Step, r: Record, t: usize, back: bool) -> Step
-    requires number_value { (s.number ≡ 0) × (s.len ≤ length text.old) × (r.place < 4294967296) × (t + (r.old + r.new) ≤ length texts.now) × (length texts.now < 4294967296) }
+    requires number_value { (s.stop ≡ None) × (s.len ≤ length text.old) × (r.place < 4294967296) × (t + (r.old + r.new) ≤ length texts.now) × (length texts.now < 4294967296) }
     requires text_value { is_text catalogue (take s.len text.old) ≡ true }
     ensures { (F : Format) (c : Change) → Carries F c r texts.now t → UndoneOrRedone
         (undoing (length text.old) (to_undo back c) (record
         { text = take s.len text.old; cursor = s.cursor; undone = s.undone })) s result text.old text.new }
 {
-    if r.kind <= 2 {
+    let Kind::Edit(_) = r.kind else {
         return s;
-    }
+    };
     let mid = t + r.old;
     let mut out = r.old;
     let mut from = mid;
@@ -68,19 +76,16 @@ pub fn undo_or_redo(text: &mut [u8], texts: &[u8], s: Step, r: Record, t: usize,
         to = mid;
     }
     let put = to - from;
-    let number = exchange(text, s.len, r.place, out, &texts[from..to]);
-    if number != 0 {
-        return Step {
-            number,
-            len: s.len,
-            cursor: s.cursor,
-            undone: s.undone,
-        };
-    }
-    Step {
-        number: 0,
-        len: s.len - out + put,
-        cursor: r.place + put,
-        undone: true,
+    match exchange(text, s.len, r.place, out, &texts[from..to]) {
+        Ok(()) => Step {
+            stop: None,
+            len: s.len - out + put,
+            cursor: r.place + put,
+            undone: true,
+        },
+        Err(why) => Step {
+            stop: Some(why),
+            ..s
+        },
     }
 }

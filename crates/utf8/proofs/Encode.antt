@@ -7,6 +7,7 @@ use Prim.Native.Nat.{ℕ, suc, ◌+◌, ◌*◌, ◌/◌, ◌%◌, ◌<◌, ◌�
 use native.Mathlib.Omega.{arith}
 use lib.Dec.{leb, eqb}
 use lib.ListN.{length, get_or, take, drop, set, take-append-drop}
+use Rattle.std.specs.Prelude.{Option, Some, None}
 use lib.Seq.{sets, take-suc, drop_at}
 use borrow.Author.Tests.{le-leb, lt-leb, leb-true, eqb-true, eqb-false}
 use Rattle.lists.specs.Lists.{all}
@@ -335,42 +336,55 @@ chars-scalar =
     (λ t c n e r. rw (chars_step t c n e, first-scalar t c n e) r)
 
 -- ---- a character written into a buffer
-pub refused : (s : List ℕ) (at c : ℕ) → scalar c ≡ false → EncodedAt s at c s 0
+pub refused : (s : List ℕ) (at c : ℕ) → scalar c ≡ false → EncodedAt s at c s None
 unfolding fitting
 refused s at c e = record { bytes = rw e; counted = rw e }
 
-pub no_room : (s : List ℕ) (at c n : ℕ) → n ≡ size c → length s < at + n → EncodedAt s at c s 0
+pub no_room : (s : List ℕ) (at c n : ℕ) → n ≡ size c → length s < at + n → EncodedAt s at c s None
 unfolding fitting
 no_room s at c n e h = let f = lt-leb (at + size c) (length s) (rw e at h) in record { bytes = rw (f, and-false); counted = rw (f, and-false) }
 
-wrote : (s : List ℕ) (at c n : ℕ) (l : List ℕ) → scalar c ≡ true → Row c n l → n ≡ length l → at + n ≤ length s → EncodedAt s at c (sets s at l) n
+wrote :
+    (s : List ℕ) (at c n : ℕ) (l : List ℕ) → scalar c ≡ true → Row c n l → n ≡ length l → at + n ≤ length s →
+    EncodedAt s at c (sets s at l) (Some n)
 unfolding fitting
 wrote s at c n l g r k h =
     let f = le-leb (at + size c) (length s) (rw r.sized h) in
-    record { bytes = rw (g, f, r.bytes); counted = rw (g, f, r.bytes) k }
+    record { bytes = rw (g, f, r.bytes); counted = rw (g, f, r.bytes) (ap Some k) }
 
 module _ (s : List ℕ) (at c n : ℕ) (g : scalar c ≡ true) (e : n ≡ size c) (h : at + n ≤ length s) where
-  pub wrote_one : n ≡ 1 → EncodedAt s at c (set s at c) 1
+  pub wrote_one : n ≡ 1 → EncodedAt s at c (set s at c) (Some 1)
   wrote_one k = wrote s at c 1 (one_byte c) g (row_one c (size_1 c n e k)) refl (omega arith)
 
-  pub wrote_two : n ≡ 2 → EncodedAt s at c (set (set s at (0xC0 + c / 64)) (at + 1) (0x80 + c % 64)) 2
+  pub wrote_two : n ≡ 2 → EncodedAt s at c (set (set s at (0xC0 + c / 64)) (at + 1) (0x80 + c % 64)) (Some 2)
   wrote_two k =
       let r = size_2 c n e k in
       let p1 : at + 1 ≡ suc at = omega arith in
       rw p1 (wrote s at c 2 (two_bytes c) g (row-two c r.0 r.1) refl (omega arith))
 
-  pub wrote_three : n ≡ 3 → EncodedAt s at c (set (set (set s at (0xE0 + c / 4096)) (at + 1) (0x80 + c / 64 % 64)) (at + 2) (0x80 + c % 64)) 3
+  pub wrote_three :
+      n ≡ 3 →
+      EncodedAt s at c (set (set (set s at (0xE0 + c / 4096)) (at + 1) (0x80 + c / 64 % 64)) (at + 2) (0x80 + c % 64)) (Some 3)
   wrote_three k =
       let r = size_3 c n e k in
       let p1 : at + 1 ≡ suc at = omega arith in
       let p2 : at + 2 ≡ suc (suc at) = omega arith in
       rw (p1, p2) (wrote s at c 3 (three_bytes c) g (row-three c r.0 r.1) refl (omega arith))
 
-  pub wrote_four : (n ≡ 1 → ⊥) → (n ≡ 2 → ⊥) → (n ≡ 3 → ⊥) →
-      EncodedAt s at c (set (set (set (set s at (0xF0 + c / 262144)) (at + 1) (0x80 + c / 4096 % 64)) (at + 2) (0x80 + c / 64 % 64)) (at + 3) (0x80 + c % 64)) 4
+  pub wrote_four :
+      (n ≡ 1 → ⊥) → (n ≡ 2 → ⊥) → (n ≡ 3 → ⊥) →
+      EncodedAt s at c
+      (set (set (set (set s at (0xF0 + c / 262144)) (at + 1) (0x80 + c / 4096 % 64)) (at + 2) (0x80 + c / 64 % 64)) (at + 3) (0x80 + c % 64))
+      (Some 4)
   wrote_four n1 n2 n3 =
       let r = size_4 c n e n1 n2 n3 in
       let p1 : at + 1 ≡ suc at = omega arith in
       let p2 : at + 2 ≡ suc (suc at) = omega arith in
       let p3 : at + 3 ≡ suc (suc (suc at)) = omega arith in
       rw (p1, p2, p3) (wrote s at c 4 (four_bytes c) g (row-four c r.0) refl (omega arith))
+
+-- a character that has a form and for which there is room is written whole
+pub written : (s : List ℕ) (at c : ℕ) (after : List ℕ) (r : Option ℕ) →
+    EncodedAt s at c after r → scalar c ≡ true → at + size c ≤ length s → (after ≡ sets s at (encode c)) × (r ≡ Some (length (encode c)))
+unfolding fitting
+written s at c after r w g h = let f = le-leb (at + size c) (length s) h in (rw (g, f) at w.bytes, rw (g, f) at w.counted)

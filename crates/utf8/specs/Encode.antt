@@ -1,5 +1,5 @@
 -- RFC 3629, section 3: the bytes of a code point.
-use Rattle.std.specs.Prelude.{ℕ, ◌+◌, ◌/◌, ◌%◌, ◌≡◌, Bool, cond, ◌&&◌, not, List, [], ◌∷◌, ◌++◌, leb, length}
+use Rattle.std.specs.Prelude.{ℕ, ◌+◌, ◌/◌, ◌%◌, ◌≡◌, Bool, cond, ◌&&◌, not, List, [], ◌∷◌, ◌++◌, leb, length, Option, Some, None}
 use Rattle.std.proofs.lemmas.List.Edits.{sets}
 use Rattle.utf8.specs.Utf8.{within}
 
@@ -39,7 +39,7 @@ encode_all (c ∷ cs) = encode c ++ encode_all cs
 unfoldable pub fitting : ℕ → ℕ → ℕ → List ℕ
 fitting n at c = cond (scalar c && leb (at + size c) n) (encode c) []
 
--- the buffer s after a character was written into it at a place, and the count of bytes written
-pub record EncodedAt (s : List ℕ) (at c : ℕ) (after : List ℕ) (count : ℕ) : Type 0 where
+-- the buffer s after a character was written into it at a place, and how many bytes it has: none where none are written
+pub record EncodedAt (s : List ℕ) (at c : ℕ) (after : List ℕ) (count : Option ℕ) : Type 0 where
   pub bytes : after ≡ sets s at (fitting (length s) at c)
-  pub counted : count ≡ length (fitting (length s) at c)
+  pub counted : count ≡ cond (scalar c && leb (at + size c) (length s)) (Some (length (encode c))) None

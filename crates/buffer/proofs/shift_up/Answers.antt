@@ -1,46 +1,7 @@
--- `buffer::shift_up` meets its contract. The invariant: the bytes from `i` on have moved. The measure is `i`.
--- Assumes nothing.
-use borrow.Author.Rules.{rules}
-use mathlib.Core.Path.{◌≡◌, refl, ap, ◌∙◌}
-use mathlib.Core.List.{List}
-use Prim.Native.Nat.{ℕ, ◌+◌, ◌-◌}
-use native.Mathlib.Omega.{arith}
-use lib.ListN.{length-set, set, get_or}
-use Rattle.buffer.specs.Edit.{shifted}
-use Rattle.buffer.proofs.Shifts.{shift_step, shift_none}
+-- `shift_up` meets its contract. Assumes nothing.
+use mathlib.Core.Path.{◌∙◌}
+use Rattle.buffer.proofs.Shifts.{shift_law}
 use Rattle.buffer.proofs.shift_up.Goals as goal
 
-pub loop-i-init : goal.loop-i-init
-loop-i-init c = (search rules, (shift_none _ _ _, refl))
-
-pub overflow_sub-i : goal.overflow_sub-i
-overflow_sub-i c = omega arith
-
-pub bounds-tail-i : goal.bounds-tail-i
-bounds-tail-i c = omega arith
-
-pub overflow_add-tail : goal.overflow_add-tail
-overflow_add-tail c = omega arith
-
-pub bounds-tail-i-in-loop-i : goal.bounds-tail-i-in-loop-i
-bounds-tail-i-in-loop-i c = omega arith
-
-pub loop-i-smaller : goal.loop-i-smaller
-loop-i-smaller c = omega arith
-
-pub loop-i-preserved : goal.loop-i-preserved
-loop-i-preserved c = let i = c.loop-i.i - 1 in (
-  omega arith,
-  (
-    ap (λ (l : List ℕ). set l (i + c.args.n) (get_or l i 0)) c.loop-i.invariant.1.0
-        ∙ shift_step c.args.tail.now c.args.n c.args.used i c.loop-i.i (omega arith) c.loop-i.invariant.0 c.requires,
-    simp length-set (omega arith),
-  ),
-)
-
-pub shape_of-tail : goal.shape_of-tail
-shape_of-tail c = omega arith
-
 pub returns : goal.returns
-returns c = let e : c.loop-i.i ≡ 0 = omega arith in
-    c.loop-i.invariant.1.0 ∙ ap (λ (q : ℕ). shifted c.args.tail.now c.args.n c.args.used q) e
+returns c = c.copy_within.ensures.after ∙ shift_law c.args.tail.now c.args.n c.args.used

@@ -1,10 +1,10 @@
-use Rattle.buffer.proofs.Copies.{Over}
+-- `write_copies` meets its contract. The invariant: `i` copies of `src` stand at the front. Assumes nothing.
 use mathlib.Core.Path.{◌≡◌}
-use lib.ListN.{length}
+use mathlib.Core.List.{◌++◌}
+use Prim.Native.Nat.{◌*◌}
+use lib.ListN.{length, drop}
+use Rattle.buffer.specs.Edit.{copies}
 use Rattle.buffer.proofs.write_copies.Given as goal
 
-abbrev pub invariant-loop-left : goal.invariant-loop-left
-invariant-loop-left l = (length l.tail ≡ length l.initial.tail) × Over l.src l.n l.initial.tail l.tail l.at l.left
-
-abbrev pub decreases-loop-left : goal.decreases-loop-left
-decreases-loop-left l = l.left
+abbrev pub invariant-loop-i : goal.invariant-loop-i
+invariant-loop-i l = l.tail ≡ copies l.i l.src ++ drop (length l.src * l.i) l.initial.tail

@@ -2,69 +2,56 @@ use mathlib.Core.Path.{sym, ap, ◌∙◌}
 use native.Mathlib.Omega.{arith}
 use Rattle.utf8.specs.Answer.{as_first}
 use Rattle.utf8.proofs.Chars.{first-within}
-use Rattle.utf8.proofs.Forms.{first-end}
 use Rattle.repertoire.specs.Repertoire.{catalogue}
 use Rattle.repertoire.proofs.Text.{within-at}
-use Rattle.cluster.proofs.Forward.{scan-start, scan_none, scan_more, scan_break, scan-end}
+use Rattle.cluster.proofs.Forward.{scan_at, scan-start, scan_none, scan_more, scan_break, scan-end}
 use Rattle.cluster.proofs.next_cluster.Goals as goal
 
 pub returns-in_default : goal.returns-in_default
 returns-in_default c = record {
   known = c.empty.ensures
-      ∙ scan_none catalogue c.args.s.now (sym c.decode_at-d.ensures ∙ ap as_first c.in_default.is);
+      ∙ scan_none catalogue c.args.s.now (sym c.decode_at.ensures ∙ ap as_first c.in_default.is);
   within = omega (arith, ap (λ x. x.len) c.empty.ensures);
 }
 
-pub loop-i-init : goal.loop-i-init
-loop-i-init c = let e = sym c.decode_at-d.ensures ∙ ap as_first c.in-Char.is in
-    ((first-within _ _ _ e).fits, scan-start catalogue c.args.s.now _ _ _ e c.of-k.ensures)
-
-pub returns-in_default-e : goal.returns-in_default-e
-returns-in_default-e c = let z = c.loop-i.invariant.1 in record {
-  known = scan-end catalogue c.args.s.now _ _ _ z (sym c.decode_at-e.ensures ∙ ap as_first c.in_default-e.is);
-  within = omega
-      (arith, z.sized, c.loop-i.invariant.0);
-}
+pub loop-cp-init : goal.loop-cp-init
+loop-cp-init c =
+    let e = sym c.decode_at.ensures ∙ ap as_first c.in-Some.is in
+    let z = scan-start catalogue c.args.s.now _ _ _ e c.of-k.ensures in
+    (omega (arith, (first-within _ _ _ e).fits, z.sized), scan_at catalogue c.args.s.now _ _ _ z)
 
 pub returns-then-not-joins : goal.returns-then-not-joins
-returns-then-not-joins c = let z = c.loop-i.invariant.1 in record {
-  known = scan_break catalogue c.args.s.now _ _ _ z _ _ (sym c.decode_at-e.ensures ∙ ap as_first c.in-Char-e.is)
-      (sym c.joins.ensures ∙ c.if-not-joins.true);
-  within = omega (arith, z.sized, c.loop-i.invariant.0);
+returns-then-not-joins c = record {
+  known = scan_break catalogue c.args.s.now _ _ _ c.loop-cp.invariant.1 _ _
+      (sym c.decode_at-in-loop-cp.ensures ∙ ap as_first c.in-Some-decode_at.is) (sym c.joins.ensures ∙ c.if-not-joins.true);
+  within = c.loop-cp.invariant.0;
 }
-
-pub overflow_add-i : goal.overflow_add-i
-overflow_add-i c = omega (
-  arith,
-  within-at c.args.s.now c.loop-i.i _ _ c.loop-i.invariant.0
-      (sym c.decode_at-e.ensures ∙ ap as_first c.in-Char-e.is),
-)
 
 pub with-k-requires : goal.with-k-requires
 with-k-requires c = omega (
   arith,
-  c.loop-i.invariant.1.sized,
-  within-at c.args.s.now c.loop-i.i _ _ c.loop-i.invariant.0
-      (sym c.decode_at-e.ensures ∙ ap as_first c.in-Char-e.is),
+  within-at c.args.s.now c.loop-cp.k.len _ _ c.loop-cp.invariant.0
+      (sym c.decode_at-in-loop-cp.ensures ∙ ap as_first c.in-Some-decode_at.is),
 )
 
-pub loop-i-smaller : goal.loop-i-smaller
-loop-i-smaller c = omega (
-  arith,
-  within-at c.args.s.now c.loop-i.i _ _ c.loop-i.invariant.0
-      (sym c.decode_at-e.ensures ∙ ap as_first c.in-Char-e.is),
-)
+-- one character more
+pub loop-cp-preserved : goal.loop-cp-preserved
+loop-cp-preserved c =
+    let e = sym c.decode_at-in-loop-cp.ensures ∙ ap as_first c.in-Some-decode_at.is in
+    let w = within-at c.args.s.now c.loop-cp.k.len _ _ c.loop-cp.invariant.0 e in
+    let z = scan_more catalogue c.args.s.now _ _ _ c.loop-cp.invariant.1 _ _ _ e (sym c.joins.ensures ∙ c.if-not-joins.false)
+    c.with-k.ensures in
+    (omega (arith, w.1, z.sized), scan_at catalogue c.args.s.now _ _ _ z)
 
-pub loop-i-preserved : goal.loop-i-preserved
-loop-i-preserved c = let e = sym c.decode_at-e.ensures ∙ ap as_first c.in-Char-e.is in (
-  (within-at c.args.s.now c.loop-i.i _ _ c.loop-i.invariant.0 e).1,
-  scan_more catalogue c.args.s.now _ _ _ c.loop-i.invariant.1 _ _ _ e
-      (sym c.joins.ensures ∙ c.if-not-joins.false) c.with-k.ensures,
-)
+pub loop-cp-smaller : goal.loop-cp-smaller
+loop-cp-smaller c =
+    let w = within-at c.args.s.now c.loop-cp.k.len _ _ c.loop-cp.invariant.0
+    (sym c.decode_at-in-loop-cp.ensures ∙ ap as_first c.in-Some-decode_at.is) in
+    omega (arith, w, ap (λ x. x.len) c.with-k.ensures)
 
 pub returns : goal.returns
-returns c = let z = c.loop-i.invariant.1 in record {
-  known = scan-end catalogue c.args.s.now _ _ _ z
-      (first-end c.args.s.now c.loop-i.i c.loop-i-test.false);
-  within = omega (arith, z.sized, c.loop-i.invariant.0);
+returns c = record {
+  known = scan-end catalogue c.args.s.now _ _ _ c.loop-cp.invariant.1
+      (sym c.decode_at-in-loop-cp.ensures ∙ ap as_first c.in_default-decode_at.is);
+  within = c.loop-cp.invariant.0;
 }

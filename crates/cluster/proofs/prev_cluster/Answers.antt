@@ -25,28 +25,28 @@ returns-then-n-eq0 c = record {
 pub returns-in_default : goal.returns-in_default
 returns-in_default c = ends_never _ _ _ _
     (ends-before c.args.s.now _ _ c.requires (boundary_end _ c.requires) (omega (arith, c.if-n-eq0.false)) (omega arith)
-    c.prev_char-j.ensures) (sym c.decode_at-d.ensures ∙ ap as_first c.in_default.is)
+    c.prev_char-j.ensures) (sym c.decode_at.ensures ∙ ap as_first c.in_default.is)
 
 pub loop-j-init : goal.loop-j-init
 loop-j-init c = back_start catalogue c.args.s.now _ _ _ _
     (ends-before c.args.s.now _ _ c.requires (boundary_end _ c.requires) (omega (arith, c.if-n-eq0.false)) (omega arith)
-    c.prev_char-j.ensures) (sym c.decode_at-d.ensures ∙ ap as_first c.in-Char.is) c.of-k.ensures
+    c.prev_char-j.ensures) (sym c.decode_at.ensures ∙ ap as_first c.in-Some.is) c.of-k.ensures
 
-pub returns-in_default-e : goal.returns-in_default-e
-returns-in_default-e c = ends_never _ _ _ _ (ended (goal.at.returns-in_default-e c).After-prev_char-i)
-    (sym c.decode_at-e.ensures ∙ ap as_first c.in_default-e.is)
+pub returns-in_default-decode_at : goal.returns-in_default-decode_at
+returns-in_default-decode_at c = ends_never _ _ _ _ (ended (goal.at.returns-in_default-decode_at c).After-prev_char-i)
+    (sym c.decode_at-in-loop-j.ensures ∙ ap as_first c.in_default-decode_at.is)
 
 pub returns-then-not-joins : goal.returns-then-not-joins
 returns-then-not-joins c = record {
   known = back_stop catalogue c.args.s.now _ _ _ c.loop-j.invariant _ _ _ (ended (goal.at.returns-then-not-joins c).After-prev_char-i)
-      (sym c.decode_at-e.ensures ∙ ap as_first c.in-Char-e.is)
+      (sym c.decode_at-in-loop-j.ensures ∙ ap as_first c.in-Some-decode_at.is)
       (sym c.joins.ensures ∙ c.if-not-joins.true);
   within = omega (arith, c.loop-j.invariant.sized);
 }
 
 pub with-k-requires : goal.with-k-requires
 with-k-requires c = let e = ended (goal.at.with-k-requires c).After-prev_char-i in
-    let m = ends_char _ _ _ _ _ e (sym c.decode_at-e.ensures ∙ ap as_first c.in-Char-e.is) in
+    let m = ends_char _ _ _ _ _ e (sym c.decode_at-in-loop-j.ensures ∙ ap as_first c.in-Some-decode_at.is) in
     let b = e.below in
     omega (arith, c.loop-j.invariant.sized)
 
@@ -55,7 +55,7 @@ loop-j-smaller c = (ended (goal.at.loop-j-smaller c).After-prev_char-i).below
 
 pub loop-j-preserved : goal.loop-j-preserved
 loop-j-preserved c = back_more catalogue c.args.s.now _ _ _ c.loop-j.invariant _ _ _ (ended (goal.at.loop-j-preserved c).After-prev_char-i)
-    (sym c.decode_at-e.ensures ∙ ap as_first c.in-Char-e.is) _
+    (sym c.decode_at-in-loop-j.ensures ∙ ap as_first c.in-Some-decode_at.is) _
     (sym c.joins.ensures ∙ c.if-not-joins.false) c.with-k.ensures
 
 pub returns : goal.returns

@@ -12,23 +12,23 @@ use Rattle.edit.proofs.cut_and_put.Goals as goal
 pub overflow_sub-left : goal.overflow_sub-left
 overflow_sub-left c =
     let a = c.args in
-    (cut_suits a.f (lent a.text.now a.records.now a.texts.now a.line a.log) c.requires.ready a.from a.to a.at a.new.now
+    (cut_suits a.checked.format (lent a.text.now a.records.now a.texts.now a.checked.line a.checked.log) c.requires.ready a.from a.to a.at a.new.now
     c.requires.all_suit).0
 
 pub overflow_sub-left-2 : goal.overflow_sub-left-2
 overflow_sub-left-2 c =
     let a = c.args in
-    let l = lent a.text.now a.records.now a.texts.now a.line a.log in
-    let cut-suits1 = cut_suits a.f l c.requires.ready a.from a.to a.at a.new.now c.requires.all_suit in
-    omega (arith, (let w : a.to ≤ a.line.len = omega (arith, cut-suits1.1, length-kept a.f l c.requires.ready) in w), cut-suits1.0)
+    let l = lent a.text.now a.records.now a.texts.now a.checked.line a.checked.log in
+    let cut-suits1 = cut_suits a.checked.format l c.requires.ready a.from a.to a.at a.new.now c.requires.all_suit in
+    omega (arith, (let w : a.to ≤ a.checked.line.len = omega (arith, cut-suits1.1, length-kept a.checked.format l c.requires.ready) in w), cut-suits1.0)
 
 pub returns-then-text-left : goal.returns-then-text-left
 returns-then-text-left c =
     let a = c.args in
-    let l = lent a.text.now a.records.now a.texts.now a.line a.log in
-    nine a.f l
+    let l = lent a.text.now a.records.now a.texts.now a.checked.line a.checked.log in
+    nine a.checked.format l
     (record { changes = cutting a.from a.to ∷ pasted a.at a.new.now ∷ []; cursor = a.cursor; number = a.number; from = 0; to = 0 }) _
-    (pair_long a.f l c.requires.ready a.from a.to a.at a.new.now c.requires.all_suit c.if-text-left.true) c.says.ensures
+    (pair_long a.checked.format l c.requires.ready a.from a.to a.at a.new.now c.requires.all_suit c.if-text-left.true) c.refused.ensures
 
 pub pair_fits-requires : goal.pair_fits-requires
 pair_fits-requires c = record {
@@ -42,11 +42,11 @@ pair_fits-requires c = record {
 pub returns-then-not-pair_fits : goal.returns-then-not-pair_fits
 returns-then-not-pair_fits c =
     let a = c.args in
-    let l = lent a.text.now a.records.now a.texts.now a.line a.log in
-    ten a.f l
+    let l = lent a.text.now a.records.now a.texts.now a.checked.line a.checked.log in
+    ten a.checked.format l
     (record { changes = cutting a.from a.to ∷ pasted a.at a.new.now ∷ []; cursor = a.cursor; number = a.number; from = 0; to = 0 }) _
-    (pair_short a.f l c.requires.ready a.from a.to a.at a.new.now c.requires.all_suit c.if-text-left.false)
-    (sym c.pair_fits.ensures ∙ c.if-not-pair_fits.true) c.says-then-not-pair_fits.ensures
+    (pair_short a.checked.format l c.requires.ready a.from a.to a.at a.new.now c.requires.all_suit c.if-text-left.false)
+    (sym c.pair_fits.ensures ∙ c.if-not-pair_fits.true) c.refused-then-not-pair_fits.ensures
 
 pub cut_out-a-requires : goal.cut_out-a-requires
 cut_out-a-requires c =
@@ -54,7 +54,7 @@ cut_out-a-requires c =
     record {
       fit = c.requires.fit;
       ready = c.requires.ready;
-      in_text = cut_suits a.f (lent a.text.now a.records.now a.texts.now a.line a.log) c.requires.ready a.from a.to a.at a.new.now
+      in_text = cut_suits a.checked.format (lent a.text.now a.records.now a.texts.now a.checked.line a.checked.log) c.requires.ready a.from a.to a.at a.new.now
           c.requires.all_suit;
       last_at = (λ e. c.requires.last_at);
     }
@@ -62,12 +62,12 @@ cut_out-a-requires c =
 pub put_in-b-requires : goal.put_in-b-requires
 put_in-b-requires c =
     let a = c.args in
-    let l = lent a.text.now a.records.now a.texts.now a.line a.log in
-    let pair-mid1 = pair_mid a.f l c.requires.ready a.from a.to a.at a.new.now c.requires.all_suit a.cursor a.number
-    (pair_short a.f l c.requires.ready a.from a.to a.at a.new.now c.requires.all_suit c.if-text-left.false)
+    let l = lent a.text.now a.records.now a.texts.now a.checked.line a.checked.log in
+    let pair-mid1 = pair_mid a.checked.format l c.requires.ready a.from a.to a.at a.new.now c.requires.all_suit a.cursor a.number
+    (pair_short a.checked.format l c.requires.ready a.from a.to a.at a.new.now c.requires.all_suit c.if-text-left.false)
     (sym c.pair_fits.ensures ∙ c.if-not-pair_fits.false) _ _ _ _ c.cut_out-a.ensures
     c.cut_out-a.auto.text c.cut_out-a.auto.records c.cut_out-a.auto.texts in
-    let next-suits1 = next_suits a.f l
+    let next-suits1 = next_suits a.checked.format l
     (record { changes = cutting a.from a.to ∷ pasted a.at a.new.now ∷ []; cursor = a.cursor; number = a.number; from = 0; to = 0 })
     (pasted a.at a.new.now) [] _ pair-mid1 in
     record {
@@ -80,9 +80,9 @@ put_in-b-requires c =
 pub returns : goal.returns
 returns c =
     let a = c.args in
-    let l = lent a.text.now a.records.now a.texts.now a.line a.log in
-    pair_made a.f l c.requires.ready a.from a.to a.at a.new.now c.requires.all_suit a.cursor a.number
-    (pair_short a.f l c.requires.ready a.from a.to a.at a.new.now c.requires.all_suit c.if-text-left.false)
+    let l = lent a.text.now a.records.now a.texts.now a.checked.line a.checked.log in
+    pair_made a.checked.format l c.requires.ready a.from a.to a.at a.new.now c.requires.all_suit a.cursor a.number
+    (pair_short a.checked.format l c.requires.ready a.from a.to a.at a.new.now c.requires.all_suit c.if-text-left.false)
     (sym c.pair_fits.ensures ∙ c.if-not-pair_fits.false) _ _ _ _ c.cut_out-a.ensures
     c.cut_out-a.auto.text c.cut_out-a.auto.records c.cut_out-a.auto.texts _ _ _ _ c.put_in-b.ensures
     c.put_in-b.auto.text c.put_in-b.auto.records c.put_in-b.auto.texts

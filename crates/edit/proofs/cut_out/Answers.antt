@@ -21,13 +21,13 @@ use Rattle.edit.proofs.cut_out.Goals.{After-is_single-joins, Start}
 
 -- the text, and what is cut from it
 abbrev text : Start → List ℕ
-text s = take s.args.line.len s.args.text.now
+text s = take s.args.checked.line.len s.args.text.now
 
 abbrev cut : Start → List ℕ
 cut s = part (text s) s.args.from s.args.to
 
-within : (s : Start) → s.args.to ≤ s.args.line.len
-within s = omega (arith, s.requires.in_text.1, length-take-le s.args.line.len s.args.text.now s.requires.ready.used)
+within : (s : Start) → s.args.to ≤ s.args.checked.line.len
+within s = omega (arith, s.requires.in_text.1, length-take-le s.args.checked.line.len s.args.text.now s.requires.ready.used)
 
 cut-text : (s : Start) → is_text catalogue (part (text s) s.args.from s.args.to) ≡ true
 cut-text s = part-text catalogue (text s) s.args.from s.args.to s.requires.in_text s.requires.ready.text
@@ -36,10 +36,10 @@ abbrev single : List ℕ → Bool
 single s = is_single catalogue (clusters_of catalogue s)
 
 joined : (c : After-is_single-joins) → c.is_single-joins.result ≡ single
-    (part (take c.args.line.len c.args.text.now) c.args.from c.args.to)
+    (part (take c.args.checked.line.len c.args.text.now) c.args.from c.args.to)
 joined c = let a = c.args in
-    c.is_single-joins.ensures ∙ ap single (sym (raw_part a.text.now a.line.len a.from a.to
-    (omega (arith, c.requires.in_text.1, length-take-le c.args.line.len c.args.text.now c.requires.ready.used))))
+    c.is_single-joins.ensures ∙ ap single (sym (raw_part a.text.now a.checked.line.len a.from a.to
+    (omega (arith, c.requires.in_text.1, length-take-le c.args.checked.line.len c.args.text.now c.requires.ready.used))))
 
 pub slice_bounds-is_single-count : goal.slice_bounds-is_single-count
 slice_bounds-is_single-count c = c.requires.in_text.0
@@ -54,7 +54,7 @@ pub is_single-joins-requires : goal.is_single-joins-requires
 is_single-joins-requires c =
     let here = goal.at.is_single-joins-requires c in
     let a = c.args in
-    ap (is_text catalogue) (sym (raw_part a.text.now a.line.len a.from a.to (within here.Start))) ∙
+    ap (is_text catalogue) (sym (raw_part a.text.now a.checked.line.len a.from a.to (within here.Start))) ∙
     cut-text here.Start
 
 pub change-requires : goal.change-requires
@@ -73,11 +73,11 @@ pub returns : goal.returns
 returns c =
     let here = goal.at.returns c in
     let a = c.args in
-    let l = lent a.text.now a.records.now a.texts.now a.line a.log in
-    let stateOf1 = state_of catalogue a.f l in
+    let l = lent a.text.now a.records.now a.texts.now a.checked.line a.checked.log in
+    let stateOf1 = state_of catalogue a.checked.format l in
     let sizesOf1 = sizes_of l in
-    outcome_as a.f l
-    (change_out a.f sizesOf1 (length a.text.now) c.is_single-joins.result (delete a.from (cut here.Start)) a.from stateOf1)
-    (edited catalogue a.f sizesOf1 (length a.text.now) (once (cutting a.from a.to) a.from) stateOf1) _ _ _ _
-    (once-cut catalogue a.f sizesOf1 (length a.text.now) a.from stateOf1 a.from a.to c.is_single-joins.result c.requires.in_text
+    outcome_as a.checked.format l
+    (change_out a.checked.format sizesOf1 (length a.text.now) c.is_single-joins.result (delete a.from (cut here.Start)) a.from stateOf1)
+    (edited catalogue a.checked.format sizesOf1 (length a.text.now) (once (cutting a.from a.to) a.from) stateOf1) _ _ _ _
+    (once-cut catalogue a.checked.format sizesOf1 (length a.text.now) a.from stateOf1 a.from a.to c.is_single-joins.result c.requires.in_text
     (joined here.After-is_single-joins)) c.change.ensures

@@ -17,23 +17,23 @@ use Rattle.edit.proofs.pair_fits.Goals as goal
 pub slice_bounds-is_single-count : goal.slice_bounds-is_single-count
 slice_bounds-is_single-count c =
     let a = c.args in
-    (cut_suits a.f (lent a.text.now a.records.now a.texts.now a.line a.log) c.requires.ready a.from a.to a.at a.new.now
+    (cut_suits a.checked.format (lent a.text.now a.records.now a.texts.now a.checked.line a.checked.log) c.requires.ready a.from a.to a.at a.new.now
     c.requires.all_suit).0
 
 pub slice_bounds-is_single-start : goal.slice_bounds-is_single-start
 slice_bounds-is_single-start c =
     let a = c.args in
-    (cut_suits a.f (lent a.text.now a.records.now a.texts.now a.line a.log) c.requires.ready a.from a.to a.at a.new.now
+    (cut_suits a.checked.format (lent a.text.now a.records.now a.texts.now a.checked.line a.checked.log) c.requires.ready a.from a.to a.at a.new.now
     c.requires.all_suit).0
 
 pub slice_bounds-is_single-end : goal.slice_bounds-is_single-end
 slice_bounds-is_single-end c =
     let a = c.args in
-    let l = lent a.text.now a.records.now a.texts.now a.line a.log in
+    let l = lent a.text.now a.records.now a.texts.now a.checked.line a.checked.log in
     omega (
       arith,
-      (let w : a.to ≤ a.line.len = omega
-          (arith, (cut_suits a.f l c.requires.ready a.from a.to a.at a.new.now c.requires.all_suit).1, length-kept a.f l c.requires.ready)
+      (let w : a.to ≤ a.checked.line.len = omega
+          (arith, (cut_suits a.checked.format l c.requires.ready a.from a.to a.at a.new.now c.requires.all_suit).1, length-kept a.checked.format l c.requires.ready)
           in
           w),
       c.requires.ready.used,
@@ -42,41 +42,41 @@ slice_bounds-is_single-end c =
 pub is_single-joins-requires : goal.is_single-joins-requires
 is_single-joins-requires c =
     let a = c.args in
-    let l = lent a.text.now a.records.now a.texts.now a.line a.log in
-    let cut-suits1 = cut_suits a.f l c.requires.ready a.from a.to a.at a.new.now c.requires.all_suit in
+    let l = lent a.text.now a.records.now a.texts.now a.checked.line a.checked.log in
+    let cut-suits1 = cut_suits a.checked.format l c.requires.ready a.from a.to a.at a.new.now c.requires.all_suit in
     ap (is_text catalogue)
     (sym
-    (raw_part a.text.now a.line.len a.from a.to
-    (let w : a.to ≤ a.line.len = omega (arith, cut-suits1.1, length-kept a.f l c.requires.ready) in w)))
-    ∙ part-text catalogue (take a.line.len a.text.now) a.from a.to cut-suits1 c.requires.ready.text
+    (raw_part a.text.now a.checked.line.len a.from a.to
+    (let w : a.to ≤ a.checked.line.len = omega (arith, cut-suits1.1, length-kept a.checked.format l c.requires.ready) in w)))
+    ∙ part-text catalogue (take a.checked.line.len a.text.now) a.from a.to cut-suits1 c.requires.ready.text
 
 pub room_cut-b-requires : goal.room_cut-b-requires
 room_cut-b-requires c =
     let a = c.args in
-    let l = lent a.text.now a.records.now a.texts.now a.line a.log in
+    let l = lent a.text.now a.records.now a.texts.now a.checked.line a.checked.log in
     record {
       fit = c.requires.fit;
-      from_le_to = (cut_suits a.f l c.requires.ready a.from a.to a.at a.new.now c.requires.all_suit).0;
-      in_range = first_in_range a.f l c.requires.ready a.from a.to a.at a.new.now c.requires.all_suit
-          (top_max a.f.width c.requires.fit.width.most) _
+      from_le_to = (cut_suits a.checked.format l c.requires.ready a.from a.to a.at a.new.now c.requires.all_suit).0;
+      in_range = first_in_range a.checked.format l c.requires.ready a.from a.to a.at a.new.now c.requires.all_suit
+          (top_max a.checked.format.width c.requires.fit.width.most) _
           c.room_now-a.ensures;
     }
 
-pub room_put-c-requires : goal.room_put-c-requires
-room_put-c-requires c =
+pub room_put-requires : goal.room_put-requires
+room_put-requires c =
     let a = c.args in
-    let l = lent a.text.now a.records.now a.texts.now a.line a.log in
+    let l = lent a.text.now a.records.now a.texts.now a.checked.line a.checked.log in
     record {
       fit = c.requires.fit;
-      in_range = second_in_range a.f l c.requires.ready a.from a.to a.at a.new.now c.requires.all_suit
-          (top_max a.f.width c.requires.fit.width.most) _
+      in_range = second_in_range a.checked.format l c.requires.ready a.from a.to a.at a.new.now c.requires.all_suit
+          (top_max a.checked.format.width c.requires.fit.width.most) _
           c.room_now-a.ensures _
           (c.is_single-joins.ensures
           ∙ ap (λ (x : List ℕ). is_single catalogue (clusters_of catalogue x))
           (sym
-          (raw_part a.text.now a.line.len a.from a.to
-          (let w : a.to ≤ a.line.len = omega
-          (arith, (cut_suits a.f l c.requires.ready a.from a.to a.at a.new.now c.requires.all_suit).1, length-kept a.f l c.requires.ready)
+          (raw_part a.text.now a.checked.line.len a.from a.to
+          (let w : a.to ≤ a.checked.line.len = omega
+          (arith, (cut_suits a.checked.format l c.requires.ready a.from a.to a.at a.new.now c.requires.all_suit).1, length-kept a.checked.format l c.requires.ready)
           in
           w)))) _ c.room_cut-b.ensures c.requires.len_bound;
     }
@@ -84,13 +84,13 @@ room_put-c-requires c =
 pub returns : goal.returns
 returns c =
     let a = c.args in
-    let l = lent a.text.now a.records.now a.texts.now a.line a.log in
-    pair_room a.f l c.requires.ready a.from a.to a.at a.new.now c.requires.all_suit (top_max a.f.width c.requires.fit.width.most) _
+    let l = lent a.text.now a.records.now a.texts.now a.checked.line a.checked.log in
+    c.is_some.ensures ∙ pair_room a.checked.format l c.requires.ready a.from a.to a.at a.new.now c.requires.all_suit (top_max a.checked.format.width c.requires.fit.width.most) _
     c.room_now-a.ensures _
     (c.is_single-joins.ensures
     ∙ ap (λ (x : List ℕ). is_single catalogue (clusters_of catalogue x))
     (sym
-    (raw_part a.text.now a.line.len a.from a.to
-    (let w : a.to ≤ a.line.len = omega
-    (arith, (cut_suits a.f l c.requires.ready a.from a.to a.at a.new.now c.requires.all_suit).1, length-kept a.f l c.requires.ready) in
-    w)))) _ c.room_cut-b.ensures _ c.room_put-c.ensures
+    (raw_part a.text.now a.checked.line.len a.from a.to
+    (let w : a.to ≤ a.checked.line.len = omega
+    (arith, (cut_suits a.checked.format l c.requires.ready a.from a.to a.at a.new.now c.requires.all_suit).1, length-kept a.checked.format l c.requires.ready) in
+    w)))) _ c.room_cut-b.ensures _ c.room_put.ensures

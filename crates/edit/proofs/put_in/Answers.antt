@@ -17,12 +17,12 @@ change-requires c =
     record {
       fit = c.requires.fit;
       ready = c.requires.ready;
-      from_le_to = (omega arith, omega (arith, c.requires.in_text.1, length-take-le a.line.len a.text.now c.requires.ready.used));
+      from_le_to = (omega arith, omega (arith, c.requires.in_text.1, length-take-le a.checked.line.len a.text.now c.requires.ready.used));
       last_at = (λ e. never _ _ e refl);
       numbered = record {
         kind = refl;
         place = refl;
-        old = sym (ap (λ (i : ℕ). take i (drop a.at (take a.line.len a.text.now))) z);
+        old = sym (ap (λ (i : ℕ). take i (drop a.at (take a.checked.line.len a.text.now))) z);
         new = refl;
       };
       ok = c.requires.new_text;
@@ -31,7 +31,7 @@ change-requires c =
 pub returns : goal.returns
 returns c =
     let a = c.args in
-    let l = lent a.text.now a.records.now a.texts.now a.line a.log in
-    outcome_as a.f l _ _ _ _ _ _
-    (once-paste catalogue a.f (sizes_of l) (length a.text.now) a.cursor (state_of catalogue a.f l) a.at a.new.now)
+    let l = lent a.text.now a.records.now a.texts.now a.checked.line a.checked.log in
+    outcome_as a.checked.format l _ _ _ _ _ _
+    (once-paste catalogue a.checked.format (sizes_of l) (length a.text.now) a.cursor (state_of catalogue a.checked.format l) a.at a.new.now)
     c.change.ensures

@@ -1,3 +1,4 @@
+use mathlib.Core.Path.{◌∙◌}
 use Rattle.edit.proofs.Rooms.{put_none, put_some}
 use Rattle.edit.proofs.tail_put.Goals as goal
 
@@ -7,4 +8,4 @@ returns-then-size-eq0 c = put_none c.args.f c.args.at c.args.size c.args.t c.if-
 pub returns : goal.returns
 returns c =
     let a = c.args in
-    put_some a.f a.at a.size a.t _ c.if-size-eq0.false c.note-n.ensures
+    c.tail.ensures ∙ put_some a.f a.at a.size a.t _ c.if-size-eq0.false c.note.ensures

@@ -18,25 +18,25 @@ slice_bounds-words_on-end-2 c = sym (length-take-le _ _ c.requires.ready.used)
 pub slice_bounds-write_case-count : goal.slice_bounds-write_case-count
 slice_bounds-write_case-count c =
     let a = c.args in
-    (word_in a.f (lent a.text.now a.records.now a.texts.now a.line a.log) c.requires.ready a.from c.requires.in_text c.words_on-to.result
+    (word_in a.checked.format (lent a.text.now a.records.now a.texts.now a.checked.line a.checked.log) c.requires.ready a.from c.requires.in_text c.words_on-to.result
     c.words_on-to.ensures).0
 
 pub slice_bounds-write_case-start : goal.slice_bounds-write_case-start
 slice_bounds-write_case-start c =
     let a = c.args in
-    (word_in a.f (lent a.text.now a.records.now a.texts.now a.line a.log) c.requires.ready a.from c.requires.in_text c.words_on-to.result
+    (word_in a.checked.format (lent a.text.now a.records.now a.texts.now a.checked.line a.checked.log) c.requires.ready a.from c.requires.in_text c.words_on-to.result
     c.words_on-to.ensures).0
 
 pub slice_bounds-write_case-end : goal.slice_bounds-write_case-end
 slice_bounds-write_case-end c =
     let a = c.args in
-    let l = lent a.text.now a.records.now a.texts.now a.line a.log in
+    let l = lent a.text.now a.records.now a.texts.now a.checked.line a.checked.log in
     omega (
       arith,
-      (let w : c.words_on-to.result ≤ a.line.len = omega (
+      (let w : c.words_on-to.result ≤ a.checked.line.len = omega (
         arith,
-        (word_in a.f l c.requires.ready a.from c.requires.in_text c.words_on-to.result c.words_on-to.ensures).1,
-        (length-kept a.f l c.requires.ready),
+        (word_in a.checked.format l c.requires.ready a.from c.requires.in_text c.words_on-to.result c.words_on-to.ensures).1,
+        (length-kept a.checked.format l c.requires.ready),
       ) in
           w),
       c.requires.ready.used,
@@ -45,18 +45,18 @@ slice_bounds-write_case-end c =
 pub write_case-n-requires : goal.write_case-n-requires
 write_case-n-requires c =
     let a = c.args in
-    let l = lent a.text.now a.records.now a.texts.now a.line a.log in
-    let word-in1 = word_in a.f l c.requires.ready a.from c.requires.in_text c.words_on-to.result c.words_on-to.ensures in
-    let length-kept1 = length-kept a.f l c.requires.ready in
+    let l = lent a.text.now a.records.now a.texts.now a.checked.line a.checked.log in
+    let word-in1 = word_in a.checked.format l c.requires.ready a.from c.requires.in_text c.words_on-to.result c.words_on-to.ensures in
+    let length-kept1 = length-kept a.checked.format l c.requires.ready in
     record {
       s_in_bounds = omega (
         arith,
         (ap length
             (sym
-            (raw_part a.text.now a.line.len a.from c.words_on-to.result
-            (let w : c.words_on-to.result ≤ a.line.len = omega (arith, word-in1.1, length-kept1) in w)))
-            ∙ part_length catalogue (take a.line.len a.text.now) a.from c.words_on-to.result word-in1),
-        (let w : c.words_on-to.result ≤ a.line.len = omega (arith, word-in1.1, length-kept1) in w),
+            (raw_part a.text.now a.checked.line.len a.from c.words_on-to.result
+            (let w : c.words_on-to.result ≤ a.checked.line.len = omega (arith, word-in1.1, length-kept1) in w)))
+            ∙ part_length catalogue (take a.checked.line.len a.text.now) a.from c.words_on-to.result word-in1),
+        (let w : c.words_on-to.result ≤ a.checked.line.len = omega (arith, word-in1.1, length-kept1) in w),
         c.requires.ready.used,
         c.requires.ready.limit,
         c.requires.ready.log.fit.text,
@@ -67,14 +67,14 @@ write_case-n-requires c =
 pub overflow_add-behind : goal.overflow_add-behind
 overflow_add-behind c =
     let a = c.args in
-    let l = lent a.text.now a.records.now a.texts.now a.line a.log in
-    let word-in1 = word_in a.f l c.requires.ready a.from c.requires.in_text c.words_on-to.result c.words_on-to.ensures in
+    let l = lent a.text.now a.records.now a.texts.now a.checked.line a.checked.log in
+    let word-in1 = word_in a.checked.format l c.requires.ready a.from c.requires.in_text c.words_on-to.result c.words_on-to.ensures in
     omega (
       arith,
       (take_within c.write_case-n.result _
           (sym (c.write_case-n.ensures.counted ∙ ap length (sym c.write_case-n.ensures.bytes)))),
       c.write_case-n.auto.out,
-      (let w : c.words_on-to.result ≤ a.line.len = omega (arith, word-in1.1, (length-kept a.f l c.requires.ready)) in w),
+      (let w : c.words_on-to.result ≤ a.checked.line.len = omega (arith, word-in1.1, (length-kept a.checked.format l c.requires.ready)) in w),
       word-in1.0,
       c.requires.ready.used,
       c.requires.ready.limit,
@@ -94,21 +94,21 @@ slice_bounds-cut_and_put-end c = sym
 pub cut_and_put-requires : goal.cut_and_put-requires
 cut_and_put-requires c =
     let a = c.args in
-    let l = lent a.text.now a.records.now a.texts.now a.line a.log in
+    let l = lent a.text.now a.records.now a.texts.now a.checked.line a.checked.log in
     record {
       fit = c.requires.ready.log.fit;
       ready = c.requires.ready;
       last_at = c.requires.last_at;
-      all_suit = recased_suits a.f l c.requires.ready a.from c.requires.in_text c.words_on-to.result c.words_on-to.ensures
+      all_suit = recased_suits a.checked.format l c.requires.ready a.from c.requires.in_text c.words_on-to.result c.words_on-to.ensures
           a.action _
           (c.write_case-n.ensures.bytes
           ∙ ap (in_case catalogue a.action)
           (sym
-          (raw_part a.text.now a.line.len a.from c.words_on-to.result
-          (let w : c.words_on-to.result ≤ a.line.len = omega (
+          (raw_part a.text.now a.checked.line.len a.from c.words_on-to.result
+          (let w : c.words_on-to.result ≤ a.checked.line.len = omega (
             arith,
-            (word_in a.f l c.requires.ready a.from c.requires.in_text c.words_on-to.result c.words_on-to.ensures).1,
-            (length-kept a.f l c.requires.ready),
+            (word_in a.checked.format l c.requires.ready a.from c.requires.in_text c.words_on-to.result c.words_on-to.ensures).1,
+            (length-kept a.checked.format l c.requires.ready),
           ) in
           w))));
     }
@@ -116,16 +116,16 @@ cut_and_put-requires c =
 pub returns : goal.returns
 returns c =
     let a = c.args in
-    let l = lent a.text.now a.records.now a.texts.now a.line a.log in
-    recased a.f l c.requires.ready a.from c.requires.in_text c.words_on-to.result c.words_on-to.ensures a.action _
+    let l = lent a.text.now a.records.now a.texts.now a.checked.line a.checked.log in
+    recased a.checked.format l c.requires.ready a.from c.requires.in_text c.words_on-to.result c.words_on-to.ensures a.action _
     (c.write_case-n.ensures.bytes
     ∙ ap (in_case catalogue a.action)
     (sym
-    (raw_part a.text.now a.line.len a.from c.words_on-to.result
-    (let w : c.words_on-to.result ≤ a.line.len = omega (
+    (raw_part a.text.now a.checked.line.len a.from c.words_on-to.result
+    (let w : c.words_on-to.result ≤ a.checked.line.len = omega (
       arith,
-      (word_in a.f l c.requires.ready a.from c.requires.in_text c.words_on-to.result c.words_on-to.ensures).1,
-      (length-kept a.f l c.requires.ready),
+      (word_in a.checked.format l c.requires.ready a.from c.requires.in_text c.words_on-to.result c.words_on-to.ensures).1,
+      (length-kept a.checked.format l c.requires.ready),
     ) in
     w)))) _ (c.write_case-n.ensures.counted ∙ ap length (sym c.write_case-n.ensures.bytes)) _ _ _ _
     c.cut_and_put.ensures

@@ -10,12 +10,12 @@ use Rattle.edit_case.proofs.edit_word_checked.Goals as goal
 use Rattle.edit_case.proofs.edit_word_checked.Goals.{Start}
 
 abbrev lending : Start → Lent
-lending entry = let a = entry.args in lent a.text.now a.records.now a.texts.now a.line a.log
+lending entry = let a = entry.args in lent a.text.now a.records.now a.texts.now a.checked.line a.checked.log
 
 -- ---- what the check has passed
 inside : (c : Start) → let l = (lending c) in In (text_of l) l.line.cursor
     l.line.cursor
-inside c = cursor_in c.args.f (lending c) c.requires.ready
+inside c = cursor_in c.args.checked.format (lending c) c.requires.ready
 
 -- ---- a place is sought in the text
 pub slice_bounds-skip_whitespace-end-2 : goal.slice_bounds-skip_whitespace-end-2
@@ -31,25 +31,25 @@ case_from-requires c =
     record {
       ready = c.requires.ready;
       last_at = c.requires.last_at;
-      in_text = skip_in catalogue (text_of (lending here.Start)) a.action a.line.cursor _
+      in_text = skip_in catalogue (text_of (lending here.Start)) a.action a.checked.line.cursor _
           c.skip_whitespace-found.ensures
-          c.requires.ready.text (inside here.Start) _ c.in-At.is;
+          c.requires.ready.text (inside here.Start) _ c.in-Some.is;
     }
 
-pub returns-in-At : goal.returns-in-At
-returns-in-At c =
-    let here = goal.at.returns-in-At c in
+pub returns-in-Some : goal.returns-in-Some
+returns-in-Some c =
+    let here = goal.at.returns-in-Some c in
     let a = c.args in
-    plan_made a.f (lending here.Start)
-    (case_at catalogue (text_of (lending here.Start)) a.action a.line.cursor _ c.skip_whitespace-found.ensures _
-    c.in-At.is)
+    plan_made a.checked.format (lending here.Start)
+    (case_at catalogue (text_of (lending here.Start)) a.action a.checked.line.cursor _ c.skip_whitespace-found.ensures _
+    c.in-Some.is)
     c.case_from.ensures
 
-pub returns-in-Nothing : goal.returns-in-Nothing
-returns-in-Nothing c =
-    let here = goal.at.returns-in-Nothing c in
+pub returns-in-None : goal.returns-in-None
+returns-in-None c =
+    let here = goal.at.returns-in-None c in
     let a = c.args in
-    plan_made a.f (lending here.Start)
-    (case_none catalogue (text_of (lending here.Start)) a.action a.line.cursor _ c.skip_whitespace-found.ensures
-    c.in-Nothing.is)
-    (stays a.f (lending here.Start) c.requires.ready _ c.says.ensures)
+    plan_made a.checked.format (lending here.Start)
+    (case_none catalogue (text_of (lending here.Start)) a.action a.checked.line.cursor _ c.skip_whitespace-found.ensures
+    c.in-None.is)
+    (stays a.checked.format (lending here.Start) c.requires.ready _ c.says.ensures)

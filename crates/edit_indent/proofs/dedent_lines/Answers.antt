@@ -20,7 +20,7 @@ sizes c = cut_in _ c.loop-end.invariant c.end_of_line-e.ensures.0 c.deleting-d.e
 
 pub loop-end-init : goal.loop-end-init
 loop-end-init c =
-    lines_begin (lent c.args.text.now c.args.records.now c.args.texts.now c.args.line c.args.log) c.args.m true c.args.from c.args.to
+    lines_begin (lent c.args.text.now c.args.records.now c.args.texts.now c.args.checked.line c.args.checked.log) c.args.m true c.args.from c.args.to
     (c.requires.ready, (c.requires.from_le_to, (c.requires.all_suit, (c.requires.text_value, c.requires.log_value))))
 
 pub slice_bounds-end_of_line-end : goal.slice_bounds-end_of_line-end

@@ -5,14 +5,14 @@ use Rattle.edit_indent.proofs.dedent_range.Goals as goal
 use Rattle.edit_indent.proofs.dedent_range.Goals.{After-has_room, Start}
 
 abbrev asked : Start → Part
-asked s = asks (lent s.args.text.now s.args.records.now s.args.texts.now s.args.line s.args.log) s.requires.ready s.args.m s.args.from
+asked s = asks (lent s.args.text.now s.args.records.now s.args.texts.now s.args.checked.line s.args.checked.log) s.requires.ready s.args.m s.args.from
     s.args.to
     s.requires.in_text
 
-tested : (c : After-has_room) → RoomTested (asks (lent c.args.text.now c.args.records.now c.args.texts.now c.args.line c.args.log)
+tested : (c : After-has_room) → RoomTested (asks (lent c.args.text.now c.args.records.now c.args.texts.now c.args.checked.line c.args.checked.log)
     c.requires.ready c.args.m c.args.from c.args.to c.requires.in_text) true
     c.has_room.result
-tested c = dedent_tested (asks (lent c.args.text.now c.args.records.now c.args.texts.now c.args.line c.args.log) c.requires.ready c.args.m
+tested c = dedent_tested (asks (lent c.args.text.now c.args.records.now c.args.texts.now c.args.checked.line c.args.checked.log) c.requires.ready c.args.m
     c.args.from c.args.to c.requires.in_text) c.requires.not_split c.count_cuts-n.ensures.0 c.count_cuts-n.ensures.1 c.has_room.ensures
 
 pub slice_bounds-count_cuts-end : goal.slice_bounds-count_cuts-end
@@ -28,7 +28,7 @@ has_room-requires c =
 
 pub returns-then-not-has_room : goal.returns-then-not-has_room
 returns-then-not-has_room c =
-    full _ (tested (goal.at.returns-then-not-has_room c).After-has_room) c.if-not-has_room.true c.says.ensures
+    full _ (tested (goal.at.returns-then-not-has_room c).After-has_room) c.if-not-has_room.true c.refused.ensures
 
 pub dedent_lines-requires : goal.dedent_lines-requires
 dedent_lines-requires c =

@@ -21,7 +21,7 @@ indented-cursor-requires c =
 
 pub loop-left-init : goal.loop-left-init
 loop-left-init c = opens
-    (lines_begin (lent c.args.text.now c.args.records.now c.args.texts.now c.args.line c.args.log) c.args.m false c.args.from
+    (lines_begin (lent c.args.text.now c.args.records.now c.args.texts.now c.args.checked.line c.args.checked.log) c.args.m false c.args.from
     c.args.to (c.requires.ready, (c.requires.from_le_to, (c.requires.all_suit, (c.requires.text_value, c.requires.log_value)))))
     (omega arith) c.indented-cursor.ensures
 

@@ -7,15 +7,15 @@ use Rattle.edit_indent.proofs.indent_range.Goals as goal
 use Rattle.edit_indent.proofs.indent_range.Goals.{After-has_room, Start}
 
 abbrev asked : Start → Part
-asked s = asks (lent s.args.text.now s.args.records.now s.args.texts.now s.args.line s.args.log) s.requires.ready s.args.m s.args.from
+asked s = asks (lent s.args.text.now s.args.records.now s.args.texts.now s.args.checked.line s.args.checked.log) s.requires.ready s.args.m s.args.from
     s.args.to
     s.requires.in_text
 
-tested : (c : After-has_room) → RoomTested (asks (lent c.args.text.now c.args.records.now c.args.texts.now c.args.line c.args.log)
+tested : (c : After-has_room) → RoomTested (asks (lent c.args.text.now c.args.records.now c.args.texts.now c.args.checked.line c.args.checked.log)
     c.requires.ready c.args.m c.args.from c.args.to c.requires.in_text)
     false c.has_room.result
-tested c = indent_tested (asks (lent c.args.text.now c.args.records.now c.args.texts.now c.args.line c.args.log) c.requires.ready c.args.m
-    c.args.from c.args.to c.requires.in_text) c.requires.m_bound c.count_lines-k.ensures c.if-text-line.false c.has_room.ensures
+tested c = indent_tested (asks (lent c.args.text.now c.args.records.now c.args.texts.now c.args.checked.line c.args.checked.log) c.requires.ready c.args.m
+    c.args.from c.args.to c.requires.in_text) c.requires.m_bound c.count_lines-k.ensures c.if-text-checked.false c.has_room.ensures
 
 pub slice_bounds-count_lines-end : goal.slice_bounds-count_lines-end
 slice_bounds-count_lines-end c = (to-within (asked (goal.at.slice_bounds-count_lines-end c).Start)).1
@@ -24,10 +24,10 @@ pub overflow_mul-k : goal.overflow_mul-k
 overflow_mul-k c =
     omega (arith, (lines_few (asked (goal.at.overflow_mul-k c).Start) c.requires.m_bound c.count_lines-k.ensures).1)
 
-pub returns-then-text-line : goal.returns-then-text-line
-returns-then-text-line c =
-    indent_long (asked (goal.at.returns-then-text-line c).Start) c.requires.m_bound c.count_lines-k.ensures c.if-text-line.true
-    c.says.ensures
+pub returns-then-text-checked : goal.returns-then-text-checked
+returns-then-text-checked c =
+    indent_long (asked (goal.at.returns-then-text-checked c).Start) c.requires.m_bound c.count_lines-k.ensures c.if-text-checked.true
+    c.refused.ensures
 
 pub overflow_mul-k-2 : goal.overflow_mul-k-2
 overflow_mul-k-2 c =
@@ -43,7 +43,7 @@ has_room-requires c =
 
 pub returns-then-not-has_room : goal.returns-then-not-has_room
 returns-then-not-has_room c =
-    full _ (tested (goal.at.returns-then-not-has_room c).After-has_room) c.if-not-has_room.true c.says-then-not-has_room.ensures
+    full _ (tested (goal.at.returns-then-not-has_room c).After-has_room) c.if-not-has_room.true c.refused-then-not-has_room.ensures
 
 pub indent_lines-requires : goal.indent_lines-requires
 indent_lines-requires c =

@@ -1,115 +1,75 @@
+use mathlib.Core.Path.{◌≡◌, ap, ◌∙◌}
+use mathlib.Core.List.{List, ◌∷◌}
 use native.Mathlib.Omega.{arith}
+use Prim.Native.Nat.{ℕ, ◌+◌}
+use Rattle.std.proofs.Common.{rules}
+use Rattle.std.specs.Iterator.{AlwaysYields}
+use Rattle.std.proofs.lemmas.Iterator.{YieldsList}
+use Rattle.std.specs.List.{slice_split}
+use Rattle.std.specs.Slice.Iter.{split_rest, split_done, split_callee}
+use Rattle.std.proofs.lemmas.Iterator.Splits.{YieldsList-from_slice_split}
 use Rattle.repertoire.specs.Repertoire.{catalogue}
-use Rattle.edit_indent_plans.proofs.Walks.{line_in, line-width, one_some, one_none, cuts_last, cuts_more}
+use Rattle.motion_lines.specs.Lines.{newline}
+use Rattle.edit_indent_plans.specs.Touched.{split_lines}
+use Rattle.edit_indent_plans.specs.Counts.{cuts_in, bytes_in}
+use Rattle.edit_indent_plans.proofs.Newlines.{lines_split}
+use Rattle.edit_indent_plans.proofs.Cuts.{one_line, no_line, cut_some, cut_none, cut_bytes, cuts_most, bytes_most, none_left}
+use Rattle.edit_indent_plans.proofs.count_cuts.Given as given
 use Rattle.edit_indent_plans.proofs.count_cuts.Goals as goal
-use Rattle.edit_indent_plans.proofs.count_cuts.Goals.{else-d-gt0, then-d-gt0}
+use Rattle.edit_indent_plans.proofs.count_cuts.Goals.{In-Some, else-d-gt0, then-d-gt0}
 
-pub loop-records-init : goal.loop-records-init
-loop-records-init c = (omega arith, omega arith, omega arith, omega arith, omega arith)
+pub loop-line-init : goal.loop-line-init
+loop-line-init c =
+    let p = c.args.p.now in
+    let q = c.into_iter-line-iterator.ensures.into_iter_gives in
+    let gives : YieldsList given.iterator-loop-line.next_gives (λ x. x.now) c.into_iter-line-iterator.result (slice_split newline p) =
+    YieldsList-from_slice_split _ newline p (ap split_rest q ∙ c.split-line-items.ensures.rest)
+    (ap split_done q ∙ c.split-line-items.ensures.done) (ap split_callee q ∙ c.split-line-items.ensures.closure)
+    (λ x b q k. search rules) in
+    (split_lines p, rw (lines_split p) gives.runs, omega arith, omega arith)
 
-pub end_of_line-e-requires : goal.end_of_line-e-requires
-end_of_line-e-requires c = c.loop-records.invariant.0
-
-pub slice_bounds-deleting-count : goal.slice_bounds-deleting-count
-slice_bounds-deleting-count c =
-    omega (arith, line_in c.args.p.now c.loop-records.i c.end_of_line-e.result c.loop-records.invariant.0 c.end_of_line-e.ensures.0)
+-- the lines that follow the turn's
+turned : (c : In-Some) → (zs : List (List ℕ)) × (c.loop-line.invariant.0 ≡ c.in-Some.line.now ∷ zs)
+    × AlwaysYields given.iterator-loop-line.next_gives (λ x. x.now) c.next.new.self zs
+turned c = one_line given.iterator-loop-line.next_gives c.loop-line.invariant.0 c.loop-line.line-iterator c.next.new.self c.next.result
+    c.in-Some.line c.loop-line.invariant.1 c.next.ensures.steps c.in-Some.is
 
 pub overflow_add-records : goal.overflow_add-records
-overflow_add-records c = omega (
-  arith,
-  line_in c.args.p.now c.loop-records.i c.end_of_line-e.result c.loop-records.invariant.0
-      c.end_of_line-e.ensures.0,
-  c.loop-records.invariant.1,
-)
+overflow_add-records c =
+    let a = c.args in
+    let z = turned (goal.at.overflow_add-records c).In-Some in
+    let n = cut_some catalogue a.m c.in-Some.line.now z.0 c.deleting-d.result c.deleting-d.ensures.0 c.if-d-gt0.true in
+    omega (arith, c.loop-line.invariant.2, ap (cuts_in catalogue a.m) z.1, n, cuts_most catalogue a.m a.p.now)
 
 pub overflow_add-bytes : goal.overflow_add-bytes
-overflow_add-bytes c = omega (
-  arith,
-  line_in c.args.p.now c.loop-records.i c.end_of_line-e.result c.loop-records.invariant.0
-      c.end_of_line-e.ensures.0,
-  c.loop-records.invariant.2,
-  c.deleting-d.ensures.1,
-  line-width c.args.p.now c.loop-records.i c.end_of_line-e.result c.loop-records.invariant.0
-      c.end_of_line-e.ensures.0,
-)
-
-pub returns-then-e-p : goal.returns-then-e-p
-returns-then-e-p c =
+overflow_add-bytes c =
     let a = c.args in
-    let cuts-last1 = cuts_last a.p.now c.loop-records.i c.end_of_line-e.result c.loop-records.invariant.0
-    c.end_of_line-e.ensures.0 catalogue a.m c.deleting-d.result c.deleting-d.ensures.0 c.if-e-p.true in
-    elim c.if-d-gt0.branch [
-      | then-d-gt0 w ↦ (
-        omega (
-          arith,
-          cuts-last1.0,
-          one_some a.p.now c.loop-records.i c.end_of_line-e.result c.loop-records.invariant.0 c.end_of_line-e.ensures.0
-              catalogue a.m c.deleting-d.result c.deleting-d.ensures.0 w.if-d-gt0.true,
-          c.loop-records.invariant.3,
-        ),
-        omega (arith, cuts-last1.1, c.loop-records.invariant.4),
-      )
-      | else-d-gt0 w ↦ (
-        omega (
-          arith,
-          cuts-last1.0,
-          one_none a.p.now c.loop-records.i c.end_of_line-e.result c.loop-records.invariant.0 c.end_of_line-e.ensures.0
-              catalogue a.m c.deleting-d.result c.deleting-d.ensures.0 w.if-d-gt0.false,
-          c.loop-records.invariant.3,
-        ),
-        omega (arith, cuts-last1.1, c.loop-records.invariant.4),
-      )
-    ]
+    let z = turned (goal.at.overflow_add-bytes c).In-Some in
+    let n = cut_bytes catalogue a.m c.in-Some.line.now z.0 c.deleting-d.result c.deleting-d.ensures.0 in
+    omega (arith, c.loop-line.invariant.3, ap (bytes_in catalogue a.m) z.1, n, bytes_most catalogue a.m a.p.now)
 
-pub overflow_add-i : goal.overflow_add-i
-overflow_add-i c = omega (
-  arith,
-  line_in c.args.p.now c.loop-records.i c.end_of_line-e.result c.loop-records.invariant.0
-      c.end_of_line-e.ensures.0,
-)
-
-pub loop-records-smaller : goal.loop-records-smaller
-loop-records-smaller c = omega (
-  arith,
-  line_in c.args.p.now c.loop-records.i c.end_of_line-e.result c.loop-records.invariant.0
-      c.end_of_line-e.ensures.0,
-  c.if-e-p.false,
-)
-
-pub loop-records-preserved : goal.loop-records-preserved
-loop-records-preserved c =
+pub loop-line-preserved : goal.loop-line-preserved
+loop-line-preserved c =
     let a = c.args in
-    let line-in1 = line_in a.p.now c.loop-records.i c.end_of_line-e.result c.loop-records.invariant.0
-    c.end_of_line-e.ensures.0 in
-    let g = cuts_more a.p.now c.loop-records.i c.end_of_line-e.result c.loop-records.invariant.0 c.end_of_line-e.ensures.0
-    catalogue a.m c.deleting-d.result c.deleting-d.ensures.0 (omega (arith, line-in1, c.if-e-p.false)) in
-    let line-width1 = line-width a.p.now c.loop-records.i c.end_of_line-e.result c.loop-records.invariant.0
-    c.end_of_line-e.ensures.0 in
+    let z = turned (goal.at.loop-line-preserved c).In-Some in
+    let line = c.in-Some.line.now in
+    let d = c.deleting-d.result in
+    let n = cut_bytes catalogue a.m line z.0 d c.deleting-d.ensures.0 in
+    let records : c.if-d-gt0.records + cuts_in catalogue a.m z.0 ≡ c.loop-line.records + cuts_in catalogue a.m (line ∷ z.0) =
     elim c.if-d-gt0.branch [
-      | then-d-gt0 w ↦ (
-        omega (arith, line-in1, c.if-e-p.false),
-        omega (arith, line-in1, c.loop-records.invariant.1),
-        omega (arith, line-in1, c.loop-records.invariant.2, c.deleting-d.ensures.1, line-width1),
-        omega (
-          arith,
-          g.0,
-          one_some a.p.now c.loop-records.i c.end_of_line-e.result c.loop-records.invariant.0 c.end_of_line-e.ensures.0
-              catalogue a.m c.deleting-d.result c.deleting-d.ensures.0 w.if-d-gt0.true,
-          c.loop-records.invariant.3,
-        ),
-        omega (arith, g.1, c.loop-records.invariant.4),
-      )
-      | else-d-gt0 w ↦ (
-        omega (arith, line-in1, c.if-e-p.false),
-        omega (arith, line-in1, c.loop-records.invariant.1),
-        omega (arith, line-in1, c.loop-records.invariant.2, c.deleting-d.ensures.1, line-width1),
-        omega (
-          arith,
-          g.0,
-          one_none a.p.now c.loop-records.i c.end_of_line-e.result c.loop-records.invariant.0 c.end_of_line-e.ensures.0
-              catalogue a.m c.deleting-d.result c.deleting-d.ensures.0 w.if-d-gt0.false,
-          c.loop-records.invariant.3,
-        ),
-        omega (arith, g.1, c.loop-records.invariant.4),
-      )
-    ]
+      | then-d-gt0 w ↦ omega (arith, w.records-is, cut_some catalogue a.m line z.0 d c.deleting-d.ensures.0 w.if-d-gt0.true)
+      | else-d-gt0 w ↦ omega (arith, w.records-is, cut_none catalogue a.m line z.0 d c.deleting-d.ensures.0 w.if-d-gt0.false)
+    ] in (
+      z.0,
+      z.2,
+      omega (arith, records, ap (cuts_in catalogue a.m) z.1, c.loop-line.invariant.2),
+      omega (arith, n, ap (bytes_in catalogue a.m) z.1, c.loop-line.invariant.3),
+    )
+
+pub returns : goal.returns
+returns c =
+    let i = c.loop-line.invariant in
+    let e = no_line given.iterator-loop-line.next_gives i.0 c.loop-line.line-iterator c.next.new.self c.next.result i.1
+    c.next.ensures.steps c.in-None.is in
+    let n = none_left catalogue c.args.m e in
+    (omega (arith, n.0, i.2), omega (arith, n.1, i.3))

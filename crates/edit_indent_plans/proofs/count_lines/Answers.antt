@@ -1,41 +1,17 @@
-use mathlib.Core.Path.{refl, ◌∙◌}
-use native.Mathlib.Omega.{arith}
-use Rattle.lists.proofs.Parts.{get_or_any}
-use Rattle.edit_indent_plans.proofs.Newlines.{count-newline, count_other, count-end}
+use mathlib.Core.Path.{sym, ap, ◌∙◌}
+use mathlib.Core.List.{List}
+use Prim.Native.Nat.{ℕ}
+use lib.ListN.{length}
+use Rattle.std.proofs.Common.{rules}
+use Rattle.std.proofs.lemmas.Iterator.Consumers.{count_from_yields_List}
+use Rattle.std.proofs.lemmas.Iterator.Splits.{YieldsList-from_slice_split}
+use Rattle.motion_lines.specs.Lines.{newline}
+use Rattle.edit_indent_plans.proofs.Newlines.{lines_split}
 use Rattle.edit_indent_plans.proofs.count_lines.Goals as goal
-use Rattle.edit_indent_plans.proofs.count_lines.Goals.{else-p-i-eq10, then-p-i-eq10}
-
-pub loop-i-init : goal.loop-i-init
-loop-i-init c = (omega arith, omega arith, refl)
-
-pub overflow_add-n : goal.overflow_add-n
-overflow_add-n c = omega (arith, c.loop-i.invariant.1, c.loop-i-test.true)
-
-pub loop-i-preserved : goal.loop-i-preserved
-loop-i-preserved c =
-    let a = c.args in
-    elim c.if-p-i-eq10.branch [
-      | then-p-i-eq10 w ↦ (
-        omega (arith, c.loop-i-test.true),
-        omega (arith, c.loop-i.invariant.1),
-        omega (
-          arith,
-          c.loop-i.invariant.2,
-          count-newline a.p.now c.loop-i.i c.loop-i-test.true
-              (get_or_any a.p.now c.loop-i.i 256 0 c.loop-i-test.true ∙ w.if-p-i-eq10.true),
-        ),
-      )
-      | else-p-i-eq10 w ↦ (
-        omega (arith, c.loop-i-test.true),
-        omega (arith, c.loop-i.invariant.1),
-        omega (
-          arith,
-          c.loop-i.invariant.2,
-          count_other a.p.now c.loop-i.i c.loop-i-test.true
-              (λ x. w.if-p-i-eq10.false (get_or_any a.p.now c.loop-i.i 0 256 c.loop-i-test.true ∙ x)),
-        ),
-      )
-    ]
 
 pub returns : goal.returns
-returns c = omega (arith, c.loop-i.invariant.2, count-end c.args.p.now c.loop-i.i c.loop-i-test.false)
+returns c =
+    count_from_yields_List _ _ c.count.ensures.ran
+    (YieldsList-from_slice_split _ newline c.args.p.now c.split.ensures.rest c.split.ensures.done c.split.ensures.closure
+    (λ x b q k. search rules))
+    ∙ ap (λ (xs : List (List ℕ)). length xs) (sym (lines_split c.args.p.now))

@@ -1,9 +1,9 @@
+use mathlib.Core.Bool.{not}
 use mathlib.Core.Bool.{false}
 use Rattle.lists.proofs.Bools.{never}
 use native.Mathlib.Omega.{arith}
-use mathlib.Core.Path.{refl, sym, ◌∙◌}
+use mathlib.Core.Path.{refl, sym, ◌∙◌, ap}
 use lib.ListN.{length}
-use borrow.Author.Tests.{not-true, not-false}
 use Rattle.lists.proofs.Parts.{none_left}
 use Rattle.repertoire.specs.Repertoire.{catalogue}
 use Rattle.repertoire.proofs.Text.{text_nil}
@@ -23,8 +23,8 @@ overflow_mul-size c =
 pub returns-then-text-len : goal.returns-then-text-len
 returns-then-text-len c =
     let a = c.args in
-    copies_long a.f (lent a.text.now a.records.now a.texts.now a.line a.log) c.requires.ready a.s.now a.n _ c.if-text-len.true
-    c.says.ensures
+    copies_long a.checked.format (lent a.text.now a.records.now a.texts.now a.checked.line a.checked.log) c.requires.ready a.s.now a.n _ c.if-text-len.true
+    c.refused.ensures
 
 pub put_in-requires : goal.put_in-requires
 put_in-requires c =
@@ -32,32 +32,32 @@ put_in-requires c =
     record {
       fit = c.requires.ready.log.fit;
       ready = c.requires.ready;
-      in_text = cursor_in a.f (lent a.text.now a.records.now a.texts.now a.line a.log) c.requires.ready;
+      in_text = cursor_in a.checked.format (lent a.text.now a.records.now a.texts.now a.checked.line a.checked.log) c.requires.ready;
       new_text = text_nil catalogue;
     }
 
 pub returns-then-size-eq0 : goal.returns-then-size-eq0
 returns-then-size-eq0 c =
     let a = c.args in
-    copies-put a.f (lent a.text.now a.records.now a.texts.now a.line a.log) _ _ _ _ _ _ a.s.now a.n
+    copies-put a.checked.format (lent a.text.now a.records.now a.texts.now a.checked.line a.checked.log) _ _ _ _ _ _ a.s.now a.n
     (sym (none_left (copies a.n a.s.now) (copies_length a.n a.s.now ∙ c.if-size-eq0.true))) refl c.put_in.ensures
 
-pub room_put-room-requires : goal.room_put-room-requires
-room_put-room-requires c =
+pub room_put-requires : goal.room_put-requires
+room_put-requires c =
     let a = c.args in
     record {
       fit = c.requires.ready.log.fit;
-      in_range = copies_in_range a.f (lent a.text.now a.records.now a.texts.now a.line a.log) c.requires.ready a.s.now c.requires.s_value
+      in_range = copies_in_range a.checked.format (lent a.text.now a.records.now a.texts.now a.checked.line a.checked.log) c.requires.ready a.s.now c.requires.s_value
           a.n
           c.if-text-len.false _ c.room_now-now.ensures;
     }
 
-pub returns-then-not-room : goal.returns-then-not-room
-returns-then-not-room c =
+pub returns-then-is_none : goal.returns-then-is_none
+returns-then-is_none c =
     let a = c.args in
-    copies_full a.f (lent a.text.now a.records.now a.texts.now a.line a.log) c.requires.ready a.s.now c.requires.s_value a.n
+    copies_full a.checked.format (lent a.text.now a.records.now a.texts.now a.checked.line a.checked.log) c.requires.ready a.s.now c.requires.s_value a.n
     c.if-text-len.false
-    _ c.room_now-now.ensures _ c.room_put-room.ensures (not-true _ c.if-not-room.true) _ c.says-then-not-room.ensures
+    _ c.room_now-now.ensures _ c.room_put.ensures (c.is_none.ensures ∙ ap not c.if-is_none.true) _ c.refused-then-is_none.ensures
 
 pub insert_copies-requires : goal.insert_copies-requires
 insert_copies-requires c = (c.requires.ready.within, omega (arith, c.if-text-len.false, c.requires.ready.used))
@@ -74,9 +74,9 @@ record-a-requires c =
       ready = c.requires.ready.log;
       last_at = (λ e. never _ false e refl);
       numbered = record { kind = refl; place = refl; old = refl; new = refl };
-      ok = new-text a.f (lent a.text.now a.records.now a.texts.now a.line a.log) c.requires.ready a.s.now c.requires.s_value
-          a.n c.if-text-len.false _ c.room_now-now.ensures _ c.room_put-room.ensures
-          (not-false _ c.if-not-room.false) c.if-size-eq0.false _ c.insert_copies.ensures;
+      ok = new-text a.checked.format (lent a.text.now a.records.now a.texts.now a.checked.line a.checked.log) c.requires.ready a.s.now c.requires.s_value
+          a.n c.if-text-len.false _ c.room_now-now.ensures _ c.room_put.ensures
+          (c.is_none.ensures ∙ ap not c.if-is_none.false) c.if-size-eq0.false _ c.insert_copies.ensures;
     }
 
 pub overflow_add-made : goal.overflow_add-made
@@ -86,7 +86,7 @@ overflow_add-made c =
 pub returns : goal.returns
 returns c =
     let a = c.args in
-    copies-made a.f (lent a.text.now a.records.now a.texts.now a.line a.log) c.requires.ready a.s.now c.requires.s_value a.n
+    copies-made a.checked.format (lent a.text.now a.records.now a.texts.now a.checked.line a.checked.log) c.requires.ready a.s.now c.requires.s_value a.n
     c.if-text-len.false
-    _ c.room_now-now.ensures _ c.room_put-room.ensures (not-false _ c.if-not-room.false) c.if-size-eq0.false _
-    c.insert_copies.ensures _ _ _ c.record-a.ensures _ c.says-2.ensures
+    _ c.room_now-now.ensures _ c.room_put.ensures (c.is_none.ensures ∙ ap not c.if-is_none.false) c.if-size-eq0.false _
+    c.insert_copies.ensures _ _ _ c.record-a.ensures _ c.says.ensures

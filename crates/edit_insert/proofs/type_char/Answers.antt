@@ -21,12 +21,12 @@ change-requires c =
       ready = c.requires.ready;
       from_le_to = (omega arith, c.requires.ready.within);
       last_at = (λ e. c.requires.last_at);
-      numbered = an_insert (take a.line.len a.text.now) a.line.cursor a.s.now;
+      numbered = an_insert (take a.checked.line.len a.text.now) a.checked.line.cursor a.s.now;
       ok = ap (is_text catalogue) c.requires.s_value ∙ typed-text a.ch c.requires.ch_value;
     }
 
 pub returns : goal.returns
 returns c =
     let a = c.args in
-    char-put a.f (lent a.text.now a.records.now a.texts.now a.line a.log) a.s.now (length a.s.now) _ _ _ _ a.ch
+    char-put a.checked.format (lent a.text.now a.records.now a.texts.now a.checked.line a.checked.log) a.s.now (length a.s.now) _ _ _ _ a.ch
     c.is_alnum.result c.is_alnum.ensures c.requires.s_value refl c.change.ensures

@@ -9,14 +9,14 @@ use Rattle.edit_insert.proofs.yank_checked.Goals.{Start}
 
 -- ---- at the start: what is lent
 abbrev lending : Start → Lent
-lending s = let a = s.args in lent a.text.now a.records.now a.texts.now a.line a.log
+lending s = let a = s.args in lent a.text.now a.records.now a.texts.now a.checked.line a.checked.log
 
 pub returns-then-buf-eq0 : goal.returns-then-buf-eq0
 returns-then-buf-eq0 c =
     let here = goal.at.returns-then-buf-eq0 c in
     let a = c.args in
-    plan_made a.f (lending here.Start) (plan_empty a.line.cursor a.buf.now a.n c.if-buf-eq0.true)
-    (stays a.f (lending here.Start) c.requires.ready _ c.says.ensures)
+    plan_made a.checked.format (lending here.Start) (plan_empty a.checked.line.cursor a.buf.now a.n c.if-buf-eq0.true)
+    (stays a.checked.format (lending here.Start) c.requires.ready _ c.says.ensures)
 
 pub put_copies-requires : goal.put_copies-requires
 put_copies-requires c = record {
@@ -27,7 +27,7 @@ put_copies-requires c = record {
     omega (
       arith,
       c.requires.buf_in_bounds,
-      text-most c.args.f (lending (goal.at.put_copies-requires c).Start)
+      text-most c.args.checked.format (lending (goal.at.put_copies-requires c).Start)
           c.requires.ready,
     ),
     omega arith,
@@ -37,4 +37,5 @@ put_copies-requires c = record {
 pub returns : goal.returns
 returns c =
     let a = c.args in
-    plan_made a.f (lending (goal.at.returns c).Start) (plan_some a.line.cursor a.buf.now a.n c.if-buf-eq0.false) c.put_copies.ensures
+    plan_made a.checked.format (lending (goal.at.returns c).Start) (plan_some a.checked.line.cursor a.buf.now a.n c.if-buf-eq0.false)
+    (rw c.from.ensures at c.put_copies.ensures)

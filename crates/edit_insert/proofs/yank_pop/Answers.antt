@@ -5,72 +5,55 @@ use lib.ListN.{length}
 use Rattle.utf8.specs.Chars.{boundary}
 use Rattle.repertoire.specs.Repertoire.{catalogue}
 use Rattle.repertoire.specs.Text.{is_text}
-use Rattle.log_records.proofs.Walks.{newest_last}
-use Rattle.formats.specs.declared.Format.{Format}
 use Rattle.formats.proofs.Formats.{fit_for}
-use Rattle.edit.specs.Plan.{Plan}
-use Rattle.edit.specs.Calls.{Lent, lent, text_of, checked}
+use Rattle.checks.proofs.Refusals.{never-passes}
+use Rattle.edit.specs.Calls.{lent, text_of}
 use Rattle.edit.proofs.Called.{call_refused, call_made}
 use Rattle.edit_insert.specs.Inserts.{yank_pop_plan}
-use Rattle.edit_insert.proofs.Twice.{pop_tests, as_pop, pop_passed}
+use Rattle.edit_insert.proofs.Twice.{as_pop, pop_passed}
+use Rattle.edit_insert.proofs.yank_pop.Goals.{In-Ok}
 use Rattle.edit_insert.proofs.yank_pop.Goals as goal
-use Rattle.edit_insert.proofs.yank_pop.Goals.{After-check-c, Else-c-ne0}
 
--- ---- where the check is made: the format, what is lent, the plan, and the number
-abbrev format : After-check-c → Format
-format c = c.format_for-f.result
+pub admit-requires : goal.admit-requires
+admit-requires c = fit_for _ c.format_for-f.ensures
 
-abbrev lending : After-check-c → Lent
-lending c = let a = c.args in lent a.text.now a.records.now a.texts.now a.line a.log
+pub returns-in-Err : goal.returns-in-Err
+returns-in-Err c =
+    let a = c.args in
+    let l = lent a.text.now a.records.now a.texts.now a.line a.log in
+    call_refused l _ (yank_pop_plan a.line.cursor a.size a.buf.now) c.format_for-f.ensures
+    (as_pop c.format_for-f.result l a.size a.buf.now c.back-at.ensures c.in-Err.ensures.number c.check_text.ensures c.is_split-split.ensures)
+    (never-passes c.in-Err.why) c.refused.ensures
 
-abbrev plan : After-check-c → Plan
-plan c = let a = c.args in yank_pop_plan a.line.cursor a.size a.buf.now
-
-number : (c : After-check-c)
-    → let a = c.args in checked catalogue c.format_for-f.result
-    (lending c)
-    (pop_tests c.format_for-f.result (lending c) a.size a.buf.now)
-    ≡ c.check-c.result.number
-number c = let a = c.args in
-    as_pop c.format_for-f.result (lending c) a.size a.buf.now
-    c.back-at.ensures c.check-c.ensures.number
-    c.check_text.ensures c.is_split-split.ensures
-
--- ---- where it has passed
-passed : (c : Else-c-ne0)
+-- ---- where the checks have passed
+passed : (c : In-Ok)
     → let a = c.args in (is_text catalogue a.buf.now ≡ true)
     × (length a.buf.now ≤ length a.text.now) × (a.size ≤ a.line.cursor)
-    × (boundary (text_of (let a = c.args in lent a.text.now a.records.now a.texts.now a.line a.log)) (a.line.cursor - a.size) ≡ true)
-passed c = let a = c.args in
-    pop_passed c.format_for-f.result (let a = c.args in lent a.text.now a.records.now a.texts.now a.line a.log) a.size a.buf.now
-    ((let a = c.args in as_pop c.format_for-f.result (let a = c.args in lent a.text.now a.records.now a.texts.now a.line a.log)
-    a.size a.buf.now c.back-at.ensures c.check-c.ensures.number c.check_text.ensures c.is_split-split.ensures) ∙ c.if-c-ne0.false)
+    × (boundary (text_of (lent a.text.now a.records.now a.texts.now a.line a.log)) (a.line.cursor - a.size) ≡ true)
+passed c =
+    let a = c.args in
+    let l = lent a.text.now a.records.now a.texts.now a.line a.log in
+    pop_passed c.format_for-f.result l a.size a.buf.now
+    (as_pop c.format_for-f.result l a.size a.buf.now c.back-at.ensures c.in-Ok.ensures.number c.check_text.ensures c.is_split-split.ensures)
 
-pub check-c-requires : goal.check-c-requires
-check-c-requires c = fit_for _ c.format_for-f.ensures
+pub yank_pop_checked-requires-clause-buf_value : goal.yank_pop_checked-requires-clause-buf_value
+yank_pop_checked-requires-clause-buf_value c = (passed (goal.at.yank_pop_checked-requires-clause-buf_value c).In-Ok).0
 
-pub returns-then-c-ne0 : goal.returns-then-c-ne0
-returns-then-c-ne0 c =
-    let here = goal.at.returns-then-c-ne0 c in
-    call_refused (lending here.After-check-c) _ (plan here.After-check-c)
-    c.format_for-f.ensures (number here.After-check-c) c.if-c-ne0.true c.says.ensures
+pub yank_pop_checked-requires-clause-buf_in_bounds : goal.yank_pop_checked-requires-clause-buf_in_bounds
+yank_pop_checked-requires-clause-buf_in_bounds c = (passed (goal.at.yank_pop_checked-requires-clause-buf_in_bounds c).In-Ok).1
 
-pub yank_pop_checked-requires : goal.yank_pop_checked-requires
-yank_pop_checked-requires c =
-    let here = goal.at.yank_pop_checked-requires c in
-    record {
-      ready = c.check-c.ensures.ready c.if-c-ne0.false;
-      last_at = newest_last catalogue (format here.After-check-c) _ _
-          (c.check-c.ensures.newest c.if-c-ne0.false);
-      buf_value = (passed here.Else-c-ne0).0;
-      buf_in_bounds = (passed here.Else-c-ne0).1;
-      size_le_cursor = (passed here.Else-c-ne0).2;
-      size_value = (passed here.Else-c-ne0).3;
-    }
+pub yank_pop_checked-requires-clause-size_le_cursor : goal.yank_pop_checked-requires-clause-size_le_cursor
+yank_pop_checked-requires-clause-size_le_cursor c =
+    rw c.in-Ok.ensures.passes.same (passed (goal.at.yank_pop_checked-requires-clause-size_le_cursor c).In-Ok).2
+
+pub yank_pop_checked-requires-clause-size_value : goal.yank_pop_checked-requires-clause-size_value
+yank_pop_checked-requires-clause-size_value c =
+    rw c.in-Ok.ensures.passes.same (passed (goal.at.yank_pop_checked-requires-clause-size_value c).In-Ok).3
 
 pub returns : goal.returns
 returns c =
-    let here = goal.at.returns c in
-    call_made (lending here.After-check-c) _ (plan here.After-check-c) c.format_for-f.ensures
-    (number here.After-check-c) c.if-c-ne0.false refl
-    c.yank_pop_checked.ensures
+    let a = c.args in
+    let l = lent a.text.now a.records.now a.texts.now a.line a.log in
+    call_made l _ (yank_pop_plan a.line.cursor a.size a.buf.now) c.format_for-f.ensures
+    (as_pop c.format_for-f.result l a.size a.buf.now c.back-at.ensures c.in-Ok.ensures.number c.check_text.ensures c.is_split-split.ensures)
+    refl refl (rw c.in-Ok.ensures.passes.same at c.yank_pop_checked.ensures)

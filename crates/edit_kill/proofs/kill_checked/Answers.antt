@@ -14,11 +14,11 @@ use Rattle.edit_kill.proofs.kill_checked.Goals.{Start}
 
 -- ---- at the start: what is lent
 abbrev lending : Start → Lent
-lending s = let a = s.args in lent a.text.now a.records.now a.texts.now a.line a.log
+lending s = let a = s.args in lent a.text.now a.records.now a.texts.now a.checked.line a.checked.log
 
 inside : (s : Start) → let l = (lending s) in In (text_of l) l.line.cursor
     l.line.cursor
-inside s = cursor_in s.args.f (lending s) s.requires.ready
+inside s = cursor_in s.args.checked.format (lending s) s.requires.ready
 
 is-valid : (s : Start) → valid (text_of (lending s)) ≡ true
 is-valid s = text-valid catalogue (text_of (lending s))
@@ -43,20 +43,20 @@ cut_out-requires c =
       fit = c.requires.ready.log.fit;
       ready = c.requires.ready;
       in_text = kill_in catalogue (text_of (lending here.Start)) (is-valid here.Start)
-          c.in-Places.a c.in-Places.b a.line.cursor
+          c.in-Some.cut.start c.in-Some.cut.end a.checked.line.cursor
           (inside here.Start).2 (inside here.Start).1 a.m
-          (sym c.kill_range-r.ensures ∙ c.in-Places.is);
+          (sym c.kill_range-r.ensures ∙ c.in-Some.is);
       last_at = (λ e. c.requires.last_at);
     }
 
-pub returns-in-Places : goal.returns-in-Places
-returns-in-Places c = plan_made c.args.f (lending (goal.at.returns-in-Places c).Start)
-    (ap (cut_plan c.args.line.cursor) (sym c.in-Places.is ∙ c.kill_range-r.ensures))
+pub returns-in-Some : goal.returns-in-Some
+returns-in-Some c = plan_made c.args.checked.format (lending (goal.at.returns-in-Some c).Start)
+    (ap (cut_plan c.args.checked.line.cursor) (sym c.in-Some.is ∙ c.kill_range-r.ensures))
     c.cut_out.ensures
 
-pub returns-in-Nowhere : goal.returns-in-Nowhere
-returns-in-Nowhere c =
-    let here = goal.at.returns-in-Nowhere c in
-    plan_made c.args.f (lending here.Start)
-    (ap (cut_plan c.args.line.cursor) (sym c.in-Nowhere.is ∙ c.kill_range-r.ensures))
-    (stays c.args.f (lending here.Start) c.requires.ready _ c.says.ensures)
+pub returns-in-None : goal.returns-in-None
+returns-in-None c =
+    let here = goal.at.returns-in-None c in
+    plan_made c.args.checked.format (lending here.Start)
+    (ap (cut_plan c.args.checked.line.cursor) (sym c.in-None.is ∙ c.kill_range-r.ensures))
+    (stays c.args.checked.format (lending here.Start) c.requires.ready _ c.says.ensures)

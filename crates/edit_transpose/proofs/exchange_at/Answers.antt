@@ -18,7 +18,7 @@ use Rattle.edit_transpose.proofs.exchange_at.Goals as goal
 use Rattle.edit_transpose.proofs.exchange_at.Goals.{After-insert_bytes, After-on_from-q, Start}
 
 abbrev lending : Start → Lent
-lending entry = let a = entry.args in lent a.text.now a.records.now a.texts.now a.line a.log
+lending entry = let a = entry.args in lent a.text.now a.records.now a.texts.now a.checked.line a.checked.log
 
 -- ---- the end of the cluster at p is found
 abbrev taken : After-on_from-q → List ℕ
@@ -26,16 +26,16 @@ taken c = let a = c.args in take (c.on_from-q.result - a.p) (drop a.p a.text.now
 
 behind : (c : After-on_from-q) →
     let a = c.args in
-    In (text_of (lent a.text.now a.records.now a.texts.now a.line a.log)) a.p c.on_from-q.result
+    In (text_of (lent a.text.now a.records.now a.texts.now a.checked.line a.checked.log)) a.p c.on_from-q.result
 behind c =
     let a = c.args in
-    reaches a.f (lent a.text.now a.records.now a.texts.now a.line a.log) c.requires.ready a.p c.requires.in_text c.on_from-q.result
+    reaches a.checked.format (lent a.text.now a.records.now a.texts.now a.checked.line a.checked.log) c.requires.ready a.p c.requires.in_text c.on_from-q.result
     c.on_from-q.ensures
 
-within : (c : After-on_from-q) → c.on_from-q.result ≤ c.args.line.len
+within : (c : After-on_from-q) → c.on_from-q.result ≤ c.args.checked.line.len
 within c =
     let a = c.args in
-    omega (arith, (behind c).1, length-kept a.f (lent a.text.now a.records.now a.texts.now a.line a.log) c.requires.ready)
+    omega (arith, (behind c).1, length-kept a.checked.format (lent a.text.now a.records.now a.texts.now a.checked.line a.checked.log) c.requires.ready)
 
 most : (c : After-on_from-q) → c.on_from-q.result ≤ text_max
 most c = omega (arith, within c, c.requires.ready.used, text-most _ _ c.requires.ready)
@@ -43,15 +43,15 @@ most c = omega (arith, within c, c.requires.ready.used, text-most _ _ c.requires
 cut-length : (c : After-on_from-q) → length (taken c) ≡ c.on_from-q.result - c.args.p
 cut-length c =
     let a = c.args in
-    ap length (sym (raw_part a.text.now a.line.len a.p c.on_from-q.result (within c)))
-    ∙ part_length catalogue (text_of (lent a.text.now a.records.now a.texts.now a.line a.log)) a.p c.on_from-q.result (behind c)
+    ap length (sym (raw_part a.text.now a.checked.line.len a.p c.on_from-q.result (within c)))
+    ∙ part_length catalogue (text_of (lent a.text.now a.records.now a.texts.now a.checked.line a.checked.log)) a.p c.on_from-q.result (behind c)
 
 -- ---- its bytes are cut, as long as they were found to be
 abbrev clusters : (c : After-insert_bytes) →
     let a = c.args in
     let q = c.on_from-q.result in
-    q ≤ a.line.len → length (take (q - a.p) (drop a.p a.text.now)) ≡ q - a.p →
-    Clusters a.f (lent a.text.now a.records.now a.texts.now a.line a.log) a.p
+    q ≤ a.checked.line.len → length (take (q - a.p) (drop a.p a.text.now)) ≡ q - a.p →
+    Clusters a.checked.format (lent a.text.now a.records.now a.texts.now a.checked.line a.checked.log) a.p
 clusters c inside long =
     let a = c.args in
     record {
@@ -63,7 +63,7 @@ clusters c inside long =
       start_is = c.back_from-o.ensures;
       cut = _;
       cut-is = copied _ _ _ (sym long) c.insert_bytes.ensures
-          ∙ sym (raw_part a.text.now a.line.len a.p c.on_from-q.result inside);
+          ∙ sym (raw_part a.text.now a.checked.line.len a.p c.on_from-q.result inside);
     }
 
 pub slice_bounds-on_from-end-2 : goal.slice_bounds-on_from-end-2
@@ -88,7 +88,7 @@ overflow_add-behind c =
     omega (
       arith,
       most here.After-on_from-q,
-      goes_back c.args.f (lending here.Start)
+      goes_back c.args.checked.format (lending here.Start)
           c.requires.ready c.args.p c.requires.in_text c.back_from-o.result c.back_from-o.ensures,
     )
 

@@ -18,50 +18,50 @@ overflow_sub-left c =
     let a = c.args in
     omega (
       arith,
-      (let z : a.w.end2 ≤ a.line.len = omega
-          (arith, c.requires.apart.second.1, (length-kept a.f (lent a.text.now a.records.now a.texts.now a.line a.log) c.requires.ready)) in
+      (let z : a.w.end2 ≤ a.checked.line.len = omega
+          (arith, c.requires.apart.second.1, (length-kept a.checked.format (lent a.text.now a.records.now a.texts.now a.checked.line a.checked.log) c.requires.ready)) in
           z),
     )
 
 pub returns-then-text-left : goal.returns-then-text-left
 returns-then-text-left c =
     let a = c.args in
-    let l = lent a.text.now a.records.now a.texts.now a.line a.log in
-    nine a.f l (words_plan (take a.line.len a.text.now) a.w) _
-    (words_long catalogue (take a.line.len a.text.now) c.requires.ready.text a.w c.requires.apart (length a.text.now)
-    (text-within a.f l c.requires.ready a.w c.requires.apart)
-    (omega (arith, c.if-text-left.true, (length-kept a.f l c.requires.ready), c.requires.ready.used))) c.says.ensures
+    let l = lent a.text.now a.records.now a.texts.now a.checked.line a.checked.log in
+    nine a.checked.format l (words_plan (take a.checked.line.len a.text.now) a.w) _
+    (words_long catalogue (take a.checked.line.len a.text.now) c.requires.ready.text a.w c.requires.apart (length a.text.now)
+    (text-within a.checked.format l c.requires.ready a.w c.requires.apart)
+    (omega (arith, c.if-text-left.true, (length-kept a.checked.format l c.requires.ready), c.requires.ready.used))) c.refused.ensures
 
 pub words_fit-requires : goal.words_fit-requires
 words_fit-requires c =
     let a = c.args in
-    let l = lent a.text.now a.records.now a.texts.now a.line a.log in
+    let l = lent a.text.now a.records.now a.texts.now a.checked.line a.checked.log in
     record {
       ready = c.requires.ready;
       last_at = c.requires.last_at;
       apart = c.requires.apart;
-      text_value = (words_short catalogue (take a.line.len a.text.now) c.requires.ready.text a.w c.requires.apart (length a.text.now)
-          (text-within a.f l c.requires.ready a.w c.requires.apart)
-          (omega (arith, c.if-text-left.false, (length-kept a.f l c.requires.ready), c.requires.ready.used)));
+      text_value = (words_short catalogue (take a.checked.line.len a.text.now) c.requires.ready.text a.w c.requires.apart (length a.text.now)
+          (text-within a.checked.format l c.requires.ready a.w c.requires.apart)
+          (omega (arith, c.if-text-left.false, (length-kept a.checked.format l c.requires.ready), c.requires.ready.used)));
     }
 
 pub returns-then-not-words_fit : goal.returns-then-not-words_fit
 returns-then-not-words_fit c =
     let a = c.args in
-    let l = lent a.text.now a.records.now a.texts.now a.line a.log in
-    ten a.f l (words_plan (take a.line.len a.text.now) a.w) _
-    (words_short catalogue (take a.line.len a.text.now) c.requires.ready.text a.w c.requires.apart (length a.text.now)
-    (text-within a.f l c.requires.ready a.w c.requires.apart)
-    (omega (arith, c.if-text-left.false, (length-kept a.f l c.requires.ready), c.requires.ready.used)))
-    (sym c.words_fit.ensures ∙ c.if-not-words_fit.true) c.says-then-not-words_fit.ensures
+    let l = lent a.text.now a.records.now a.texts.now a.checked.line a.checked.log in
+    ten a.checked.format l (words_plan (take a.checked.line.len a.text.now) a.w) _
+    (words_short catalogue (take a.checked.line.len a.text.now) c.requires.ready.text a.w c.requires.apart (length a.text.now)
+    (text-within a.checked.format l c.requires.ready a.w c.requires.apart)
+    (omega (arith, c.if-text-left.false, (length-kept a.checked.format l c.requires.ready), c.requires.ready.used)))
+    (sym c.words_fit.ensures ∙ c.if-not-words_fit.true) c.refused-then-not-words_fit.ensures
 
 pub slice_bounds-insert_bytes-end-2 : goal.slice_bounds-insert_bytes-end-2
 slice_bounds-insert_bytes-end-2 c =
     let a = c.args in
     omega (
       arith,
-      (let z : a.w.end1 ≤ a.line.len = omega
-          (arith, c.requires.apart.first.1, (length-kept a.f (lent a.text.now a.records.now a.texts.now a.line a.log) c.requires.ready)) in
+      (let z : a.w.end1 ≤ a.checked.line.len = omega
+          (arith, c.requires.apart.first.1, (length-kept a.checked.format (lent a.text.now a.records.now a.texts.now a.checked.line a.checked.log) c.requires.ready)) in
           z),
       c.requires.ready.used,
     )
@@ -71,8 +71,8 @@ slice_bounds-insert_bytes-end-4 c =
     let a = c.args in
     omega (
       arith,
-      (let z : a.w.end2 ≤ a.line.len = omega
-          (arith, c.requires.apart.second.1, (length-kept a.f (lent a.text.now a.records.now a.texts.now a.line a.log) c.requires.ready)) in
+      (let z : a.w.end2 ≤ a.checked.line.len = omega
+          (arith, c.requires.apart.second.1, (length-kept a.checked.format (lent a.text.now a.records.now a.texts.now a.checked.line a.checked.log) c.requires.ready)) in
           z),
       c.requires.ready.used,
     )
@@ -80,16 +80,16 @@ slice_bounds-insert_bytes-end-4 c =
 pub insert_bytes-requires-2 : goal.insert_bytes-requires-2
 insert_bytes-requires-2 c =
     let a = c.args in
-    let l = lent a.text.now a.records.now a.texts.now a.line a.log in (
+    let l = lent a.text.now a.records.now a.texts.now a.checked.line a.checked.log in (
       omega arith,
       omega (
         arith,
         (ap length
             (sym
-            (raw_part a.text.now a.line.len a.w.beg2 a.w.end2
-            (let z : a.w.end2 ≤ a.line.len = omega (arith, c.requires.apart.second.1, (length-kept a.f l c.requires.ready)) in z)))
-            ∙ part_length catalogue (take a.line.len a.text.now) a.w.beg2 a.w.end2 c.requires.apart.second),
-        small2 a.f l c.requires.ready a.w c.requires.apart,
+            (raw_part a.text.now a.checked.line.len a.w.beg2 a.w.end2
+            (let z : a.w.end2 ≤ a.checked.line.len = omega (arith, c.requires.apart.second.1, (length-kept a.checked.format l c.requires.ready)) in z)))
+            ∙ part_length catalogue (take a.checked.line.len a.text.now) a.w.beg2 a.w.end2 c.requires.apart.second),
+        small2 a.checked.format l c.requires.ready a.w c.requires.apart,
       ),
     )
 
@@ -101,7 +101,7 @@ slice_bounds-put_words-end c =
     (omega (
       arith,
       c.insert_bytes.auto.s,
-      small1 a.f (lent a.text.now a.records.now a.texts.now a.line a.log) c.requires.ready a.w c.requires.apart,
+      small1 a.checked.format (lent a.text.now a.records.now a.texts.now a.checked.line a.checked.log) c.requires.ready a.w c.requires.apart,
     )))
 
 pub slice_bounds-second-end : goal.slice_bounds-second-end
@@ -110,7 +110,7 @@ slice_bounds-second-end c =
     omega (
       arith,
       c.insert_bytes-2.auto.s,
-      small2 a.f (lent a.text.now a.records.now a.texts.now a.line a.log) c.requires.ready a.w c.requires.apart,
+      small2 a.checked.format (lent a.text.now a.records.now a.texts.now a.checked.line a.checked.log) c.requires.ready a.w c.requires.apart,
     )
 
 pub slice_bounds-put_words-end-2 : goal.slice_bounds-put_words-end-2
@@ -121,18 +121,18 @@ slice_bounds-put_words-end-2 c =
     (omega (
       arith,
       c.insert_bytes-2.auto.s,
-      small2 a.f (lent a.text.now a.records.now a.texts.now a.line a.log) c.requires.ready a.w c.requires.apart,
+      small2 a.checked.format (lent a.text.now a.records.now a.texts.now a.checked.line a.checked.log) c.requires.ready a.w c.requires.apart,
     )))
 
 pub put_words-requires : goal.put_words-requires
 put_words-requires c =
     let a = c.args in
-    let l = lent a.text.now a.records.now a.texts.now a.line a.log in
-    let length-kept1 = length-kept a.f l c.requires.ready in
-    let raw-part1 = raw_part a.text.now a.line.len a.w.beg2 a.w.end2
-    (let z : a.w.end2 ≤ a.line.len = omega (arith, c.requires.apart.second.1, length-kept1) in z) in
-    let raw-part2 = raw_part a.text.now a.line.len a.w.beg1 a.w.end1
-    (let z : a.w.end1 ≤ a.line.len = omega (arith, c.requires.apart.first.1, length-kept1) in z) in
+    let l = lent a.text.now a.records.now a.texts.now a.checked.line a.checked.log in
+    let length-kept1 = length-kept a.checked.format l c.requires.ready in
+    let raw-part1 = raw_part a.text.now a.checked.line.len a.w.beg2 a.w.end2
+    (let z : a.w.end2 ≤ a.checked.line.len = omega (arith, c.requires.apart.second.1, length-kept1) in z) in
+    let raw-part2 = raw_part a.text.now a.checked.line.len a.w.beg1 a.w.end1
+    (let z : a.w.end1 ≤ a.checked.line.len = omega (arith, c.requires.apart.first.1, length-kept1) in z) in
     record {
       ready = c.requires.ready;
       last_at = c.requires.last_at;
@@ -140,17 +140,17 @@ put_words-requires c =
       first_value = (copied _ _ _
           (sym
           (ap length (sym raw-part2)
-          ∙ part_length catalogue (take a.line.len a.text.now) a.w.beg1 a.w.end1 c.requires.apart.first))
+          ∙ part_length catalogue (take a.checked.line.len a.text.now) a.w.beg1 a.w.end1 c.requires.apart.first))
           c.insert_bytes.ensures
           ∙ sym raw-part2);
       second_value = (copied _ _ _
           (sym
           (ap length (sym raw-part1)
-          ∙ part_length catalogue (take a.line.len a.text.now) a.w.beg2 a.w.end2 c.requires.apart.second))
+          ∙ part_length catalogue (take a.checked.line.len a.text.now) a.w.beg2 a.w.end2 c.requires.apart.second))
           c.insert_bytes-2.ensures
           ∙ sym raw-part1);
-      text_value = (words_short catalogue (take a.line.len a.text.now) c.requires.ready.text a.w c.requires.apart
-          (length a.text.now) (text-within a.f l c.requires.ready a.w c.requires.apart)
+      text_value = (words_short catalogue (take a.checked.line.len a.text.now) c.requires.ready.text a.w c.requires.apart
+          (length a.text.now) (text-within a.checked.format l c.requires.ready a.w c.requires.apart)
           (omega (arith, c.if-text-left.false, length-kept1, c.requires.ready.used)));
       log_value = (sym c.words_fit.ensures ∙ c.if-not-words_fit.false);
     }

@@ -40,22 +40,22 @@ as_read f l p at e {r} {t} {rb} {tb} q = subst (λ (z : List ℕ). Makes f l (on
 
 -- ---- what is lent at the entry and after each change, and that the other changes remain
 abbrev lending : Start → Lent
-lending c = let a = c.args in lent a.text.now a.records.now a.texts.now a.line a.log
+lending c = let a = c.args in lent a.text.now a.records.now a.texts.now a.checked.line a.checked.log
 
 abbrev lent1 : After-cut_out-r1 → Lent
 lent1 c = let k = c.cut_out-r1 in lent k.new.text k.new.records k.new.texts k.result.line k.result.log
 
 remaining1 : (c : After-cut_out-r1) →
     let a = c.args in
-    let l = lent a.text.now a.records.now a.texts.now a.line a.log in
-    Underway a.f l (plan l a.w) (put1 l a.w ∷ cut2 a.w ∷ put2 l a.w ∷ []) (lent1 c)
+    let l = lent a.text.now a.records.now a.texts.now a.checked.line a.checked.log in
+    Underway a.checked.format l (plan l a.w) (put1 l a.w ∷ cut2 a.w ∷ put2 l a.w ∷ []) (lent1 c)
 remaining1 c =
     let a = c.args in
-    let l = lent a.text.now a.records.now a.texts.now a.line a.log in
+    let l = lent a.text.now a.records.now a.texts.now a.checked.line a.checked.log in
     let q = c.requires in
     let k = c.cut_out-r1 in
-    goes-on a.f l (plan l a.w) _ _ l
-    (begins a.f l (plan l a.w) q.ready (words_suit catalogue (text_of l) q.ready.text a.w q.apart) q.text_value q.log_value) k.result _ _ _
+    goes-on a.checked.format l (plan l a.w) _ _ l
+    (begins a.checked.format l (plan l a.w) q.ready (words_suit catalogue (text_of l) q.ready.text a.w q.apart) q.text_value q.log_value) k.result _ _ _
     k.ensures k.auto.text k.auto.records k.auto.texts
 
 abbrev lent2 : After-put_in-r2 → Lent
@@ -63,18 +63,18 @@ lent2 c = let k = c.put_in-r2 in lent k.new.text k.new.records k.new.texts k.res
 
 remaining2 : (c : After-put_in-r2) →
     let a = c.args in
-    let l = lent a.text.now a.records.now a.texts.now a.line a.log in
+    let l = lent a.text.now a.records.now a.texts.now a.checked.line a.checked.log in
     let k = c.cut_out-r1 in
-    Underway a.f l (plan l a.w) (put1 l a.w ∷ cut2 a.w ∷ put2 l a.w ∷ [])
+    Underway a.checked.format l (plan l a.w) (put1 l a.w ∷ cut2 a.w ∷ put2 l a.w ∷ [])
     (lent k.new.text k.new.records k.new.texts k.result.line k.result.log) →
-    Underway a.f l (plan l a.w) (cut2 a.w ∷ put2 l a.w ∷ []) (lent2 c)
+    Underway a.checked.format l (plan l a.w) (cut2 a.w ∷ put2 l a.w ∷ []) (lent2 c)
 remaining2 c before =
     let a = c.args in
-    let l = lent a.text.now a.records.now a.texts.now a.line a.log in
+    let l = lent a.text.now a.records.now a.texts.now a.checked.line a.checked.log in
     let k = c.cut_out-r1 in
     let l1 = lent k.new.text k.new.records k.new.texts k.result.line k.result.log in
     let m = c.put_in-r2 in
-    goes-on a.f l (plan l a.w) _ _ l1 before m.result _ _ _ (as_read a.f l1 a.w.beg2 a.w.beg2 c.requires.first_value m.ensures)
+    goes-on a.checked.format l (plan l a.w) _ _ l1 before m.result _ _ _ (as_read a.checked.format l1 a.w.beg2 a.w.beg2 c.requires.first_value m.ensures)
     m.auto.text m.auto.records m.auto.texts
 
 abbrev lent3 : After-cut_out-r3 → Lent
@@ -82,16 +82,16 @@ lent3 c = let k = c.cut_out-r3 in lent k.new.text k.new.records k.new.texts k.re
 
 remaining3 : (c : After-cut_out-r3) →
     let a = c.args in
-    let l = lent a.text.now a.records.now a.texts.now a.line a.log in
+    let l = lent a.text.now a.records.now a.texts.now a.checked.line a.checked.log in
     let k = c.put_in-r2 in
-    Underway a.f l (plan l a.w) (cut2 a.w ∷ put2 l a.w ∷ []) (lent k.new.text k.new.records k.new.texts k.result.line k.result.log) →
-    Underway a.f l (plan l a.w) (put2 l a.w ∷ []) (lent3 c)
+    Underway a.checked.format l (plan l a.w) (cut2 a.w ∷ put2 l a.w ∷ []) (lent k.new.text k.new.records k.new.texts k.result.line k.result.log) →
+    Underway a.checked.format l (plan l a.w) (put2 l a.w ∷ []) (lent3 c)
 remaining3 c before =
     let a = c.args in
-    let l = lent a.text.now a.records.now a.texts.now a.line a.log in
+    let l = lent a.text.now a.records.now a.texts.now a.checked.line a.checked.log in
     let k = c.put_in-r2 in
     let m = c.cut_out-r3 in
-    goes-on a.f l (plan l a.w) _ _ (lent k.new.text k.new.records k.new.texts k.result.line k.result.log) before m.result _ _ _ m.ensures
+    goes-on a.checked.format l (plan l a.w) _ _ (lent k.new.text k.new.records k.new.texts k.result.line k.result.log) before m.result _ _ _ m.ensures
     m.auto.text m.auto.records m.auto.texts
 
 -- ---- the answers
@@ -107,7 +107,7 @@ pub put_in-r2-requires : goal.put_in-r2-requires
 put_in-r2-requires c =
     let k = goal.at.put_in-r2-requires c in
     let r = remaining1 k.After-cut_out-r1 in
-    let q = next_suits c.args.f (lending k.Start) (plan (lending k.Start) c.args.w) (put1 (lending k.Start) c.args.w) _
+    let q = next_suits c.args.checked.format (lending k.Start) (plan (lending k.Start) c.args.w) (put1 (lending k.Start) c.args.w) _
     (lent1 k.After-cut_out-r1) r in
     record {
       fit = c.requires.ready.log.fit;
@@ -131,7 +131,7 @@ last_start-last2-requires c =
     let k = goal.at.last_start-last2-requires c in
     record {
       fit = c.requires.ready.log.fit;
-      listed = listed c.args.f (log.lent _ _ _)
+      listed = listed c.args.checked.format (log.lent _ _ _)
           (remaining2 k.After-put_in-r2 (remaining1 k.After-cut_out-r1)).ready.log;
     }
 
@@ -142,7 +142,7 @@ cut_out-r3-requires c =
     record {
       fit = c.requires.ready.log.fit;
       ready = r.ready;
-      in_text = next_suits c.args.f (lending k.Start) (plan (lending k.Start) c.args.w) (cut2 c.args.w) _ (lent2 k.After-put_in-r2) r;
+      in_text = next_suits c.args.checked.format (lending k.Start) (plan (lending k.Start) c.args.w) (cut2 c.args.w) _ (lent2 k.After-put_in-r2) r;
       last_at = λ e. c.last_start-last2.ensures;
     }
 
@@ -150,7 +150,7 @@ pub put_in-r4-requires : goal.put_in-r4-requires
 put_in-r4-requires c =
     let k = goal.at.put_in-r4-requires c in
     let r = remaining3 k.After-cut_out-r3 (remaining2 k.After-put_in-r2 (remaining1 k.After-cut_out-r1)) in
-    let q = next_suits c.args.f (lending k.Start) (plan (lending k.Start) c.args.w) (put2 (lending k.Start) c.args.w) _
+    let q = next_suits c.args.checked.format (lending k.Start) (plan (lending k.Start) c.args.w) (put2 (lending k.Start) c.args.w) _
     (lent3 k.After-cut_out-r3) r in
     record {
       fit = c.requires.ready.log.fit;
@@ -181,8 +181,8 @@ returns c =
     let a = c.args in
     let l = lending k.Start in
     let m = c.put_in-r4 in
-    edited_as a.f l _ _ _ _ _ _ c.says.ensures
-    (ends a.f l (plan l a.w) (lent m.new.text m.new.records m.new.texts m.result.line m.result.log)
-    (goes-on a.f l (plan l a.w) _ _ (lent3 k.After-cut_out-r3)
+    edited_as a.checked.format l _ _ _ _ _ _ c.says.ensures
+    (ends a.checked.format l (plan l a.w) (lent m.new.text m.new.records m.new.texts m.result.line m.result.log)
+    (goes-on a.checked.format l (plan l a.w) _ _ (lent3 k.After-cut_out-r3)
     (remaining3 k.After-cut_out-r3 (remaining2 k.After-put_in-r2 (remaining1 k.After-cut_out-r1))) m.result _ _ _
-    (as_read a.f (lent3 k.After-cut_out-r3) a.w.beg1 a.w.beg1 c.requires.second_value m.ensures) m.auto.text m.auto.records m.auto.texts))
+    (as_read a.checked.format (lent3 k.After-cut_out-r3) a.w.beg1 a.w.beg1 c.requires.second_value m.ensures) m.auto.text m.auto.records m.auto.texts))

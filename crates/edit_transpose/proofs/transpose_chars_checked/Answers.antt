@@ -12,7 +12,7 @@ use Rattle.edit_transpose.proofs.transpose_chars_checked.Goals as goal
 use Rattle.edit_transpose.proofs.transpose_chars_checked.Goals.{Start}
 
 abbrev lending : Start → Lent
-lending entry = let a = entry.args in lent a.text.now a.records.now a.texts.now a.line a.log
+lending entry = let a = entry.args in lent a.text.now a.records.now a.texts.now a.checked.line a.checked.log
 
 -- ---- what the check has passed
 is-valid : (c : Start) → valid (text_of (lending c)) ≡ true
@@ -21,7 +21,7 @@ is-valid c = text-valid catalogue (text_of (lending c))
 
 inside : (c : Start) → let l = (lending c) in In (text_of l) l.line.cursor
     l.line.cursor
-inside c = cursor_in c.args.f (lending c) c.requires.ready
+inside c = cursor_in c.args.checked.format (lending c) c.requires.ready
 
 -- ---- a place is sought in the text
 pub slice_bounds-starts_at-end-2 : goal.slice_bounds-starts_at-end-2
@@ -43,22 +43,22 @@ exchange_at-requires c =
       ready = c.requires.ready;
       last_at = c.requires.last_at;
       in_text = starts_in catalogue (text_of (lending here.Start))
-          (is-valid here.Start) a.line.cursor (inside here.Start) _ _
-          c.starts_at-found.ensures c.in-At.is;
+          (is-valid here.Start) a.checked.line.cursor (inside here.Start) _ _
+          c.starts_at-found.ensures c.in-Some.is;
     }
 
-pub returns-in-At : goal.returns-in-At
-returns-in-At c =
-    let here = goal.at.returns-in-At c in
+pub returns-in-Some : goal.returns-in-Some
+returns-in-Some c =
+    let here = goal.at.returns-in-Some c in
     let a = c.args in
-    plan_made a.f (lending here.Start)
-    (plan_at catalogue (text_of (lending here.Start)) a.line.cursor _ c.starts_at-found.ensures _ c.in-At.is)
+    plan_made a.checked.format (lending here.Start)
+    (plan_at catalogue (text_of (lending here.Start)) a.checked.line.cursor _ c.starts_at-found.ensures _ c.in-Some.is)
     c.exchange_at.ensures
 
-pub returns-in-Nothing : goal.returns-in-Nothing
-returns-in-Nothing c =
-    let here = goal.at.returns-in-Nothing c in
+pub returns-in-None : goal.returns-in-None
+returns-in-None c =
+    let here = goal.at.returns-in-None c in
     let a = c.args in
-    plan_made a.f (lending here.Start)
-    (plan_none catalogue (text_of (lending here.Start)) a.line.cursor _ c.starts_at-found.ensures c.in-Nothing.is)
-    (stays a.f (lending here.Start) c.requires.ready _ c.says.ensures)
+    plan_made a.checked.format (lending here.Start)
+    (plan_none catalogue (text_of (lending here.Start)) a.checked.line.cursor _ c.starts_at-found.ensures c.in-None.is)
+    (stays a.checked.format (lending here.Start) c.requires.ready _ c.says.ensures)

@@ -12,7 +12,7 @@ use Rattle.edit_transpose.proofs.transpose_words_checked.Goals as goal
 use Rattle.edit_transpose.proofs.transpose_words_checked.Goals.{Start}
 
 abbrev lending : Start → Lent
-lending entry = let a = entry.args in lent a.text.now a.records.now a.texts.now a.line a.log
+lending entry = let a = entry.args in lent a.text.now a.records.now a.texts.now a.checked.line a.checked.log
 
 -- ---- what the check has passed
 is-valid : (c : Start) → valid (text_of (lending c)) ≡ true
@@ -21,7 +21,7 @@ is-valid c = text-valid catalogue (text_of (lending c))
 
 inside : (c : Start) → let l = (lending c) in In (text_of l) l.line.cursor
     l.line.cursor
-inside c = cursor_in c.args.f (lending c) c.requires.ready
+inside c = cursor_in c.args.checked.format (lending c) c.requires.ready
 
 pub slice_bounds-words_around-end-2 : goal.slice_bounds-words_around-end-2
 slice_bounds-words_around-end-2 c = sym (length-take-le _ _ c.requires.ready.used)
@@ -38,9 +38,9 @@ pub returns-then-w : goal.returns-then-w
 returns-then-w c =
     let here = goal.at.returns-then-w c in
     let a = c.args in
-    plan_made a.f (lending here.Start)
-    (words_one catalogue (text_of (lending here.Start)) a.n a.line.cursor _ c.words_around-w.ensures c.if-w.true)
-    (stays_at a.f (lending here.Start) c.requires.ready _ _ c.says.ensures)
+    plan_made a.checked.format (lending here.Start)
+    (words_one catalogue (text_of (lending here.Start)) a.n a.checked.line.cursor _ c.words_around-w.ensures c.if-w.true)
+    (stays_at a.checked.format (lending here.Start) c.requires.ready _ _ c.says.ensures)
 
 pub exchange_words-requires : goal.exchange_words-requires
 exchange_words-requires c =
@@ -49,7 +49,7 @@ exchange_words-requires c =
     record {
       ready = c.requires.ready;
       last_at = c.requires.last_at;
-      apart = words_apart catalogue (text_of (lending here.Start)) a.n a.line.cursor _
+      apart = words_apart catalogue (text_of (lending here.Start)) a.n a.checked.line.cursor _
           c.words_around-w.ensures (is-valid here.Start)
           (inside here.Start) c.if-w.false;
     }
@@ -59,6 +59,6 @@ pub returns : goal.returns
 returns c =
     let here = goal.at.returns c in
     let a = c.args in
-    plan_made a.f (lending here.Start)
-    (words_two catalogue (text_of (lending here.Start)) a.n a.line.cursor _ c.words_around-w.ensures c.if-w.false)
+    plan_made a.checked.format (lending here.Start)
+    (words_two catalogue (text_of (lending here.Start)) a.n a.checked.line.cursor _ c.words_around-w.ensures c.if-w.false)
     c.exchange_words.ensures

@@ -14,21 +14,21 @@ use Rattle.key_calls.proofs.key_checked.Goals.{Start}
 
 -- ---- at the start: what is lent, and what holds of the press that was told
 abbrev lending : Start → Lent
-lending s = let a = s.args in lent a.text.now a.records.now a.texts.now a.line a.log
+lending s = let a = s.args in lent a.text.now a.records.now a.texts.now a.checked.line a.checked.log
 
 abbrev given : Start → rings.Lent
 given s = let a = s.args in rings.lent a.slots.now a.lens.now a.ring
 
 module _ (s : Start) {q : Press} (told : s.args.p ≡ q) where
-  passed : Passed s.args.f (lending s) (given s) (stands_for q) s.args.last
-  passed = subst (λ (x : Press). Passed s.args.f (lending s) (given s) (stands_for x) s.args.last) told s.requires.passed
+  passed : Passed s.args.checked.format (lending s) (given s) (stands_for q) s.args.checked.last
+  passed = subst (λ (x : Press). Passed s.args.checked.format (lending s) (given s) (stands_for x) s.args.checked.last) told s.requires.passed
 
   fit : fit_press catalogue q ≡ true
   fit = subst (λ (x : Press). fit_press catalogue x ≡ true) told s.requires.p_value
 
-  does : {r : KeyAnswer} {b : KeyBuffers} → Does s.args.f (lending s) (given s) (stands_for q) r b
-      → Does s.args.f (lending s) (given s) (stands_for s.args.p) r b
-  does {r} {b} d = subst (λ (x : Press). Does s.args.f (lending s) (given s) (stands_for x) r b) (sym told) d
+  does : {r : KeyAnswer} {b : KeyBuffers} → Does s.args.checked.format (lending s) (given s) (stands_for q) r b
+      → Does s.args.checked.format (lending s) (given s) (stands_for s.args.p) r b
+  does {r} {b} d = subst (λ (x : Press). Does s.args.checked.format (lending s) (given s) (stands_for x) r b) (sym told) d
 
 pub move_key-requires : goal.move_key-requires
 move_key-requires c = passed (goal.at.move_key-requires c).Start c.in-Move.is
@@ -58,7 +58,7 @@ pub returns-in-Unbound : goal.returns-in-Unbound
 returns-in-Unbound c =
     let here = goal.at.returns-in-Unbound c in
     does here.Start c.in-Unbound.is
-    (unbound_does c.args.f (lending here.Start) (given here.Start) c.says.ensures)
+    (unbound_does c.args.checked.format (lending here.Start) (given here.Start) c.refused.ensures)
 
 pub returns-in-Move : goal.returns-in-Move
 returns-in-Move c = does (goal.at.returns-in-Move c).Start c.in-Move.is c.move_key.ensures

@@ -7,7 +7,7 @@ use Rattle.key_line.proofs.edit_key.Goals as goal
 use Rattle.key_line.proofs.edit_key.Goals.{Start}
 
 abbrev lending : Start → Lent
-lending s = lent s.args.text.now s.args.records.now s.args.texts.now s.args.line s.args.log
+lending s = lent s.args.text.now s.args.records.now s.args.texts.now s.args.checked.line s.args.checked.log
 
 abbrev ringing : Start → rings.Lent
 ringing s = rings.lent s.args.slots.now s.args.lens.now s.args.ring
@@ -23,6 +23,6 @@ edited_by-a-requires c = record {
 pub returns : goal.returns
 returns c =
     let here = goal.at.returns c in
-    edit_does c.args.f (lending here.Start) (ringing here.Start) c.requires.passed.ring (edit_for c.args.k)
-    (key_refuses c.args.f (lending here.Start) c.requires.passed.line c.args.k c.requires.k_value)
+    edit_does c.args.checked.format (lending here.Start) (ringing here.Start) c.requires.passed.ring (edit_for c.args.k)
+    (key_refuses c.args.checked.format (lending here.Start) c.requires.passed.line c.args.k c.requires.k_value)
     c.edited_by-a.ensures c.reset_after.ensures

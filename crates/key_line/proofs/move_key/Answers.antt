@@ -7,7 +7,7 @@ use Rattle.key_line.proofs.move_key.Goals as goal
 use Rattle.key_line.proofs.move_key.Goals.{Start}
 
 abbrev lending : Start → Lent
-lending s = lent s.args.text.now s.args.records.now s.args.texts.now s.args.line s.args.log
+lending s = lent s.args.text.now s.args.records.now s.args.texts.now s.args.checked.line s.args.checked.log
 
 abbrev ringing : Start → rings.Lent
 ringing s = rings.lent s.args.slots.now s.args.lens.now s.args.ring
@@ -20,5 +20,5 @@ returns c =
     let here = goal.at.returns c in
     let h = c.requires in
     let l = lending here.Start in
-    move_does c.args.f l (ringing here.Start) h.ring (move_for c.args.k) (move_refuses c.args.f l h.format h.line c.args.k)
-    (move-left c.args.f l h.format h.line c.args.k h.ready c.moved_by-a.ensures) c.reset_after.ensures
+    move_does c.args.checked.format l (ringing here.Start) h.ring (move_for c.args.k) (move_refuses c.args.checked.format l h.format h.line c.args.k)
+    (move-left c.args.checked.format l h.format h.line c.args.k h.ready c.moved_by-a.ensures) c.reset_after.ensures

@@ -8,7 +8,7 @@ use Rattle.key_line.proofs.undo_key.Goals as goal
 use Rattle.key_line.proofs.undo_key.Goals.{Start}
 
 abbrev lending : Start → Lent
-lending s = lent s.args.text.now s.args.records.now s.args.texts.now s.args.line s.args.log
+lending s = lent s.args.text.now s.args.records.now s.args.texts.now s.args.checked.line s.args.checked.log
 
 abbrev ringing : Start → rings.Lent
 ringing s = rings.lent s.args.slots.now s.args.lens.now s.args.ring
@@ -26,7 +26,8 @@ pub returns : goal.returns
 returns c =
     let here = goal.at.returns c in
     let h = c.requires in
-    undo_does c.args.f (lending here.Start) (ringing here.Start) h.ring c.args.n
-    (undo_refuses c.args.f (lending here.Start) h.line c.args.n)
-    (undo-made c.args.f (lending here.Start) h.line c.args.n c.undo_units-a.ensures.outcome) c.undo_units-a.ensures.still
+    undo_does c.args.checked.format (lending here.Start) (ringing here.Start) h.ring c.args.n
+    (undo_refuses c.args.checked.format (lending here.Start) h.line c.args.n)
+    (undo-made c.args.checked.format (lending here.Start) h.line c.args.n (rw c.from.ensures at c.undo_units-a.ensures.outcome))
+    c.undo_units-a.ensures.still
     c.reset_after.ensures

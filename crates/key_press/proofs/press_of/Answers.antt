@@ -11,5 +11,5 @@ unfolding press_of
 returns c =
     let s = c.args.key.now in
     c.press_by.ensures
-    ∙ ap₂ (λ (n : ℕ) (t : List ℕ). press_by catalogue n t) c.count_of-c.ensures.count
-    (part-tail s c.count_of-c.result.at ∙ c.count_of-c.ensures.key)
+    ∙ ap₂ (λ (n : ℕ) (t : List ℕ). press_by catalogue n t) c.count_of-n.ensures.count
+    (part-tail s c.count_of-n.result.at ∙ c.count_of-n.ensures.key)

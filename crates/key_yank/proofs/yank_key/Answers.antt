@@ -11,7 +11,7 @@ abbrev ring : Start → rings.Lent
 ring s = rings.lent s.args.slots.now s.args.lens.now s.args.ring
 
 abbrev lending : Start → Lent
-lending s = lent s.args.text.now s.args.records.now s.args.texts.now s.args.line s.args.log
+lending s = lent s.args.text.now s.args.records.now s.args.texts.now s.args.checked.line s.args.checked.log
 
 -- ---- where the ring gives a slot
 taken : (c : Else-answer-ne0) → Taken (rings.lent c.args.slots.now c.args.lens.now c.args.ring)
@@ -22,7 +22,7 @@ taken c = yank_taken (rings.lent c.args.slots.now c.args.lens.now c.args.ring) c
 pub returns-then-answer-ne0 : goal.returns-then-answer-ne0
 returns-then-answer-ne0 c =
     let here = goal.at.returns-then-answer-ne0 c in
-    yank-nothing c.args.f (lending here.Start) (ring here.Start) c.requires
+    yank-nothing c.args.checked.format (lending here.Start) (ring here.Start) c.requires
     (yank_none (ring here.Start) c.requires.ring c.yank_checked-a.result c.yank_checked-a.ensures
     c.if-answer-ne0.true) c.says.ensures
 
@@ -49,7 +49,7 @@ pub yank_checked-put-requires : goal.yank_checked-put-requires
 yank_checked-put-requires c =
     let here = goal.at.yank_checked-put-requires c in
     let t = taken here.Else-answer-ne0 in
-    let fit = yank-fit c.args.f (lending here.Start) (ring here.Start)
+    let fit = yank-fit c.args.checked.format (lending here.Start) (ring here.Start)
     c.requires t (given-part (ring here.Start) c.requires.ring t) in
     record {
       ready = c.requires.ready;
@@ -62,6 +62,6 @@ pub returns : goal.returns
 returns c =
     let here = goal.at.returns c in
     let t = taken here.Else-answer-ne0 in
-    yank_does c.args.f (lending here.Start) (ring here.Start) c.requires t
+    yank_does c.args.checked.format (lending here.Start) (ring here.Start) c.requires t
     (given-part (ring here.Start) c.requires.ring t) c.yank_checked-put.ensures
     c.yanked.ensures

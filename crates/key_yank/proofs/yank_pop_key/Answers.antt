@@ -11,7 +11,7 @@ abbrev ring : Start → rings.Lent
 ring s = rings.lent s.args.slots.now s.args.lens.now s.args.ring
 
 abbrev lending : Start → Lent
-lending s = lent s.args.text.now s.args.records.now s.args.texts.now s.args.line s.args.log
+lending s = lent s.args.text.now s.args.records.now s.args.texts.now s.args.checked.line s.args.checked.log
 
 -- ---- where the ring gives a slot
 taken : (c : Else-answer-ne0) → Taken (rings.lent c.args.slots.now c.args.lens.now c.args.ring)
@@ -23,7 +23,7 @@ taken c = pop_taken (rings.lent c.args.slots.now c.args.lens.now c.args.ring) c.
 pub returns-then-answer-ne0 : goal.returns-then-answer-ne0
 returns-then-answer-ne0 c =
     let here = goal.at.returns-then-answer-ne0 c in
-    pop_nothing c.args.f (lending here.Start) (ring here.Start) c.requires
+    pop_nothing c.args.checked.format (lending here.Start) (ring here.Start) c.requires
     (pop_none (ring here.Start) c.requires.ring c.yank_pop_checked-a.result c.yank_pop_checked-a.ensures
     c.if-answer-ne0.true) c.says.ensures
 
@@ -50,7 +50,7 @@ pub yank_pop_checked-put-requires : goal.yank_pop_checked-put-requires
 yank_pop_checked-put-requires c =
     let here = goal.at.yank_pop_checked-put-requires c in
     let t = taken here.Else-answer-ne0 in
-    let fit = pop_fit c.args.f (lending here.Start)
+    let fit = pop_fit c.args.checked.format (lending here.Start)
     (ring here.Start) c.requires t
     (given-part (ring here.Start) c.requires.ring t) in
     record {
@@ -66,6 +66,6 @@ pub returns : goal.returns
 returns c =
     let here = goal.at.returns c in
     let t = taken here.Else-answer-ne0 in
-    pop_does c.args.f (lending here.Start) (ring here.Start) c.requires t
+    pop_does c.args.checked.format (lending here.Start) (ring here.Start) c.requires t
     (given-part (ring here.Start) c.requires.ring t) c.yank_pop_checked-put.ensures
     c.yanked.ensures

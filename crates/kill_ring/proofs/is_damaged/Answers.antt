@@ -1,45 +1,29 @@
-use native.Mathlib.Omega.{arith}
-use mathlib.Core.Path.{sym, ◌∙◌}
-use borrow.Author.Tests.{lt-ltb, le-ltb}
-use Rattle.kill_ring.specs.Calls.{Lent, lent, damaged}
+use Rattle.std.proofs.Common.{arith, ◌≡◌, ◌≤◌, false, sym, ◌∙◌}
+use borrow.Author.Tests.{ltb-false}
+use Rattle.lists.proofs.Bools.{never}
+use Rattle.kill_ring.specs.Calls.{lent}
 use Rattle.kill_ring.proofs.Passed.{sized, all_short}
 use Rattle.kill_ring.proofs.is_damaged.Goals as goal
-use Rattle.kill_ring.proofs.is_damaged.Goals.{Start}
+use Rattle.kill_ring.proofs.is_damaged.Goals.{Else-action_breaks, then-ring, else-ring, then-index_breaks, else-index_breaks}
 
--- what the call is lent
-abbrev given : Start → Lent
-given c = lent c.args.slots.now c.args.lens.now c.args.ring
-
-pub returns-then-ring : goal.returns-then-ring
-unfolding damaged
-returns-then-ring c = simp (lt-ltb _ _ c.if-ring.true)
-
-pub returns-then-index_breaks : goal.returns-then-index_breaks
-unfolding damaged
-returns-then-index_breaks c = simp (le-ltb _ _ c.if-ring.false, sym c.index_breaks.ensures ∙ c.if-index_breaks.true)
-
-pub returns-then-action_breaks : goal.returns-then-action_breaks
-unfolding damaged
-returns-then-action_breaks c = simp (
-  le-ltb _ _ c.if-ring.false,
-  sym c.index_breaks.ensures ∙ c.if-index_breaks.false,
-  sym c.action_breaks.ensures ∙ c.if-action_breaks.true,
-)
+-- the count is not over the size
+below : (c : Else-action_breaks) → c.args.ring.count ≤ c.args.ring.size
+below c =
+    elim c.if-index_breaks.branch [
+      | then-index_breaks w ↦ never _ _ (w.value-is ∙ w.if-index_breaks.true) c.if-action_breaks.false
+      | else-index_breaks w ↦ first w.if-index_breaks.false
+    ]
+  where
+    first : c.if-ring.value ≡ false → c.args.ring.count ≤ c.args.ring.size
+    first e = elim c.if-ring.branch [ then-ring w ↦ ltb-false _ _ (sym w.value-is ∙ e) | else-ring w ↦ w.if-ring.false ]
 
 pub any_foreign-requires : goal.any_foreign-requires
 any_foreign-requires c =
-    let here = goal.at.any_foreign-requires c in
-    let s = sized (given here.Start) c.requires in
+    let h = below (goal.at.any_foreign-requires c).Else-action_breaks in
+    let l = lent c.args.slots.now c.args.lens.now c.args.ring in
+    let s = sized l c.requires in
     record {
-      n_in_bounds = omega (arith, s.slots, c.if-ring.false);
-      lens_in_bounds = omega (arith, s.lens, c.if-ring.false);
-      n_value = all_short (given here.Start) s c.if-ring.false;
+      n_in_bounds = omega (arith, s.slots, h);
+      lens_in_bounds = omega (arith, s.lens, h);
+      n_value = all_short l s h;
     }
-
-pub returns : goal.returns
-unfolding damaged
-returns c = simp (
-  le-ltb _ _ c.if-ring.false,
-  sym c.index_breaks.ensures ∙ c.if-index_breaks.false,
-  sym c.action_breaks.ensures ∙ c.if-action_breaks.false,
-) c.any_foreign.ensures

@@ -1,24 +1,13 @@
-use mathlib.Core.Path.{sym, ap, ◌∙◌}
-use mathlib.Core.Bool.{Bool, true, not}
+use Rattle.std.proofs.Common.{sym, not}
+use Rattle.std.specs.Option.{is_none}
 use Rattle.repertoire.specs.Repertoire.{catalogue}
-use Rattle.kill_ring.specs.Calls.{Lent, lent, checked}
-use Rattle.kill_ring.proofs.Kills.{unnamed, named}
+use Rattle.repertoire.specs.Text.{is_text}
+use Rattle.kill_ring.specs.Calls.{lent, mode_of}
+use Rattle.kill_ring.proofs.Passed.{ring-passed}
 use Rattle.kill_ring.proofs.kill.Goals as goal
-use Rattle.kill_ring.proofs.kill.Goals.{Start}
 
--- what the call is lent
-abbrev given : Start → Lent
-given c = lent c.args.slots.now c.args.lens.now c.args.ring
-
-pub returns-in_default : goal.returns-in_default
-returns-in_default c =
-    let here = goal.at.returns-in_default c in
-    unnamed catalogue (given here.Start) c.args.text.now c.args.mode c.refusal.result _
-    (sym c.from_code-code.ensures ∙ c.in_default.is)
-    (c.refusal.ensures ∙ ap (λ (b : Bool). checked catalogue (given here.Start) true (not b))
-    c.check_text.ensures)
-    c.says.ensures
-
-pub returns : goal.returns
-returns c = named catalogue (given (goal.at.returns c).Start) c.args.text.now c.args.mode c.in-Is.m _ _ _
-    (sym c.from_code-code.ensures ∙ c.in-Is.is) c.kill_by.ensures
+pub kill_checked-requires : goal.kill_checked-requires
+kill_checked-requires c =
+    let a = c.args in
+    ring-passed catalogue (lent a.slots.now a.lens.now a.ring) (is_none (mode_of a.mode)) (not (is_text catalogue a.text.now))
+    (sym c.in-Ok.ensures.number)

@@ -60,7 +60,7 @@ returns-then-used-text c =
     let here = goal.at.returns-then-used-text c in
     kill_full catalogue (given here.Start) (ready here.Start) c.args.m
     c.args.text.now (some here.Else-ring-eq0) _ c.kill_used-used.result
-    c.kill_used-used.ensures c.if-used-text.true c.says-then-used-text.ensures
+    c.kill_used-used.ensures c.if-used-text.true c.turned_away.ensures
 
 pub kill_index-i-requires : goal.kill_index-i-requires
 kill_index-i-requires c =

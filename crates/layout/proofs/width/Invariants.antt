@@ -9,8 +9,8 @@ use Rattle.layout.proofs.width.Given as goal
 abbrev reach : (col c : ℕ) → Reach most_columns catalogue col c
 reach = lawful_reach catalogue catalogue_lawful
 
-abbrev pub invariant-loop-at : goal.invariant-loop-at
-invariant-loop-at l = Measured catalogue most_columns reach l.s l.col l.at l.column
+abbrev pub invariant-loop-cp : goal.invariant-loop-cp
+invariant-loop-cp l = Measured catalogue most_columns reach l.s l.col l.at l.column
 
-abbrev pub decreases-loop-at : goal.decreases-loop-at
-decreases-loop-at l = length l.s - l.at
+abbrev pub decreases-loop-cp : goal.decreases-loop-cp
+decreases-loop-cp l = length l.s - l.at

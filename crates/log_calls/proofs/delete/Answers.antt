@@ -13,68 +13,70 @@ use Rattle.log_model.proofs.Recording.{delete_none, delete_some}
 use Rattle.log_records.proofs.Walks.{newest_last}
 use Rattle.log_state.specs.Calls.{Lent, lent, value_of, checked, says}
 use Rattle.log_state.proofs.Passed.{own-passed}
-use Rattle.log_calls.proofs.Recorded.{a_delete, call_refused, call_dropped, call_recorded}
+use Rattle.log_calls.proofs.Recorded.{a_delete, call_refused_by, call_dropped, call_recorded}
 use Rattle.log_calls.proofs.delete.Goals as goal
-use Rattle.log_calls.proofs.delete.Goals.{After-check-c, Else-c-ne0}
+use Rattle.log_calls.proofs.delete.Goals.{After-check, In-Ok}
 
 -- ---- where the check is made: the format, what is lent, what is recorded, and the number
-abbrev format : After-check-c → Format
+abbrev format : After-check → Format
 format c = c.format_for-f.result
 
-abbrev lending : After-check-c → Lent
+abbrev lending : After-check → Lent
 lending c = lent c.args.records.now c.args.texts.now c.args.log
 
-abbrev recorded : After-check-c → List Change → List Change
+abbrev recorded : After-check → List Change → List Change
 recorded c = record_delete catalogue c.args.idx c.args.buf.now
 
-number : (c : After-check-c)
-    → checked catalogue c.format_for-f.result (lending c)
-    (not (is_text catalogue c.args.buf.now)) ≡ c.check-c.result.number
-number c = sym (c.check-c.ensures.number ∙ ap (λ (b : Bool). checked catalogue c.format_for-f.result
-    (lending c) (not b)) c.check_text.ensures)
+same : (c : After-check) → checked catalogue c.format_for-f.result (lending c) (not c.check_text.result) ≡
+    checked catalogue c.format_for-f.result (lending c)
+    (not (is_text catalogue c.args.buf.now))
+same c = ap (λ (b : Bool). checked catalogue c.format_for-f.result (lending c) (not b)) c.check_text.ensures
 
-is-text : (c : Else-c-ne0) → is_text catalogue c.args.buf.now ≡ true
-is-text c = not-false _ (own-passed c.format_for-f.result (lent c.args.records.now c.args.texts.now c.args.log) _
-    ((sym (c.check-c.ensures.number ∙ ap (λ (b : Bool). checked catalogue c.format_for-f.result
-    (lent c.args.records.now c.args.texts.now c.args.log) (not b)) c.check_text.ensures)) ∙ c.if-c-ne0.false))
+-- the checks pass
+passed : (c : In-Ok) → 0 ≡ checked catalogue c.format_for-f.result (lent c.args.records.now c.args.texts.now c.args.log)
+    (not (is_text catalogue c.args.buf.now))
+passed c = c.in-Ok.ensures.number ∙ same (goal.at.In-Ok c).After-check
 
-pub check-c-requires : goal.check-c-requires
-check-c-requires c = fit_for _ c.format_for-f.ensures
+is-text : (c : In-Ok) → is_text catalogue c.args.buf.now ≡ true
+is-text c = not-false _ (own-passed c.format_for-f.result (lent c.args.records.now c.args.texts.now c.args.log) _ (sym (passed c)))
 
-pub returns-then-c-ne0 : goal.returns-then-c-ne0
-returns-then-c-ne0 c =
-    let here = goal.at.returns-then-c-ne0 c in
-    call_refused (lending here.After-check-c) _ (recorded here.After-check-c)
-    c.format_for-f.ensures (number here.After-check-c) c.if-c-ne0.true c.says.ensures
+pub check-requires : goal.check-requires
+check-requires c = fit_for _ c.format_for-f.ensures
+
+pub returns-in-Err : goal.returns-in-Err
+returns-in-Err c =
+    let here = goal.at.returns-in-Err c in
+    call_refused_by (lending here.After-check) _ (recorded here.After-check)
+    c.format_for-f.ensures c.in-Err.why (c.in-Err.ensures.number ∙ same here.After-check) c.refused.ensures
 
 pub returns-then-buf-eq0 : goal.returns-then-buf-eq0
 returns-then-buf-eq0 c =
     let here = goal.at.returns-then-buf-eq0 c in
-    call_dropped (lending here.After-check-c) _ (recorded here.After-check-c)
-    c.format_for-f.ensures (number here.After-check-c) c.if-c-ne0.false
-    (c.check-c.ensures.ready c.if-c-ne0.false) (delete_none c.args.idx _ catalogue c.args.buf.now c.if-buf-eq0.true)
-    (c.says-then-buf-eq0.ensures ∙ ap (says 0) c.drop_redo.ensures)
+    call_dropped (lending here.After-check) _ (recorded here.After-check)
+    c.format_for-f.ensures (passed here.In-Ok)
+    c.in-Ok.ensures.ready (delete_none c.args.idx _ catalogue c.args.buf.now c.if-buf-eq0.true)
+    (c.says.ensures ∙ ap (says 0) c.drop_redo.ensures)
 
 pub is_single-requires : goal.is_single-requires
-is_single-requires c = is-text (goal.at.is_single-requires c).Else-c-ne0
+is_single-requires c = is-text (goal.at.is_single-requires c).In-Ok
 
 pub record-requires : goal.record-requires
 record-requires c =
     let here = goal.at.record-requires c in
     record {
       fit = fit_for _ c.format_for-f.ensures;
-      ready = c.check-c.ensures.ready c.if-c-ne0.false;
-      last_at = (λ e. newest_last catalogue (format here.After-check-c) _ _ (c.check-c.ensures.newest c.if-c-ne0.false));
+      ready = c.in-Ok.ensures.ready;
+      last_at = (λ e. newest_last catalogue (format here.After-check) _ _ c.in-Ok.ensures.newest);
       numbered = a_delete c.args.idx c.args.buf.now;
-      ok = is-text here.Else-c-ne0;
+      ok = is-text here.In-Ok;
     }
 
 pub returns : goal.returns
 returns c =
     let here = goal.at.returns c in
     let s = c.args.buf.now in
-    let u = (value_of catalogue (format here.After-check-c) (lending here.After-check-c)).undo in
-    call_recorded (lending here.After-check-c) _ (recorded here.After-check-c) c.format_for-f.ensures
-    (number here.After-check-c) c.if-c-ne0.false
+    let u = (value_of catalogue (format here.After-check) (lending here.After-check)).undo in
+    call_recorded (lending here.After-check) _ (recorded here.After-check) c.format_for-f.ensures
+    (passed here.In-Ok)
     (ap (λ (b : Bool). note b (delete c.args.idx s) u) c.is_single.ensures
     ∙ delete_some c.args.idx u catalogue s (omega (arith, c.if-buf-eq0.false))) c.record.ensures

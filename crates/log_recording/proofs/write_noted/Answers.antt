@@ -12,8 +12,7 @@ returns c =
     record {
       records = c.write_record.ensures
           ∙ ap
-          (λ (i : ℕ). sets a.records.now (a.n.tail.records - i)
-          (record_bytes a.f a.n.tail.kind a.n.tail.place a.n.tail.old a.n.tail.new)) c.edit_size.ensures.0;
+          (λ (i : ℕ). sets a.records.now (a.n.records - i) (record_bytes a.f a.n.edit)) c.edit_size.ensures.0;
       texts = texts-written a.texts.now c.insert_bytes.new.s c.insert_bytes-2.new.s a.old.now
           a.new.now a.used a.n.at (omega (arith, c.insert_bytes.auto.s, c.requires))
           c.insert_bytes.ensures c.insert_bytes-2.ensures;

@@ -5,8 +5,8 @@ use Rattle.log_model.proofs.Walk.{Come}
 use Rattle.log_records.proofs.Walks.{LastOf}
 use Rattle.log_records.proofs.last_start.Given as goal
 
-abbrev pub invariant-loop-at : goal.invariant-loop-at
-invariant-loop-at l = Come catalogue l.f l.records l.at (LastOf l.f l.last)
+abbrev pub invariant-loop-r : goal.invariant-loop-r
+invariant-loop-r l = Come catalogue l.f l.records l.at (LastOf l.f l.last)
 
-abbrev pub decreases-loop-at : goal.decreases-loop-at
-decreases-loop-at l = length l.records - l.at
+abbrev pub decreases-loop-r : goal.decreases-loop-r
+decreases-loop-r l = length l.records - l.at

@@ -1,28 +1,35 @@
-use mathlib.Core.Path.{sym}
-use native.Mathlib.Omega.{arith}
-use lib.Dec.{leb}
-use lib.Seq.{length-take-le}
+use mathlib.Core.Path.{ap, ◌∙◌}
+use Rattle.std.specs.Prelude.{is_some}
 use Rattle.repertoire.specs.Repertoire.{catalogue}
 use Rattle.log_state.specs.Logs.{damaged}
 use Rattle.log_state.proofs.Sums.{list_behind}
-use Rattle.log_state.proofs.Passed.{sound_is, both_sound}
+use Rattle.log_state.proofs.Passed.{high_level, undo_bad, redo_bad, sound_is}
 use Rattle.log_state.proofs.look.Goals as goal
 
-pub slice_bounds-check_list-end : goal.slice_bounds-check_list-end
-slice_bounds-check_list-end c = sym (length-take-le _ _ (omega arith))
-
-pub slice_bounds-check_list-end-2 : goal.slice_bounds-check_list-end-2
-slice_bounds-check_list-end-2 c = sym (length-take-le _ _ (omega arith))
-
-pub returns : goal.returns
+pub returns-then-log-gt255-clause-sound : goal.returns-then-log-gt255-clause-sound
 unfolding damaged
-returns c =
+returns-then-log-gt255-clause-sound c = high_level c.args.log.level _ _ c.if-log-gt255.true
+
+pub returns-in_err-newest-clause-sound : goal.returns-in_err-newest-clause-sound
+unfolding damaged
+returns-in_err-newest-clause-sound c =
+    ap is_some c.from_residual.ensures ∙ undo_bad c.args.log.level c.if-log-gt255.false _ _ c.in_err-newest.ensures.sound
+
+pub returns-in_err-check_list-clause-sound : goal.returns-in_err-check_list-clause-sound
+unfolding damaged
+returns-in_err-check_list-clause-sound c =
     let a = c.args in
-    let log = a.log in
-    let redo-is = list_behind catalogue a.f a.records.now a.texts.now log.undo.records log.redo.records log.undo.texts log.redo.texts
-    c.check_list-redo.result.sound c.check_list-redo.ensures.sound in
-    record {
-      sound = sound_is log.level c.check_list-undo.result.sound c.check_list-redo.result.sound _ _ c.check_list-undo.ensures.sound redo-is;
-      newest = λ e. c.check_list-undo.ensures.newest (both_sound (leb log.level 255) c.check_list-undo.result.sound
-          c.check_list-redo.result.sound e);
-    }
+    let u = a.log.undo in
+    let r = a.log.redo in
+    ap is_some c.from_residual-in_err-check_list.ensures
+    ∙ redo_bad a.log.level c.if-log-gt255.false _ _ c.in_ok-newest.ensures.sound
+    (list_behind catalogue a.f a.records.now a.texts.now u.records r.records u.texts r.texts _ c.in_err-check_list.ensures.sound)
+
+pub returns-clause-sound : goal.returns-clause-sound
+unfolding damaged
+returns-clause-sound c =
+    let a = c.args in
+    let u = a.log.undo in
+    let r = a.log.redo in
+    sound_is a.log.level c.if-log-gt255.false _ _ c.in_ok-newest.ensures.sound
+    (list_behind catalogue a.f a.records.now a.texts.now u.records r.records u.texts r.texts _ c.in_ok-check_list.ensures.sound)

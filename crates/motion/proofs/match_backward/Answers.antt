@@ -1,4 +1,4 @@
-use mathlib.Core.Path.{refl, sym, ap, ◌∙◌}
+use mathlib.Core.Path.{sym, ap, ◌∙◌}
 use native.Mathlib.Omega.{arith}
 use Rattle.utf8.specs.Answer.{as_first}
 use Rattle.utf8.specs.Chars.{EndsAt}
@@ -14,9 +14,6 @@ ended : (c : After-prev_char-at) →
 ended c = ends-before _ _ _ c.requires.0 c.loop-left.invariant.1 (omega (arith, c.if-at-eq0.false)) c.loop-left.invariant.0
     c.prev_char-at.ensures
 
-pub loop-left-init : goal.loop-left-init
-loop-left-init c = (c.requires.2, c.requires.1, refl)
-
 pub returns-then-at-eq0 : goal.returns-then-at-eq0
 unfolding match_backward nth_match
 returns-then-at-eq0 c =
@@ -26,7 +23,7 @@ returns-then-at-eq0 c =
 
 pub returns-in_default : goal.returns-in_default
 returns-in_default c =
-    ends_never _ _ _ _ (ended (goal.at.returns-in_default c).After-prev_char-at) (sym c.decode_at-d.ensures ∙ ap as_first c.in_default.is)
+    ends_never _ _ _ _ (ended (goal.at.returns-in_default c).After-prev_char-at) (sym c.decode_at.ensures ∙ ap as_first c.in_default.is)
 
 pub loop-left-smaller-then-cp-c : goal.loop-left-smaller-then-cp-c
 loop-left-smaller-then-cp-c c = (ended (goal.at.loop-left-smaller-then-cp-c c).After-prev_char-at).below
@@ -38,7 +35,7 @@ loop-left-preserved-then-cp-c c =
       e.start,
       c.loop-left.invariant.2
           ∙ behind_in c.args.s.now c.args.c c.loop-left.at _ _ _ e
-          (sym c.decode_at-d.ensures ∙ ap as_first c.in-Char.is) (omega (arith, e.below, c.loop-left.invariant.0))
+          (sym c.decode_at.ensures ∙ ap as_first c.in-Some.is) (omega (arith, e.below, c.loop-left.invariant.0))
           c.loop-left.found c.loop-left.left c.if-cp-c.true c.loop-left-test.true,
     )
 
@@ -52,7 +49,7 @@ loop-left-preserved c =
       e.start,
       c.loop-left.invariant.2
           ∙ behind-out c.args.s.now c.args.c c.loop-left.at _ _ _ e
-          (sym c.decode_at-d.ensures ∙ ap as_first c.in-Char.is) (omega (arith, e.below, c.loop-left.invariant.0))
+          (sym c.decode_at.ensures ∙ ap as_first c.in-Some.is) (omega (arith, e.below, c.loop-left.invariant.0))
           c.loop-left.found c.loop-left.left c.if-cp-c.false,
     )
 

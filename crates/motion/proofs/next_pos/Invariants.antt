@@ -1,4 +1,4 @@
-use Prim.Native.Nat.{◌≤◌, ◌+◌}
+use Prim.Native.Nat.{◌≤◌, ◌+◌, ◌-◌}
 use mathlib.Core.Path.{◌≡◌}
 use lib.ListN.{length, take, drop}
 use Rattle.lists.specs.Lists.{sum}
@@ -6,9 +6,6 @@ use Rattle.repertoire.specs.Repertoire.{catalogue}
 use Rattle.motion.specs.Steps.{sizes}
 use Rattle.motion.proofs.next_pos.Given as goal
 
-abbrev pub invariant-loop-left : goal.invariant-loop-left
-invariant-loop-left l = (l.at ≤ length l.s) × (l.at + sum (take l.left (sizes catalogue (drop l.at l.s))) ≡ l.pos + sum
+abbrev pub invariant-loop : goal.invariant-loop
+invariant-loop l = (l.at ≤ length l.s) × (l.at + sum (take (l.n - l.counter) (sizes catalogue (drop l.at l.s))) ≡ l.pos + sum
     (take l.n (sizes catalogue (drop l.pos l.s))))
-
-abbrev pub decreases-loop-left : goal.decreases-loop-left
-decreases-loop-left l = l.left

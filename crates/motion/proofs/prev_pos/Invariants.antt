@@ -8,10 +8,7 @@ use Rattle.repertoire.specs.Repertoire.{catalogue}
 use Rattle.motion.specs.Steps.{sizes}
 use Rattle.motion.proofs.prev_pos.Given as goal
 
-abbrev pub invariant-loop-left : goal.invariant-loop-left
-invariant-loop-left l = (l.at ≤ length l.s) × (boundary l.s l.at ≡ true) ×
+abbrev pub invariant-loop : goal.invariant-loop
+invariant-loop l = (l.at ≤ length l.s) × (boundary l.s l.at ≡ true) ×
     (sum (take (length (sizes catalogue (take l.pos l.s)) - l.n) (sizes catalogue (take l.pos l.s))) ≡ sum
-    (take (length (sizes catalogue (take l.at l.s)) - l.left) (sizes catalogue (take l.at l.s))))
-
-abbrev pub decreases-loop-left : goal.decreases-loop-left
-decreases-loop-left l = l.left
+    (take (length (sizes catalogue (take l.at l.s)) - (l.n - l.counter)) (sizes catalogue (take l.at l.s))))

@@ -1,14 +1,10 @@
-use borrow.Author.Rules.{rules}
-use mathlib.Core.Path.{refl, sym, ◌∙◌}
+use mathlib.Core.Path.{sym, ◌∙◌}
 use native.Mathlib.Omega.{arith}
 use Rattle.repertoire.specs.Repertoire.{catalogue}
 use Rattle.cluster.proofs.Steps.{next_told}
 use Rattle.motion.specs.Trim.{skip_whitespace}
 use Rattle.motion.proofs.Trim.{alnum_here, alnum-later, alnum_none, alnum-end}
 use Rattle.motion.proofs.skip_whitespace.Goals as goal
-
-pub loop-at-init : goal.loop-at-init
-loop-at-init c = (search rules, refl)
 
 pub returns-then-len-eq0 : goal.returns-then-len-eq0
 unfolding skip_whitespace
@@ -25,21 +21,6 @@ returns-then-k c = sym
     ∙ alnum_here catalogue c.args.s.now c.loop-at.at _
     (next_told catalogue c.args.s.now c.loop-at.at _ c.loop-at.invariant.0
     (c.next_cluster-k.ensures.known, c.next_cluster-k.ensures.within)).0 (omega (arith, c.if-len-eq0.false)) c.if-k.true)
-
-pub overflow_add-at : goal.overflow_add-at
-overflow_add-at c = omega (
-  arith,
-  (next_told catalogue c.args.s.now c.loop-at.at _ c.loop-at.invariant.0
-      (c.next_cluster-k.ensures.known, c.next_cluster-k.ensures.within)).1,
-)
-
-pub loop-at-smaller : goal.loop-at-smaller
-loop-at-smaller c = omega (
-  arith,
-  (next_told catalogue c.args.s.now c.loop-at.at _ c.loop-at.invariant.0
-      (c.next_cluster-k.ensures.known, c.next_cluster-k.ensures.within)).1,
-  c.if-len-eq0.false,
-)
 
 pub loop-at-preserved : goal.loop-at-preserved
 loop-at-preserved c =

@@ -1,12 +1,10 @@
-use borrow.Author.Rules.{rules}
 use mathlib.Core.Path.{◌≡◌, sym, ap, ◌∙◌}
 use native.Mathlib.Omega.{arith}
 use Rattle.utf8.specs.Answer.{as_first}
 use Rattle.utf8.specs.Chars.{EndsAt}
-use Rattle.utf8.proofs.Boundary.{boundary_end}
 use Rattle.utf8.proofs.Ends.{ends-before, ends_never}
 use Rattle.repertoire.specs.Repertoire.{catalogue}
-use Rattle.motion.proofs.Trim.{trim_more, trim_stop, trim_start, trim_whole}
+use Rattle.motion.proofs.Trim.{trim_more, trim_stop, trim_start}
 use Rattle.motion.proofs.trim_end.Goals as goal
 use Rattle.motion.proofs.trim_end.Goals.{After-prev_char-i}
 
@@ -15,19 +13,16 @@ ended : (c : After-prev_char-i) →
     EndsAt c.args.s.now c.loop-at.at c.prev_char-i.result
 ended c = ends-before _ _ _ c.requires c.loop-at.invariant.1 c.loop-at-test.true c.loop-at.invariant.0 c.prev_char-i.ensures
 
-pub loop-at-init : goal.loop-at-init
-loop-at-init c = (search rules, boundary_end _ c.requires, trim_whole catalogue _)
-
 pub returns-in_default : goal.returns-in_default
 returns-in_default c =
-    ends_never _ _ _ _ (ended (goal.at.returns-in_default c).After-prev_char-i) (sym c.decode_at-d.ensures ∙ ap as_first c.in_default.is)
+    ends_never _ _ _ _ (ended (goal.at.returns-in_default c).After-prev_char-i) (sym c.decode_at.ensures ∙ ap as_first c.in_default.is)
 
 pub returns-then-not-is_white : goal.returns-then-not-is_white
 returns-then-not-is_white c = sym
     (c.loop-at.invariant.2
     ∙ trim_stop catalogue c.args.s.now c.loop-at.at _ _ _ c.loop-at.invariant.1 c.loop-at.invariant.0
     (ended (goal.at.returns-then-not-is_white c).After-prev_char-i)
-    (sym c.decode_at-d.ensures ∙ ap as_first c.in-Char.is) (sym c.is_white.ensures ∙ c.if-not-is_white.true))
+    (sym c.decode_at.ensures ∙ ap as_first c.in-Some.is) (sym c.is_white.ensures ∙ c.if-not-is_white.true))
 
 pub loop-at-smaller : goal.loop-at-smaller
 loop-at-smaller c = (ended (goal.at.loop-at-smaller c).After-prev_char-i).below
@@ -39,7 +34,7 @@ loop-at-preserved c =
       e.start,
       c.loop-at.invariant.2
           ∙ trim_more catalogue c.args.s.now c.loop-at.at _ _ _ e
-          (sym c.decode_at-d.ensures ∙ ap as_first c.in-Char.is)
+          (sym c.decode_at.ensures ∙ ap as_first c.in-Some.is)
           (sym c.is_white.ensures ∙ c.if-not-is_white.false),
     )
 

@@ -1,32 +1,26 @@
-use mathlib.Core.Path.{sym, ap, ◌∙◌}
-use lib.Seq.{length-take-le}
+use mathlib.Core.Path.{sym, ◌∙◌}
+use Rattle.std.proofs.Common.{rules, ◌≤◌, length}
 use Rattle.repertoire.specs.Repertoire.{catalogue}
 use Rattle.checks.specs.Checks.{no_tests}
-use Rattle.checks.specs.Answers.{line_answer, moved_to}
-use Rattle.motion_calls.specs.Moves.{elsewhere}
 use Rattle.checks.proofs.Fit.{fit-within}
-use Rattle.motion_calls.proofs.Called.{refused, accepted, fit_of}
+use Rattle.motion_calls.proofs.Called.{by_checks, fit_of}
 use Rattle.motion_calls.proofs.move_home.Goals as goal
 
-pub returns-then-r-ne0 : goal.returns-then-r-ne0
-returns-then-r-ne0 c =
-    refused catalogue c.args.text.now c.args.line no_tests _ c.refusal-r.ensures _ _ c.if-r-ne0.true c.says.ensures
-
-pub slice_bounds-start_of_line-end : goal.slice_bounds-start_of_line-end
-slice_bounds-start_of_line-end c = sym
-    (length-take-le _ _
-    (fit_of catalogue c.args.text.now c.args.line no_tests _ c.refusal-r.ensures c.if-r-ne0.false).used)
-
-pub start_of_line-requires : goal.start_of_line-requires
-start_of_line-requires c =
+pub on_text-requires-clause-used : goal.on_text-requires-clause-used
+on_text-requires-clause-used c =
     let a = c.args in
-    (fit-within catalogue _ a.text.now a.line
-    (fit_of catalogue a.text.now a.line no_tests _ c.refusal-r.ensures c.if-r-ne0.false))
+    λ z. (fit_of catalogue a.text.now a.line no_tests (sym z ∙ c.lent_refusal.ensures)).used
+
+pub on_text-requires-clause-takes : goal.on_text-requires-clause-takes
+on_text-requires-clause-takes c =
+    let a = c.args in
+    λ z p e.
+    let f = fit_of catalogue a.text.now a.line no_tests (sym z ∙ c.lent_refusal.ensures) in
+    let w : a.line.cursor ≤ length p.now = rw e (fit-within catalogue _ a.text.now a.line f) in
+    search rules
 
 pub returns : goal.returns
 returns c =
     let a = c.args in
-    accepted catalogue a.text.now a.line no_tests _ c.refusal-r.ensures _ _ c.if-r-ne0.false
-    (c.moved_to.ensures
-    ∙ ap (line_answer a.line)
-    (ap (moved_to a.line) (c.elsewhere.ensures ∙ ap (elsewhere a.line) c.start_of_line.ensures.0)))
+    by_checks catalogue a.text.now a.line no_tests _ _ _ c.lent_refusal.ensures c.on_text.ensures.refused
+    (λ z. let h = c.on_text.ensures.done z in search rules)

@@ -1,23 +1,32 @@
-use mathlib.Core.Path.{sym, ap, ◌∙◌}
+use mathlib.Core.Path.{◌≡◌, sym, ap, ◌∙◌}
+use Rattle.std.proofs.Common.{rules, ◌≤◌, length, true}
+use Rattle.utf8.specs.Chars.{valid, boundary}
 use Rattle.repertoire.specs.Repertoire.{catalogue}
-use Rattle.motion_calls.proofs.Called.{unnamed-refused}
-use Rattle.motion_calls.specs.Moves.{prev_word_by}
-use mathlib.Core.Bool.{false}
+use Rattle.checks.specs.Checks.{no_tests}
 use Rattle.checks.specs.Answers.{line_answer}
+use Rattle.checks.proofs.Fit.{fit-valid, fit-within}
+use Rattle.motion_calls.specs.Moves.{prev_word_by}
+use Rattle.motion_calls.proofs.Called.{by_checks, fit_of}
 use Rattle.motion_calls.proofs.move_to_prev_word.Goals as goal
 
-pub returns-in_default : goal.returns-in_default
-returns-in_default c =
+pub on_text-requires-clause-used : goal.on_text-requires-clause-used
+on_text-requires-clause-used c =
     let a = c.args in
-    unnamed-refused catalogue a.text.now a.line false false _ _ _ c.refusal.ensures c.says.ensures
-    ∙ sym
-    (ap (line_answer a.line)
-    (ap (prev_word_by catalogue a.text.now a.line a.n) (sym c.from_code-code.ensures ∙ c.in_default.is)))
+    λ z. (fit_of catalogue a.text.now a.line no_tests (sym z ∙ c.lent_refusal.ensures)).used
+
+pub on_text-requires-clause-takes : goal.on_text-requires-clause-takes
+on_text-requires-clause-takes c =
+    let a = c.args in
+    λ z p e.
+    let f = fit_of catalogue a.text.now a.line no_tests (sym z ∙ c.lent_refusal.ensures) in
+    let v : valid p.now ≡ true = rw e (fit-valid catalogue _ a.text.now a.line f) in
+    let b : boundary p.now a.line.cursor ≡ true = rw e f.at-boundary in
+    let w : a.line.cursor ≤ length p.now = rw e (fit-within catalogue _ a.text.now a.line f) in
+    search rules
 
 pub returns : goal.returns
 returns c =
     let a = c.args in
-    c.prev_word.ensures
-    ∙ sym
-    (ap (line_answer a.line)
-    (ap (prev_word_by catalogue a.text.now a.line a.n) (sym c.from_code-code.ensures ∙ c.in-Is.is)))
+    by_checks catalogue a.text.now a.line no_tests _ _ _ c.lent_refusal.ensures c.on_text.ensures.refused
+    (λ z. let h = c.on_text.ensures.done z in search rules)
+    ∙ ap (line_answer a.line) (ap (prev_word_by catalogue a.text.now a.line a.n) c.in-Ok.ensures)

@@ -1,34 +1,26 @@
-use mathlib.Core.Path.{refl, sym, ◌∙◌}
+use mathlib.Core.Path.{◌≡◌, sym, ◌∙◌}
 use native.Mathlib.Omega.{arith}
+use lib.ListN.{length}
 use Rattle.lists.proofs.Parts.{get_or_any}
 use Rattle.motion_lines.proofs.Lines.{end_last, end_here, end_on}
 use Rattle.motion_lines.proofs.end_of_line.Goals as goal
 
-pub loop-i-init : goal.loop-i-init
-loop-i-init c = (omega arith, omega arith, refl)
-
 pub returns-then-s-i-eq10 : goal.returns-then-s-i-eq10
 returns-then-s-i-eq10 c = (
   sym
-      (c.loop-i.invariant.2
+      (c.loop-i.invariant
       ∙ end_here c.args.s.now c.loop-i.i c.loop-i-test.true
       (get_or_any c.args.s.now c.loop-i.i 256 0 c.loop-i-test.true ∙ c.if-s-i-eq10.true)),
-  c.loop-i.invariant.0,
-  c.loop-i.invariant.1,
+  omega arith,
+  omega arith,
 )
 
 pub loop-i-preserved : goal.loop-i-preserved
-loop-i-preserved c = (
-  omega (arith, c.loop-i.invariant.0),
-  omega (arith, c.loop-i-test.true),
-  c.loop-i.invariant.2
-      ∙ end_on c.args.s.now c.loop-i.i c.loop-i-test.true
-      (λ x. c.if-s-i-eq10.false (get_or_any c.args.s.now c.loop-i.i 0 256 c.loop-i-test.true ∙ x)),
-)
+loop-i-preserved c = c.loop-i.invariant
+    ∙ end_on c.args.s.now c.loop-i.i c.loop-i-test.true
+    (λ x. c.if-s-i-eq10.false (get_or_any c.args.s.now c.loop-i.i 0 256 c.loop-i-test.true ∙ x))
 
 pub returns : goal.returns
-returns c = (
-  sym (c.loop-i.invariant.2 ∙ end_last c.args.s.now c.loop-i.i c.loop-i-test.false),
-  c.loop-i.invariant.0,
-  c.loop-i.invariant.1,
-)
+returns c =
+    let all : length c.args.s.now ≡ c.loop-i.i = omega arith in
+    (all ∙ sym (c.loop-i.invariant ∙ end_last c.args.s.now c.loop-i.i c.loop-i-test.false), omega arith, omega arith)

@@ -11,5 +11,5 @@ pub returns : goal.returns
 returns c =
     let a = c.args in
     line_up_some catalogue a.s.now a.pos a.n a.prompt _ c.start_of_line-own.ensures.0 _ _ _ _ _ _ _ c.if-own-eq0.false
-    c.width-column.ensures.0 c.less_one.ensures c.start_of_line.ensures.0
-    c.line_above-l.ensures.0 c.columns_before.ensures c.less-wanted.ensures c.nth_cluster.ensures
+    c.width-column.ensures.0 c.saturating_sub.ensures c.start_of_line.ensures.0
+    c.line_above-line.ensures.0 c.columns_before.ensures c.saturating_sub-wanted.ensures c.nth_cluster.ensures

@@ -1,54 +1,55 @@
-use Prim.Native.Nat.{◌-◌}
-use mathlib.Core.Path.{sym, ◌∙◌}
+use Prim.Native.Nat.{◌+◌, ◌-◌}
+use mathlib.Core.Path.{◌≡◌, sym, ◌∙◌}
 use native.Mathlib.Omega.{arith}
 use lib.ListN.{length-take, length-drop, length, drop}
 use Rattle.repertoire.specs.Repertoire.{catalogue}
 use Rattle.lists.specs.Lists.{part}
-use Rattle.motion_lines.proofs.Columns.{nth_start, nth_end, nth_stuck, nth_found, nth_more}
+use Rattle.motion_lines.proofs.Columns.{nth_start, nth_stuck, nth_found, nth_more}
 use Rattle.motion_lines.proofs.nth_cluster.Goals as goal
 
-pub loop-at-init : goal.loop-at-init
-loop-at-init c = (
-  omega arith,
-  nth_start catalogue c.args.s.now c.args.a c.args.b c.args.n
-      c.args.other,
-)
+pub loop-init : goal.loop-init
+loop-init c =
+    let all : c.args.n - 0 ≡ c.args.n = omega arith in
+    (omega arith, rw all (nth_start catalogue c.args.s.now c.args.line.start c.args.line.end c.args.n c.args.other))
 
 pub returns-then-len-eq0 : goal.returns-then-len-eq0
 returns-then-len-eq0 c =
     let a = c.args in
     sym
-    (c.loop-at.invariant.1
-    ∙ nth_stuck catalogue (part a.s.now a.a a.b) a.a a.other c.loop-at.at c.loop-at.left c.next_cluster-k.result
-    c.next_cluster-k.ensures.known c.if-len-eq0.true)
+    (c.loop.invariant.1
+    ∙ nth_stuck catalogue (part a.s.now a.line.start a.line.end) a.line.start a.other c.loop.at (a.n - c.loop.counter)
+    c.next_cluster-len.result c.next_cluster-len.ensures.known c.if-len-eq0.true)
 
-pub overflow_add-result : goal.overflow_add-result
-overflow_add-result c = omega (arith, simp (length-take, length-drop) at c.loop-at.invariant.0, c.requires)
-
-pub returns-then-left-eq0 : goal.returns-then-left-eq0
-returns-then-left-eq0 c =
+pub loop-preserved : goal.loop-preserved
+loop-preserved c =
     let a = c.args in
-    sym
-    (c.loop-at.invariant.1
-    ∙ nth_found catalogue (part a.s.now a.a a.b) a.a a.other c.loop-at.at c.loop-at.left c.next_cluster-k.result
-    c.next_cluster-k.ensures.known c.if-len-eq0.false c.if-left-eq0.true)
-
-pub loop-at-preserved : goal.loop-at-preserved
-loop-at-preserved c =
-    let a = c.args in (
+    let t = part a.s.now a.line.start a.line.end in
+    let left : c.args.n - (c.loop.counter + 1) ≡ c.args.n - c.loop.counter - 1 = omega arith in (
       omega (
         arith,
-        c.loop-at.invariant.0,
-        length-take (length (part a.s.now a.a a.b) - c.loop-at.at) (drop c.loop-at.at (part a.s.now a.a a.b)),
-        length-drop c.loop-at.at (part a.s.now a.a a.b),
-        c.next_cluster-k.ensures.within,
+        c.loop.invariant.0,
+        length-take (length t - c.loop.at) (drop c.loop.at t),
+        length-drop c.loop.at t,
+        c.next_cluster-len.ensures.within,
       ),
-      c.loop-at.invariant.1
-          ∙ nth_more catalogue (part a.s.now a.a a.b) a.a a.other c.loop-at.at c.loop-at.left c.next_cluster-k.result
-          c.next_cluster-k.ensures.known c.if-len-eq0.false c.if-left-eq0.false,
+      rw left
+          (c.loop.invariant.1
+          ∙ nth_more catalogue t a.line.start a.other c.loop.at (a.n - c.loop.counter) c.next_cluster-len.result
+          c.next_cluster-len.ensures.known c.if-len-eq0.false (omega arith)),
     )
 
-pub returns : goal.returns
-returns c =
+pub returns-then-next_cluster-eq0 : goal.returns-then-next_cluster-eq0
+returns-then-next_cluster-eq0 c =
     let a = c.args in
-    sym (c.loop-at.invariant.1 ∙ nth_end catalogue (part a.s.now a.a a.b) a.a a.other c.loop-at.at c.loop-at.left c.loop-at-test.false)
+    sym
+    (c.loop.invariant.1
+    ∙ nth_stuck catalogue (part a.s.now a.line.start a.line.end) a.line.start a.other c.loop.at (a.n - c.loop.counter)
+    c.next_cluster.result c.next_cluster.ensures.known c.if-next_cluster-eq0.true)
+
+pub returns-else-next_cluster-eq0 : goal.returns-else-next_cluster-eq0
+returns-else-next_cluster-eq0 c =
+    let a = c.args in
+    sym
+    (c.loop.invariant.1
+    ∙ nth_found catalogue (part a.s.now a.line.start a.line.end) a.line.start a.other c.loop.at (a.n - c.loop.counter)
+    c.next_cluster.result c.next_cluster.ensures.known c.if-next_cluster-eq0.false (omega arith))

@@ -1,13 +1,8 @@
 use mathlib.Core.Path.{◌≡◌}
-use Prim.Native.Nat.{◌+◌, ◌-◌, ◌≤◌}
-use lib.ListN.{length}
+use Prim.Native.Nat.{◌-◌}
 use lib.Seq.{sets}
 use Rattle.numbers.specs.Numbers.{le}
 use Rattle.numbers.proofs.write_num.Given as goal
 
-abbrev pub invariant-loop-i : goal.invariant-loop-i
-invariant-loop-i l = (l.i ≤ l.width) × (length l.s ≡ length l.initial.s) ×
-    (sets l.s (l.at + l.i) (le (l.width - l.i) l.rest) ≡ sets l.initial.s l.at (le l.width l.v))
-
-abbrev pub decreases-loop-i : goal.decreases-loop-i
-decreases-loop-i l = l.width - l.i
+abbrev pub invariant-loop-byte : goal.invariant-loop-byte
+invariant-loop-byte l = sets l.byte-items l.byte-index (le (l.width - l.byte-index) l.rest) ≡ sets l.initial.byte-items 0 (le l.width l.v)

@@ -22,16 +22,16 @@ pub returns-in_default : goal.returns-in_default
 returns-in_default c = sym
     (c.loop-i.invariant.1
     ∙ subst (ReadTo c.args.s.now c.loop-i.i c.block_end-end.result) c.in_default.is
-    c.read_chars-r.ensures)
+    c.read_chars.ensures)
 
 pub loop-i-smaller : goal.loop-i-smaller
-loop-i-smaller c = let h = subst (ReadTo c.args.s.now c.loop-i.i c.block_end-end.result) c.in-At.is
-    c.read_chars-r.ensures in
+loop-i-smaller c = let h = subst (ReadTo c.args.s.now c.loop-i.i c.block_end-end.result) c.in-Some.is
+    c.read_chars.ensures in
     omega (arith, h.0, h.1, c.block_end-end.ensures)
 
 pub loop-i-preserved : goal.loop-i-preserved
-loop-i-preserved c = let h = subst (ReadTo c.args.s.now c.loop-i.i c.block_end-end.result) c.in-At.is
-    c.read_chars-r.ensures in
+loop-i-preserved c = let h = subst (ReadTo c.args.s.now c.loop-i.i c.block_end-end.result) c.in-Some.is
+    c.read_chars.ensures in
     (h.1, c.loop-i.invariant.1 ∙ h.2)
 
 pub returns : goal.returns

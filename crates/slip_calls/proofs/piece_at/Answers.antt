@@ -64,17 +64,17 @@ overflow_add-columns c =
       c.loop-end.invariant.narrow,
     )
 
-pub returns-then-columns-n-gt60 : goal.returns-then-columns-n-gt60
-returns-then-columns-n-gt60 c =
+pub returns-then-columns-n-gt-COLUMNS : goal.returns-then-columns-n-gt-COLUMNS
+returns-then-columns-n-gt-COLUMNS c =
     let a = c.args in
-    scan-stops catalogue (text (goal.at.returns-then-columns-n-gt60 c).At-loop-end) a.at c.loop-end.end c.loop-end.columns
+    scan-stops catalogue (text (goal.at.returns-then-columns-n-gt-COLUMNS c).At-loop-end) a.at c.loop-end.end c.loop-end.columns
     c.loop-end.invariant
-    (full_there catalogue (text (goal.at.returns-then-columns-n-gt60 c).At-loop-end) c.loop-end.end c.loop-end.columns _ _ _
-    (here (goal.at.returns-then-columns-n-gt60 c).After-next_cluster-k) c.width-n.ensures.0 c.if-k.false
-    c.if-columns-n-gt60.true)
+    (full_there catalogue (text (goal.at.returns-then-columns-n-gt-COLUMNS c).At-loop-end) c.loop-end.end c.loop-end.columns _ _ _
+    (here (goal.at.returns-then-columns-n-gt-COLUMNS c).After-next_cluster-k) c.width-n.ensures.0 c.if-k.false
+    c.if-columns-n-gt-COLUMNS.true)
 
 pub overflow_add-columns-in-loop-end : goal.overflow_add-columns-in-loop-end
-overflow_add-columns-in-loop-end c = omega (arith, c.if-columns-n-gt60.false)
+overflow_add-columns-in-loop-end c = omega (arith, c.if-columns-n-gt-COLUMNS.false)
 
 pub overflow_add-end-in-loop-end : goal.overflow_add-end-in-loop-end
 overflow_add-end-in-loop-end c = omega (arith, (here (goal.at.overflow_add-end-in-loop-end c).After-next_cluster-k).within)
@@ -89,7 +89,7 @@ loop-end-preserved c =
     let a = c.args in
     scan_more catalogue (text (goal.at.loop-end-preserved c).At-loop-end) a.at c.loop-end.end c.loop-end.columns c.loop-end.invariant _ _ _
     (here (goal.at.loop-end-preserved c).After-next_cluster-k) c.width-n.ensures.0
-    c.if-k.false (omega (arith, c.if-columns-n-gt60.false))
+    c.if-k.false (omega (arith, c.if-columns-n-gt-COLUMNS.false))
 
 pub returns : goal.returns
 returns c =

@@ -3,5 +3,5 @@ use Rattle.repertoire.specs.Repertoire.{catalogue}
 use Rattle.repertoire.proofs.Text.{text-valid}
 use Rattle.test_clusters.proofs.last_len.Goals as goal
 
-pub prev_cluster-c-requires : goal.prev_cluster-c-requires
-prev_cluster-c-requires c = text-valid catalogue _ (sym c.check_text.ensures ∙ c.if-not-check_text.false)
+pub prev_cluster-requires : goal.prev_cluster-requires
+prev_cluster-requires c = text-valid catalogue _ (sym c.check_text.ensures ∙ c.if-not-check_text.false)

@@ -1,25 +1,42 @@
 use native.Mathlib.Omega.{arith}
-use mathlib.Core.Path.{refl}
+use mathlib.Core.Path.{◌≡◌, refl, sym, ap, subst, ◌∙◌}
+use Rattle.std.specs.Prelude.{Option, Some, IfSome, is_some}
+use Rattle.log_records.specs.declared.Record.{Record}
+use Rattle.log_records.specs.Records.{record_at, InBounds}
 use mathlib.Core.Bool.{true}
 use Rattle.undo.specs.Steps.{lent_by}
+use Rattle.undo.proofs.Passes.{is-stop, no-stop}
 use Rattle.undo.proofs.Seams.{some_newest, texts-below}
-use Rattle.undo.proofs.Steps.{texts-within, stands_there, seam_there, space, record_stops, record_passes}
+use Rattle.undo.proofs.Steps.{at-start, texts-within, stands_there, seam_there, space, record_stops, record_passes}
 use Rattle.undo.proofs.undo_at.Goals as goal
+use Rattle.undo.proofs.undo_at.Goals.{After-unwrap-r}
+
+-- the record that was read
+read : (c : After-unwrap-r) → Some c.unwrap-r.result ≡ record_at c.args.f c.args.records.now c.args.start
+read c = sym c.unwrap-r.ensures ∙ c.read_record.ensures.same
+
+bounds : (c : After-unwrap-r) → InBounds c.unwrap-r.result
+bounds c = subst (λ (o : Option Record). IfSome o InBounds) c.unwrap-r.ensures c.read_record.ensures.bounds
+
+pub unwrap-r-requires : goal.unwrap-r-requires
+unwrap-r-requires c =
+    let n = some_newest c.requires.ready c.requires.number_value.1 in
+    ap is_some (c.read_record.ensures.same ∙ (at-start c.requires.ready c.requires.last_start n.2).read)
 
 pub overflow_sub-first : goal.overflow_sub-first
 overflow_sub-first c =
     texts-within c.requires.ready c.requires.last_start (some_newest c.requires.ready c.requires.number_value.1).2
-    c.read_record-r.ensures.same
+    (read (goal.at.overflow_sub-first c).After-unwrap-r)
 
 pub undo_or_redo-step-requires : goal.undo_or_redo-step-requires
 undo_or_redo-step-requires c =
-    let i = c.read_record-r.ensures.same in
+    let i = (read (goal.at.undo_or_redo-step-requires c).After-unwrap-r) in
     let there = stands_there c.requires.ready c.requires.last_start (some_newest c.requires.ready c.requires.number_value.1).2 i in
     record {
       number_value = (
         c.requires.number_value.0,
         c.requires.ready.used,
-        c.read_record-r.ensures.place,
+        (bounds (goal.at.undo_or_redo-step-requires c).After-unwrap-r).place,
         space there i,
         texts-below
             c.requires.ready,
@@ -27,18 +44,18 @@ undo_or_redo-step-requires c =
       text_value = c.requires.ready.text;
     }
 
-pub returns-then-step-ne0 : goal.returns-then-step-ne0
-returns-then-step-ne0 c =
+pub returns-then-is_some : goal.returns-then-is_some
+returns-then-is_some c =
     let a = c.args in
     let l = lent_by a.text.now a.records.now a.texts.now a.s a.log in
-    let i = c.read_record-r.ensures.same in
+    let i = (read (goal.at.returns-then-is_some c).After-unwrap-r) in
     λ x u e. record_stops a.f l true x u (stands_there c.requires.ready c.requires.last_start e i) i a.s c.undo_or_redo-step.result
-    c.undo_or_redo-step.new.text c.undo_or_redo-step.ensures refl c.if-step-ne0.true
+    c.undo_or_redo-step.new.text c.undo_or_redo-step.ensures refl (is-stop c.is_some.ensures c.if-is_some.true)
 
 pub move_seam-requires : goal.move_seam-requires
 move_seam-requires c =
     let m = seam_there c.requires.ready c.requires.last_start (some_newest c.requires.ready c.requires.number_value.1).2
-    c.read_record-r.ensures.same in
+    (read (goal.at.move_seam-requires c).After-unwrap-r) in
     record {
       records_bound = (
         m.within,
@@ -56,7 +73,7 @@ pub returns : goal.returns
 returns c =
     let a = c.args in
     let l = lent_by a.text.now a.records.now a.texts.now a.s a.log in
-    let i = c.read_record-r.ensures.same in
+    let i = (read (goal.at.returns c).After-unwrap-r) in
     λ x u e. record_passes a.f l true x u (stands_there c.requires.ready c.requires.last_start e i) i a.s c.undo_or_redo-step.result
     c.undo_or_redo-step.new.text c.undo_or_redo-step.ensures (seam_there c.requires.ready c.requires.last_start e i)
-    c.if-step-ne0.false c.move_seam.ensures
+    (no-stop c.is_some.ensures c.if-is_some.false) c.move_seam.ensures

@@ -9,11 +9,11 @@ use Rattle.undo.specs.Steps.{lent_by}
 use Rattle.undo.proofs.Units.{Walking}
 use Rattle.undo.proofs.undo_by_sizes.Given as goal
 
-abbrev pub invariant-loop-f : goal.invariant-loop-f
-invariant-loop-f l = Walking l.f (lent_by l.initial.text l.records l.texts l.initial.s l.initial.g) true
-    (undo_walk (length l.initial.text) l.n (state_of catalogue l.f (lent_by l.initial.text l.records l.texts l.initial.s l.initial.g)))
+abbrev pub invariant-loop-checked : goal.invariant-loop-checked
+invariant-loop-checked l = Walking l.checked.format (lent_by l.initial.text l.records l.texts l.initial.s l.initial.g) true
+    (undo_walk (length l.initial.text) l.n (state_of catalogue l.checked.format (lent_by l.initial.text l.records l.texts l.initial.s l.initial.g)))
     l.text l.s l.g (l.left - 1) l.ends l.begins × SizesOf
-    l.f l.sizes (state_of catalogue l.f (lent_by l.text l.records l.texts l.s l.g)).log.undo
+    l.checked.format l.sizes (state_of catalogue l.checked.format (lent_by l.text l.records l.texts l.s l.g)).log.undo
 
-abbrev pub decreases-loop-f : goal.decreases-loop-f
-decreases-loop-f l = l.g.undo.records
+abbrev pub decreases-loop-checked : goal.decreases-loop-checked
+decreases-loop-checked l = l.g.undo.records

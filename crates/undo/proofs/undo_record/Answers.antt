@@ -1,15 +1,15 @@
 use native.Mathlib.Omega.{arith}
-use Prim.Native.Nat.{◌-◌}
 use Rattle.undo.proofs.Seams.{some_newest}
 use Rattle.undo.proofs.Steps.{size-within, starts_by_size}
 use Rattle.undo.proofs.undo_record.Goals as goal
 
-pub overflow_cast-start : goal.overflow_cast-start
-overflow_cast-start c = omega (arith, c.type_inv.sizes (c.args.log.undo.records - 1))
-
-pub overflow_sub-start-2 : goal.overflow_sub-start-2
-overflow_sub-start-2 c =
-    size-within c.requires.ready c.args.sizes.now c.requires.sizes_of (some_newest c.requires.ready c.requires.number_value.1).2
+pub overflow_sub-start : goal.overflow_sub-start
+overflow_sub-start c =
+    omega (
+      arith,
+      c.from.ensures,
+      size-within c.requires.ready c.args.sizes.now c.requires.sizes_of (some_newest c.requires.ready c.requires.number_value.1).2,
+    )
 
 pub undo_at-requires : goal.undo_at-requires
 undo_at-requires c =
@@ -19,7 +19,7 @@ undo_at-requires c =
       fit = c.requires.fit;
       ready = c.requires.ready;
       number_value = (c.requires.number_value.0, c.requires.number_value.1);
-      last_start = starts;
+      last_start = rw c.from.ensures starts;
     }
 
 pub returns : goal.returns

@@ -23,10 +23,10 @@ inside : (c : Joined-back) → Within c.if-back.out c.if-back.from c.if-back.to 
 inside c = let a = c.args in
     within a.back a.r a.t c.if-back.out c.if-back.from c.if-back.to (length a.texts.now) (takes-and-puts c) c.requires.number_value.3
 
-pub returns-then-r-le2 : goal.returns-then-r-le2
-returns-then-r-le2 c =
+pub returns-in_default : goal.returns-in_default
+returns-in_default c =
     let a = c.args in
-    λ F x h. unmoved a.r a.texts.now a.t a.s a.text.now c.requires.number_value.0 c.requires.number_value.1 a.back F x h c.if-r-le2.true
+    λ F x h. unmoved a.r a.texts.now a.t a.s a.text.now c.requires.number_value.1 c.requires.number_value.0 a.back F x h c.in_default.not-Edit
 
 pub overflow_sub-put : goal.overflow_sub-put
 overflow_sub-put c = (inside (goal.at.overflow_sub-put c).Joined-back).order
@@ -40,50 +40,47 @@ slice_bounds-exchange-start c = (inside (goal.at.slice_bounds-exchange-start c).
 pub slice_bounds-exchange-end : goal.slice_bounds-exchange-end
 slice_bounds-exchange-end c = (inside (goal.at.slice_bounds-exchange-end c).Joined-back).last
 
-pub exchange-number-requires : goal.exchange-number-requires
-exchange-number-requires c = record {
+pub exchange-requires : goal.exchange-requires
+exchange-requires c = record {
   len_in_bounds = (
     c.requires.number_value.1,
     c.requires.number_value.2,
-    omega
-        (arith, (inside (goal.at.exchange-number-requires c).Joined-back).taken, c.requires.number_value.4),
+    omega (arith, (inside (goal.at.exchange-requires c).Joined-back).taken, c.requires.number_value.4),
   );
   text_value = c.requires.text_value;
 }
 
-pub returns-then-number-ne0 : goal.returns-then-number-ne0
-returns-then-number-ne0 c =
-    let here = goal.at.returns-then-number-ne0 c in
-    let a = c.args in
-    λ F x h. stops_at a.r a.texts.now a.t a.s a.text.now c.requires.number_value.0 c.requires.number_value.1 c.if-back.out c.if-back.from
-    c.if-back.to
-    c.exchange-number.result _ (inside here.Joined-back) c.exchange-number.ensures a.back F x h
-    c.if-r-le2.false (takes-and-puts here.Joined-back) c.if-number-ne0.true
-
 pub overflow_sub-result : goal.overflow_sub-result
 overflow_sub-result c =
     let a = c.args in
-    out_within a.r a.texts.now a.t a.s a.text.now c.requires.number_value.0 c.requires.number_value.1 c.if-back.out c.if-back.from
-    c.if-back.to c.exchange-number.result _
-    (inside (goal.at.overflow_sub-result c).Joined-back) c.exchange-number.ensures c.if-number-ne0.false
+    let w = inside (goal.at.overflow_sub-result c).Joined-back in
+    out_within a.r a.texts.now a.t a.s a.text.now c.requires.number_value.1 c.if-back.out c.if-back.from c.if-back.to
+    c.exchange.result _ w c.exchange.ensures _ c.in-Ok.is
 
 pub overflow_add-result : goal.overflow_add-result
 overflow_add-result c =
     let a = c.args in
-    let l = left-within a.r a.texts.now a.t a.s a.text.now c.requires.number_value.0 c.requires.number_value.1 c.if-back.out c.if-back.from
-    c.if-back.to
-    c.exchange-number.result _ (inside (goal.at.overflow_add-result c).Joined-back) c.exchange-number.ensures c.if-number-ne0.false in
+    let w = inside (goal.at.overflow_add-result c).Joined-back in
+    let l = left-within a.r a.texts.now a.t a.s a.text.now c.requires.number_value.1 c.if-back.out c.if-back.from c.if-back.to
+    c.exchange.result _ w c.exchange.ensures _ c.in-Ok.is in
     omega (arith, l)
 
-pub overflow_add-result-2 : goal.overflow_add-result-2
-overflow_add-result-2 c =
-    omega (arith, (inside (goal.at.overflow_add-result-2 c).Joined-back).last, c.requires.number_value.2, c.requires.number_value.4)
+pub overflow_add-result-in-Ok : goal.overflow_add-result-in-Ok
+overflow_add-result-in-Ok c =
+    omega (arith, (inside (goal.at.overflow_add-result-in-Ok c).Joined-back).last, c.requires.number_value.2, c.requires.number_value.4)
 
-pub returns : goal.returns
-returns c =
-    let here = goal.at.returns c in
+pub returns-in-Ok : goal.returns-in-Ok
+returns-in-Ok c =
+    let here = goal.at.returns-in-Ok c in
     let a = c.args in
-    λ F x h. moves a.r a.texts.now a.t a.s a.text.now c.requires.number_value.0 c.requires.number_value.1 c.if-back.out c.if-back.from
-    c.if-back.to c.exchange-number.result
-    _ (inside here.Joined-back) c.exchange-number.ensures c.if-number-ne0.false a.back F x h c.if-r-le2.false
+    λ F x h. moves a.r a.texts.now a.t a.s a.text.now c.requires.number_value.1 c.if-back.out c.if-back.from c.if-back.to
+    c.exchange.result _ (inside here.Joined-back) c.exchange.ensures _ c.in-Ok.is a.back F x h _ c.in-Edit.is
     (takes-and-puts here.Joined-back)
+
+pub returns-in-Err : goal.returns-in-Err
+returns-in-Err c =
+    let here = goal.at.returns-in-Err c in
+    let a = c.args in
+    λ F x h. stops_at a.r a.texts.now a.t a.s a.text.now c.requires.number_value.1 c.if-back.out c.if-back.from c.if-back.to
+    c.exchange.result _ (inside here.Joined-back) c.exchange.ensures a.back F x h _ c.in-Edit.is
+    (takes-and-puts here.Joined-back) _ c.in-Err.is

@@ -1,46 +1,33 @@
 use Rattle.utf8.specs.Utf8.{four}
-use native.Mathlib.Omega.{arith}
-use lib.Bits.{and_mask, mask_lt}
+use lib.Bits.{and_mask}
 use Rattle.utf8.proofs.four_bytes.Goals as goal
+use Rattle.utf8.proofs.four_bytes.Goals.{else-starts_four-via-then-starts_four+then-is_tail+else-is_tail-2}
+use Rattle.utf8.proofs.four_bytes.Goals.{else-starts_four-via-then-starts_four+else-is_tail}
+use Rattle.utf8.proofs.four_bytes.Goals.{else-starts_four-via-else-starts_four}
 
-pub join-requires : goal.join-requires
+pub returns-then-is_tail-2 : goal.returns-then-is_tail-2
 unfolding four
-join-requires c = omega (arith, mask_lt c.args.a 3)
-
-pub join-requires-then-between-2 : goal.join-requires-then-between-2
-unfolding four
-join-requires-then-between-2 c = omega (arith, mask_lt c.args.a 3)
-
-pub join-requires-then-between-2-2 : goal.join-requires-then-between-2-2
-unfolding four
-join-requires-then-between-2-2 c = omega (arith, mask_lt c.args.a 3)
-
-pub returns-then-between-2 : goal.returns-then-between-2
-unfolding four
-returns-then-between-2 c = simp (
+returns-then-is_tail-2 c = simp (
   ← c.starts_four.ensures,
   c.if-starts_four.true,
-  ← c.between.ensures,
-  c.if-between.true,
-  ← c.between-then-between.ensures,
-  c.if-between-2.true,
+  ← c.is_tail.ensures,
+  c.if-is_tail.true,
+  ← c.is_tail-then-is_tail.ensures,
+  c.if-is_tail-2.true,
 ) (cc (and_mask c.args.a 3))
 
-pub returns-else-between-2 : goal.returns-else-between-2
+pub returns : goal.returns
 unfolding four
-returns-else-between-2 c = simp (
-  ← c.starts_four.ensures,
-  c.if-starts_four.true,
-  ← c.between.ensures,
-  c.if-between.true,
-  ← c.between-then-between.ensures,
-  c.if-between-2.false,
-)
-
-pub returns-else-between : goal.returns-else-between
-unfolding four
-returns-else-between c = simp (← c.starts_four.ensures, c.if-starts_four.true, ← c.between.ensures, c.if-between.false)
-
-pub returns-else-starts_four : goal.returns-else-starts_four
-unfolding four
-returns-else-starts_four c = simp (← c.starts_four.ensures, c.if-starts_four.false)
+returns c = elim c.else-starts_four.branch [
+  | else-starts_four-via-then-starts_four+then-is_tail+else-is_tail-2 w ↦ simp (
+    ← c.starts_four.ensures,
+    w.if-starts_four.true,
+    ← w.is_tail.ensures,
+    w.if-is_tail.true,
+    ← w.is_tail-then-is_tail.ensures,
+    w.if-is_tail-2.false,
+  )
+  | else-starts_four-via-then-starts_four+else-is_tail w ↦
+      simp (← c.starts_four.ensures, w.if-starts_four.true, ← w.is_tail.ensures, w.if-is_tail.false)
+  | else-starts_four-via-else-starts_four w ↦ simp (← c.starts_four.ensures, w.if-starts_four.false)
+]

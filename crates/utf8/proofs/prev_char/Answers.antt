@@ -1,20 +1,13 @@
-use mathlib.Core.Path.{refl, sym, ap, ◌∙◌}
-use native.Mathlib.Omega.{arith}
+use mathlib.Core.Path.{sym, ap, ◌∙◌}
 use Rattle.utf8.specs.Utf8.{tail}
 use Rattle.utf8.proofs.Boundary.{start_here, start_back, start_none}
 use Rattle.utf8.proofs.prev_char.Goals as goal
-
-pub loop-j-init : goal.loop-j-init
-loop-j-init c = refl
 
 pub returns-then-not-is_tail : goal.returns-then-not-is_tail
 returns-then-not-is_tail c = sym
     (c.loop-j.invariant
     ∙ start_here _ _ c.loop-j-test.true
     (sym (c.is_tail.ensures ∙ ap tail c.byte_at.ensures) ∙ c.if-not-is_tail.true))
-
-pub loop-j-smaller : goal.loop-j-smaller
-loop-j-smaller c = omega arith
 
 pub loop-j-preserved : goal.loop-j-preserved
 loop-j-preserved c = c.loop-j.invariant

@@ -4,6 +4,3 @@ use Rattle.utf8.proofs.prev_char.Given as goal
 
 abbrev pub invariant-loop-j : goal.invariant-loop-j
 invariant-loop-j l = start_before l.s l.i ≡ start_before l.s l.j
-
-abbrev pub decreases-loop-j : goal.decreases-loop-j
-decreases-loop-j l = l.j

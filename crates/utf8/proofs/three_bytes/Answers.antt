@@ -1,25 +1,17 @@
 use Rattle.utf8.specs.Utf8.{three}
-use native.Mathlib.Omega.{arith}
-use lib.Bits.{and_mask, mask_lt}
+use lib.Bits.{and_mask}
 use Rattle.utf8.proofs.three_bytes.Goals as goal
+use Rattle.utf8.proofs.three_bytes.Goals.{else-starts_three-via-then-starts_three+else-is_tail, else-starts_three-via-else-starts_three}
 
-pub join-requires : goal.join-requires
+pub returns-then-is_tail : goal.returns-then-is_tail
 unfolding three
-join-requires c = omega (arith, mask_lt c.args.a 4)
-
-pub join-requires-then-between : goal.join-requires-then-between
-unfolding three
-join-requires-then-between c = omega (arith, mask_lt c.args.a 4)
-
-pub returns-then-between : goal.returns-then-between
-unfolding three
-returns-then-between c = simp (← c.starts_three.ensures, c.if-starts_three.true, ← c.between.ensures, c.if-between.true)
+returns-then-is_tail c = simp (← c.starts_three.ensures, c.if-starts_three.true, ← c.is_tail.ensures, c.if-is_tail.true)
     (cc (and_mask c.args.a 4))
 
-pub returns-else-between : goal.returns-else-between
+pub returns : goal.returns
 unfolding three
-returns-else-between c = simp (← c.starts_three.ensures, c.if-starts_three.true, ← c.between.ensures, c.if-between.false)
-
-pub returns-else-starts_three : goal.returns-else-starts_three
-unfolding three
-returns-else-starts_three c = simp (← c.starts_three.ensures, c.if-starts_three.false)
+returns c = elim c.else-starts_three.branch [
+  | else-starts_three-via-then-starts_three+else-is_tail w ↦
+      simp (← c.starts_three.ensures, w.if-starts_three.true, ← w.is_tail.ensures, w.if-is_tail.false)
+  | else-starts_three-via-else-starts_three w ↦ simp (← c.starts_three.ensures, w.if-starts_three.false)
+]

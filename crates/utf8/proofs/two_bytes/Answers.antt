@@ -1,21 +1,16 @@
 use Rattle.utf8.specs.Utf8.{two}
-use native.Mathlib.Omega.{arith}
-use lib.Bits.{and_mask, mask_lt}
+use lib.Bits.{and_mask}
 use Rattle.utf8.proofs.two_bytes.Goals as goal
+use Rattle.utf8.proofs.two_bytes.Goals.{else-between-via-then-between+else-is_tail, else-between-via-else-between}
 
-pub join-requires : goal.join-requires
+pub returns-then-is_tail : goal.returns-then-is_tail
 unfolding two
-join-requires c = omega (arith, mask_lt c.args.a 5)
-
-pub returns-then-between-2 : goal.returns-then-between-2
-unfolding two
-returns-then-between-2 c = simp (← c.between.ensures, c.if-between.true, ← c.between-then-between.ensures, c.if-between-2.true)
+returns-then-is_tail c = simp (← c.between.ensures, c.if-between.true, ← c.is_tail.ensures, c.if-is_tail.true)
     (cc (and_mask c.args.a 5))
 
-pub returns-else-between-2 : goal.returns-else-between-2
+pub returns : goal.returns
 unfolding two
-returns-else-between-2 c = simp (← c.between.ensures, c.if-between.true, ← c.between-then-between.ensures, c.if-between-2.false)
-
-pub returns-else-between : goal.returns-else-between
-unfolding two
-returns-else-between c = simp (← c.between.ensures, c.if-between.false)
+returns c = elim c.else-between.branch [
+  | else-between-via-then-between+else-is_tail w ↦ simp (← c.between.ensures, w.if-between.true, ← w.is_tail.ensures, w.if-is_tail.false)
+  | else-between-via-else-between w ↦ simp (← c.between.ensures, w.if-between.false)
+]

@@ -1,41 +1,24 @@
-use mathlib.Core.Path.{sym, ◌∙◌}
-use Rattle.log_recording.proofs.Joins.{may_not, other_kind, follows, no_cut, away, before}
+use mathlib.Core.Path.{◌∙◌}
+use Rattle.log_recording.proofs.Joins.{may_join, other_kind, may_not, no_edit}
 use Rattle.log_recording.proofs.Tail.note.Goals as goal
+use Rattle.log_recording.proofs.Tail.note.Goals.{else-joins-via-then-joins+else-eq, else-joins-via-else-joins}
 
-pub returns-then-not-joins : goal.returns-then-not-joins
-returns-then-not-joins c = c.apart.ensures
-    ∙ may_not c.args.f c.args.kind c.args.place c.args.old
-    c.args.new
-    c.args.self c.args.joins c.if-not-joins.true
-
-pub returns-then-self-kind : goal.returns-then-self-kind
-returns-then-self-kind c =
+pub returns-in_default : goal.returns-in_default
+returns-in_default c =
     let a = c.args in
-    c.apart-then-self-kind.ensures ∙ other_kind a.f a.kind a.place a.old a.new a.self a.joins c.if-not-joins.false c.if-self-kind.true
+    c.apart.ensures ∙ no_edit a.f a.edit a.self a.joins c.in_default.is
 
-pub returns-then-self-place : goal.returns-then-self-place
-returns-then-self-place c =
+pub returns-then-eq : goal.returns-then-eq
+returns-then-eq c =
     let a = c.args in
-    follows a.f a.kind a.place a.old a.new a.self a.joins c.if-not-joins.false c.if-self-kind.false c.if-self-place.true
-
-pub returns-then-kind-ne4 : goal.returns-then-kind-ne4
-returns-then-kind-ne4 c =
-    let a = c.args in
-    c.apart-then-kind-ne4.ensures
-    ∙ no_cut a.f a.kind a.place a.old a.new a.self a.joins c.if-not-joins.false c.if-self-kind.false c.if-self-place.false
-    c.if-kind-ne4.true
-
-pub returns-then-not-ends_at : goal.returns-then-not-ends_at
-returns-then-not-ends_at c =
-    let a = c.args in
-    c.apart-then-not-ends_at.ensures
-    ∙ away a.f a.kind a.place a.old a.new a.self a.joins c.if-not-joins.false c.if-self-kind.false c.if-self-place.false
-    c.if-kind-ne4.false
-    (sym c.ends_at.ensures ∙ c.if-not-ends_at.true)
+    c.joined.ensures ∙ may_join a.f a.edit a.self c.in-Some.newest c.in-Some.is a.joins c.if-joins.true c.if-eq.ensures
 
 pub returns : goal.returns
 returns c =
     let a = c.args in
-    before a.f a.kind a.place a.old a.new a.self a.joins c.if-not-joins.false c.if-self-kind.false c.if-self-place.false
-    c.if-kind-ne4.false
-    (sym c.ends_at.ensures ∙ c.if-not-ends_at.false)
+    c.apart-2.ensures
+    ∙ elim c.else-joins.branch [
+      | else-joins-via-then-joins+else-eq w ↦ other_kind a.f a.edit a.self c.in-Some.newest c.in-Some.is a.joins w.if-joins.true
+          w.if-eq.ensures
+      | else-joins-via-else-joins w ↦ may_not a.f a.edit a.self c.in-Some.newest c.in-Some.is a.joins w.if-joins.false
+    ]

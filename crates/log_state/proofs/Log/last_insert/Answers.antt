@@ -1,6 +1,4 @@
-use native.Mathlib.Omega.{arith}
-use mathlib.Core.Path.{sym, ◌∙◌}
-use lib.Seq.{length-take-le}
+use mathlib.Core.Path.{◌∙◌}
 use Rattle.log_state.specs.Calls.{Lent, lent}
 use Rattle.log_state.proofs.Groups.{new-within, finds, finds_none}
 use Rattle.log_state.proofs.Log.last_insert.Goals as goal
@@ -9,21 +7,17 @@ use Rattle.log_state.proofs.Log.last_insert.Goals.{Start}
 abbrev lending : Start → Lent
 lending s = lent s.args.records.now s.args.texts.now s.args.self
 
-pub slice_bounds-read_record-end : goal.slice_bounds-read_record-end
-slice_bounds-read_record-end c = sym (length-take-le _ _ (omega (arith, c.requires.ready.hold.room)))
-
 pub overflow_sub-result : goal.overflow_sub-result
 overflow_sub-result c =
     new-within c.args.f (lending (goal.at.overflow_sub-result c).Start) c.requires.ready c.args.newest c.requires.newest_at
-    c.read_record-r.result c.read_record-r.ensures.same
+    c.read_record.result c.read_record.ensures.same c.and_then.result c.and_then.ensures _ c.in-Some.is
 
-pub returns-then-r : goal.returns-then-r
-returns-then-r c =
-    finds c.args.f (lending (goal.at.returns-then-r c).Start) c.requires.ready c.args.newest c.requires.newest_at c.read_record-r.result
-    c.read_record-r.ensures.same c.if-r.true
+pub returns-in-Some : goal.returns-in-Some
+returns-in-Some c =
+    finds c.args.f (lending (goal.at.returns-in-Some c).Start) c.requires.ready c.args.newest c.requires.newest_at c.read_record.result
+    c.read_record.ensures.same c.and_then.result c.and_then.ensures _ c.in-Some.is
 
-pub returns : goal.returns
-returns c = c.says.ensures
-    ∙ finds_none c.args.f (lending (goal.at.returns c).Start) c.requires.ready c.args.newest c.requires.newest_at c.read_record-r.result
-    c.read_record-r.ensures.same
-    c.if-r.false
+pub returns-in-None : goal.returns-in-None
+returns-in-None c = c.says.ensures
+    ∙ finds_none c.args.f (lending (goal.at.returns-in-None c).Start) c.requires.ready c.args.newest c.requires.newest_at
+    c.read_record.result c.read_record.ensures.same c.and_then.result c.and_then.ensures c.in-None.is

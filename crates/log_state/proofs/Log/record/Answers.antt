@@ -7,7 +7,7 @@ use Rattle.numbers.proofs.Read.{top_max}
 use Rattle.log_state.specs.Outcomes.{record_out}
 use Rattle.log_state.specs.Calls.{lent, sizes_of, says, value_of, edit_of}
 use Rattle.log_state.proofs.Answers.{answered_as}
-use Rattle.log_state.proofs.Recorded.{full_texts, in_range, full_records, full_place, kind_fits, size_fits, at-fits, takes}
+use Rattle.log_state.proofs.Recorded.{full_texts, in_range, full_records, full_place, size_fits, at-fits, takes}
 use Rattle.log_state.proofs.Log.record.Goals as goal
 
 pub overflow_sub-space : goal.overflow_sub-space
@@ -19,7 +19,7 @@ returns-then-space-old c =
     let l = lent a.records.now a.texts.now a.self in
     let valueOf1 = value_of catalogue a.f l in
     let editOf1 = edit_of a.kind a.place a.old.now a.new.now in
-    answered_as a.f l (record_out a.f (sizes_of l) (note a.joins editOf1 valueOf1.undo) valueOf1) _ _ _ _ c.says.ensures
+    answered_as a.f l (record_out a.f (sizes_of l) (note a.joins editOf1 valueOf1.undo) valueOf1) _ _ _ _ c.refused.ensures
     (full_texts a.f l c.requires.ready a.joins a.kind a.place a.old.now a.new.now editOf1 c.requires.numbered c.requires.ok
     (omega (arith, c.if-space-old.true, c.requires.ready.hold.space)))
 
@@ -29,7 +29,7 @@ returns-then-space-old-2 c =
     let l = lent a.records.now a.texts.now a.self in
     let valueOf1 = value_of catalogue a.f l in
     let editOf1 = edit_of a.kind a.place a.old.now a.new.now in
-    answered_as a.f l (record_out a.f (sizes_of l) (note a.joins editOf1 valueOf1.undo) valueOf1) _ _ _ _ c.says-then-space-old-2.ensures
+    answered_as a.f l (record_out a.f (sizes_of l) (note a.joins editOf1 valueOf1.undo) valueOf1) _ _ _ _ c.refused-then-space-old-2.ensures
     (full_texts a.f l c.requires.ready a.joins a.kind a.place a.old.now a.new.now editOf1 c.requires.numbered c.requires.ok
     (omega (arith, c.if-space-old-2.true, c.if-space-old.false, c.requires.ready.hold.space)))
 
@@ -51,29 +51,29 @@ note-n-requires c =
           (top_max _ c.requires.fit.width.most);
     }
 
-pub returns-then-records-t : goal.returns-then-records-t
-returns-then-records-t c =
+pub returns-then-records-n : goal.returns-then-records-n
+returns-then-records-n c =
     let a = c.args in
     let l = lent a.records.now a.texts.now a.self in
     let valueOf1 = value_of catalogue a.f l in
     let editOf1 = edit_of a.kind a.place a.old.now a.new.now in
-    answered_as a.f l (record_out a.f (sizes_of l) (note a.joins editOf1 valueOf1.undo) valueOf1) _ _ _ _ c.says-then-records-t.ensures
+    answered_as a.f l (record_out a.f (sizes_of l) (note a.joins editOf1 valueOf1.undo) valueOf1) _ _ _ _ c.refused-then-records-n.ensures
     (full_records a.f l c.requires.ready a.joins a.kind a.place a.old.now a.new.now editOf1 c.requires.numbered c.requires.ok
-    c.tail_for-tail.result c.tail_for-tail.ensures c.note-n.result c.note-n.ensures c.if-records-t.true)
+    c.tail_for-tail.result c.tail_for-tail.ensures c.note-n.result c.note-n.ensures c.if-records-n.true)
 
 pub top_of-requires : goal.top_of-requires
 top_of-requires c = c.requires.fit.width.most
 
-pub returns-then-top_of-t : goal.returns-then-top_of-t
-returns-then-top_of-t c =
+pub returns-then-top_of-n : goal.returns-then-top_of-n
+returns-then-top_of-n c =
     let a = c.args in
     let l = lent a.records.now a.texts.now a.self in
     let valueOf1 = value_of catalogue a.f l in
     let editOf1 = edit_of a.kind a.place a.old.now a.new.now in
-    answered_as a.f l (record_out a.f (sizes_of l) (note a.joins editOf1 valueOf1.undo) valueOf1) _ _ _ _ c.says-then-top_of-t.ensures
+    answered_as a.f l (record_out a.f (sizes_of l) (note a.joins editOf1 valueOf1.undo) valueOf1) _ _ _ _ c.refused-then-top_of-n.ensures
     (full_place a.f l c.requires.ready a.joins a.kind a.place a.old.now a.new.now editOf1 c.requires.numbered c.requires.ok
     c.tail_for-tail.result c.tail_for-tail.ensures c.note-n.result c.note-n.ensures
-    (omega (arith, c.top_of.ensures, c.if-top_of-t.true)))
+    (omega (arith, c.top_of.ensures, c.if-top_of-n.true)))
 
 pub write_noted-requires : goal.write_noted-requires
 write_noted-requires c =
@@ -82,13 +82,11 @@ write_noted-requires c =
     let l = lent a.records.now a.texts.now a.self in
     record {
       fit = c.requires.fit;
-      le_kind = kind_fits a.f l c.requires.ready a.joins a.kind a.place a.old.now a.new.now editOf1 c.requires.numbered c.requires.ok
-          c.tail_for-tail.result c.tail_for-tail.ensures c.note-n.result c.note-n.ensures;
       kind_bound = (
         size_fits a.f l c.requires.ready a.joins a.kind a.place a.old.now a.new.now editOf1 c.requires.numbered
             c.requires.ok c.tail_for-tail.result c.tail_for-tail.ensures c.note-n.result
             c.note-n.ensures,
-        c.if-records-t.false,
+        c.if-records-n.false,
       );
       at_le_used = (
         at-fits a.f l c.requires.ready a.joins a.kind a.place a.old.now a.new.now editOf1 c.requires.numbered
@@ -105,10 +103,10 @@ returns c =
     let valueOf1 = value_of catalogue a.f l in
     let editOf1 = edit_of a.kind a.place a.old.now a.new.now in
     answered_as a.f l (record_out a.f (sizes_of l) (note a.joins editOf1 valueOf1.undo) valueOf1) _ _ _ _
-    (c.says-2.ensures ∙ ap (says 0) c.only_undo.ensures)
+    (c.says.ensures ∙ ap (says 0) c.only_undo.ensures)
     (takes a.f l c.requires.ready a.joins a.kind a.place a.old.now a.new.now editOf1 c.requires.numbered c.requires.ok
     c.tail_for-tail.result c.tail_for-tail.ensures c.note-n.result c.note-n.ensures
     c.write_noted.new.records c.write_noted.new.texts
-    (omega (arith, c.if-space-old.false, c.if-space-old-2.false, c.requires.ready.hold.space)) c.if-records-t.false
-    (omega (arith, c.top_of.ensures, c.if-top_of-t.false)) c.write_noted.ensures
+    (omega (arith, c.if-space-old.false, c.if-space-old-2.false, c.requires.ready.hold.space)) c.if-records-n.false
+    (omega (arith, c.top_of.ensures, c.if-top_of-n.false)) c.write_noted.ensures
     c.write_noted.auto.texts)
