@@ -57,7 +57,7 @@ extern "C" {
 #define TLF_PROMPT_MAX 1024    /* a prompt column at most */
 #define TLF_LEVEL_MAX 255      /* a group level at most */
 #define TLF_STACK_MAX 49152    /* bytes of stack that tlf_log_undo, tlf_log_redo, tlf_log_cancel and tlf_line_key need
-                                  at most, 4,096 for the C library's memcpy, memmove and memset among them */
+                                  at most, 4,096 for the C library's memcpy and memset among them */
 #define TLF_STACK_OTHERS 16384 /* the same of the other entries */
 
 /* ---- Numbers */

@@ -1,27 +1,46 @@
--- Bytes shifted: a move up, a gap closed, bytes filled in, and an insertion and a copy as writes into the tail.
+-- Bytes shifted: a turn of the loop that moves them up, a gap closed, bytes filled in, and an insertion and a copy as writes into the tail.
 -- Assumes nothing.
-use mathlib.Core.Path.{◌≡◌, sym, ap, ap₂, ◌∙◌}
+use mathlib.Core.Path.{◌≡◌, sym, ap, ◌∙◌}
 use mathlib.Core.List.{List, [], ◌∷◌, ◌++◌, append_assoc, append-nil}
-use Prim.Native.Nat.{ℕ, ◌+◌, ◌-◌, ◌≤◌}
+use Prim.Native.Nat.{ℕ, suc, ◌+◌, ◌-◌, ◌≤◌}
 use native.Mathlib.Omega.{arith}
 use borrow.Rule.Slice.PartMut.{put_mid}
-use lib.ListN.{length, take, drop, length-take, length-drop}
-use lib.ListN.{length-append, take-append-drop, replicate, length-replicate, drop_of_length-le}
-use lib.Seq.{length-take-le, take_all, paste, take_at, drop_at, take-take, drop-drop, take-paste, sets, sets-eq}
+use lib.ListN.{length, get_or, set, take, drop, length-take, length-drop}
+use lib.ListN.{length-append, take-append-drop, replicate, length-replicate, drop_of_length-le, get_or-append}
+use lib.Seq.{slice, slice-cons, slice_empty, take-suc, append_snoc, set_at, get_or-take, length-take-le, take_all, paste}
+use lib.Seq.{take_at, drop_at, take-take, drop-drop, take-paste, sets, sets-eq}
 use Rattle.std.proofs.lemmas.List.Edits.{paste_all}
 use Rattle.std.proofs.lemmas.Slice.{put_mid-paste}
 use Rattle.lists.proofs.Parts.{drop-take}
 use Rattle.buffer.specs.Edit.{shifted, inserted, cut, written}
 
--- the first used bytes copied n places up
-pub shift_law : (d : List ℕ) (n used : ℕ) → paste d n (drop 0 d) (used - 0) ≡ shifted d n used 0
+-- a turn of the loop that moves bytes up
+pub shift_step : (d : List ℕ) (n used i m : ℕ) → m ≡ i + 1 → m ≤ used → used + n ≤ length d
+    → set (shifted d n used m) (i + n) (get_or (shifted d n used m) i 0) ≡ shifted d n used i
 unfolding shifted
-shift_law d n used =
-    let z : used - 0 ≡ used = omega arith in
-    let none : 0 + n ≡ n = omega arith in
-    let e : n + used ≡ used + n = omega arith in
-    rw z (append_assoc (take n d) (take used d) (drop (n + used) d))
-    ∙ ap₂ (λ (i j : ℕ). take i d ++ (take used d ++ drop j d)) (sym none) e
+shift_step d n used i m e h k =
+    let X : List ℕ = slice m used d ++ drop (used + n) d in
+    let y : ℕ = get_or d (i + n) 0 in
+    let e1 : m + n ≡ suc (i + n) = omega arith in
+    let e2 : m ≡ suc i = omega arith in
+    let len : length (take (i + n) d) ≡ i + n = length-take-le (i + n) d (omega arith) in
+    let len2 : length (take (m + n) d) ≡ m + n = length-take-le (m + n) d (omega arith) in
+    let whole : take (m + n) d ++ X ≡ take (i + n) d ++ (y ∷ X) =
+    ap (λ (q : ℕ). take q d ++ X) e1 ∙ ap (λ (l : List ℕ). l ++ X) (take-suc d (i + n) 0 (omega arith)) ∙ append_snoc (take (i + n) d) y X in
+    let read : get_or (take (m + n) d ++ X) i 0 ≡ get_or d i 0 =
+    get_or-append (take (m + n) d) X 0 i (omega arith) ∙ get_or-take (m + n) d i 0 (omega arith) in
+    let cons : slice i used d ≡ get_or d i 0 ∷ slice m used d =
+    slice-cons i used d 0 (omega arith) (omega arith) ∙ ap (λ (q : ℕ). get_or d i 0 ∷ slice q used d) (sym e2) in
+    ap (λ (v : ℕ). set (take (m + n) d ++ X) (i + n) v) read
+    ∙ ap (λ (l : List ℕ). set l (i + n) (get_or d i 0)) whole
+    ∙ set_at (take (i + n) d) y X (get_or d i 0) (i + n) len
+    ∙ ap (λ (l : List ℕ). take (i + n) d ++ (l ++ drop (used + n) d)) (sym cons)
+
+-- before the first turn nothing has moved
+pub shift_none : (d : List ℕ) (n used : ℕ) → d ≡ shifted d n used used
+unfolding shifted
+shift_none d n used =
+    sym (ap (λ (l : List ℕ). take (used + n) d ++ (l ++ drop (used + n) d)) (slice_empty used d) ∙ take-append-drop (used + n) d)
 
 -- the bytes behind a gap copied to where it begins
 pub cut_law : (d : List ℕ) (used a b : ℕ) → a ≤ b → b ≤ used → used ≤ length d

@@ -5,20 +5,24 @@ ghost use Rattle.std.specs.Prelude.{◌≡◌, ◌++◌, ◌+◌, ◌-◌, ◌*�
 ghost use Rattle.std.proofs.lemmas.List.Edits.{sets};
 ghost use Rattle.buffer.specs.Edit.{shifted, inserted, cut, written, copies};
 
-// Moves tail[..used] up by n places.
+// Moves tail[..used] up by n places, from its end downward.
 fn shift_up(tail: &mut [u8], used: usize, n: usize)
     requires { used + n ≤ length tail.old }
     ensures { tail.new ≡ shifted tail.old n used 0 }
 {
-    tail.copy_within(..used, n);
+    for i in (0..used).rev() {
+        tail[i + n] = tail[i];
+    }
 }
 
-// Writes src over the front of tail.
+// Writes src over the front of tail. `copy_from_slice` would become a call of the C library's memmove, for which the library does not ask.
 fn write_front(tail: &mut [u8], src: &[u8])
     requires { length src.now ≤ length tail.old }
     ensures { tail.new ≡ src.now ++ drop (length src.now) tail.old }
 {
-    tail[..src.len()].copy_from_slice(src);
+    for j in 0..src.len() {
+        tail[j] = src[j];
+    }
 }
 
 // Moves tail[..used] up by src.len() and writes src in front.

@@ -7,7 +7,7 @@ use mathlib.Core.List.{List, [], ◌∷◌}
 use lib.Dec.{ltb}
 use lib.ListN.{length}
 use borrow.Author.Tests.{lt-ltb, le-ltb}
-use Rattle.std.specs.Prelude.{Option, Some, is_some, IfSome}
+use Rattle.std.specs.Prelude.{Result, Ok, is_ok, IfOk}
 use Rattle.lists.specs.Lists.{part}
 use Rattle.utf8.specs.Chars.{In}
 use Rattle.repertoire.specs.Repertoire.{catalogue}
@@ -80,24 +80,24 @@ module _ (F : Format) (l : Lent) (h : Ready F l) (a b p : ℕ) (n : List ℕ) (s
   pair_short k = long_is false (le-ltb (length l.text) (length (made (pasted p n) mid)) (omega (arith, last_length, h.used)))
 
   -- ---- 10 by the dry run
-  module _ (w : top F.width ≤ 4294967296) (r₀ : Option Tail) (e₀ : r₀ ≡ Some (tail_of F u)) where
+  module _ (w : top F.width ≤ 4294967296) (r₀ : Result Tail Tail) (e₀ : r₀ ≡ Ok (tail_of F u)) where
     now_roomy : Roomy catalogue F (sizes_of l) u r₀
     now_roomy = subst (Roomy catalogue F (sizes_of l) u) (sym e₀) (dry_now F l h)
 
-    pub first_in_range : IfSome r₀ (λ t. InRange t (b - a) 0)
+    pub first_in_range : IfOk r₀ (λ t. InRange t (b - a) 0)
     first_in_range = dry_in_range F l h u r₀ now_roomy (b - a) 0 w (let e = length-kept F l h in let i = cut_suits.1 in omega
         (arith, h.used, h.limit, h.log.fit.text)) (omega arith)
 
-    module _ (j : Bool) (ej : j ≡ is_single catalogue (clusters_of catalogue (part t a b))) (r₁ : Option Tail) (e₁ : r₁ ≡ room_cut F (sizes_of l) j a b r₀) where
+    module _ (j : Bool) (ej : j ≡ is_single catalogue (clusters_of catalogue (part t a b))) (r₁ : Result Tail Tail) (e₁ : r₁ ≡ room_cut F (sizes_of l) j a b r₀) where
       mid_roomy : Roomy catalogue F (sizes_of l) (recorded catalogue (cutting a b) t u) r₁
       mid_roomy =
           subst (Roomy catalogue F (sizes_of l) (recorded catalogue (cutting a b) t u)) (sym e₁)
           (dry_cut F l h u r₀ now_roomy t h.text (omega (arith, length-kept F l h, h.used)) a b j cut_suits ej)
 
-      pub second_in_range : length n ≤ text_max → IfSome r₁ (λ t. InRange t 0 (length n))
+      pub second_in_range : length n ≤ text_max → IfOk r₁ (λ t. InRange t 0 (length n))
       second_in_range k = dry_in_range F l h (recorded catalogue (cutting a b) t u) r₁ mid_roomy 0 (length n) w (omega arith) k
 
-      pub pair_room : (r₂ : Option Tail) → r₂ ≡ room_put F (sizes_of l) p (length n) r₁ → is_some r₂ ≡ fits F (sizes_of l) (list_after catalogue both t u)
+      pub pair_room : (r₂ : Result Tail Tail) → r₂ ≡ room_put F (sizes_of l) p (length n) r₁ → is_ok r₂ ≡ fits F (sizes_of l) (list_after catalogue both t u)
       unfolding list_after
       pair_room r₂ e₂ =
           (subst (Roomy catalogue F (sizes_of l) (recorded catalogue (pasted p n) mid (recorded catalogue (cutting a b) t u))) (sym e₂)

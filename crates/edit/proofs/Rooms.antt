@@ -8,7 +8,7 @@ use lib.Dec.{eqb, leb}
 use lib.ListN.{length, take}
 use lib.Seq.{length-take-le}
 use borrow.Author.Tests.{eq-eqb, ne_eqb, eqb-true, eqb-false, leb-true}
-use Rattle.std.specs.Prelude.{Option, Some, None, is_some, IfSome}
+use Rattle.std.specs.Prelude.{Result, Ok, Err, is_ok, IfOk}
 use Rattle.std.proofs.lemmas.Option.{IfSome_then}
 use Rattle.lists.proofs.Parts.{none_left}
 use Rattle.lists.specs.Lists.{part}
@@ -95,17 +95,17 @@ module _ (F : Format) where
       (λ f. rw f (tail-noted false (insert p s) u (blank-insert p s (omega (arith, eqb-false (length s) 0 f))) ∙ ap (tail_of F) (sym (recorded_as R (pasted p s) t u))))
 
 -- ---- r is the tail of the list u, where there is room for it
-pub record Roomy (R : Repertoire) (F : Format) (z : Sizes) (u : List Change) (r : Option Tail) : Type 0 where
-  pub fit : is_some r ≡ fits F z u
-  pub tail : IfSome r (λ t. t ≡ tail_of F u)
+pub record Roomy (R : Repertoire) (F : Format) (z : Sizes) (u : List Change) (r : Result Tail Tail) : Type 0 where
+  pub fit : is_ok r ≡ fits F z u
+  pub tail : IfOk r (λ t. t ≡ tail_of F u)
   pub good : length (undo_texts u) < top F.width → AllGood R F.width u
 
 module _ (R : Repertoire) (F : Format) (z : Sizes) (w : z.texts < top F.width) where
   -- the dry run's numbers are small
-  pub roomy_in_range : (u : List Change) (r : Option Tail) (o n : ℕ) → Roomy R F z u r → top F.width ≤ 4294967296
-      → z.records ≤ records_max → o ≤ text_max → n ≤ text_max → IfSome r (λ t. InRange t o n)
-  roomy_in_range u None o n q b c d e = tt
-  roomy_in_range u (Some t) o n q b c d e =
+  pub roomy_in_range : (u : List Change) (r : Result Tail Tail) (o n : ℕ) → Roomy R F z u r → top F.width ≤ 4294967296
+      → z.records ≤ records_max → o ≤ text_max → n ≤ text_max → IfOk r (λ t. InRange t o n)
+  roomy_in_range u (Err t) o n q b c d e = tt
+  roomy_in_range u (Ok t) o n q b c d e =
       let g = and_both (leb (length (undo_records F u)) z.records) (leb (length (undo_texts u)) z.texts) (sym (fits-lengths R F z w u q.good) ∙ sym q.fit) in
       let h = leb-true (length (undo_records F u)) z.records g.0 in
       let i = leb-true (length (undo_texts u)) z.texts g.1 in
@@ -126,13 +126,13 @@ module _ (R : Repertoire) (F : Format) (z : Sizes) (w : z.texts < top F.width) w
       y = recorded R x t u
 
       -- there was no room before it
-      pub roomy_shut : Roomy R F z u None → Roomy R F z y None
-      roomy_shut q = record { fit = sym (shut q); tail = tt; good = next-good q.good }
+      pub roomy_shut : (n : Tail) → Roomy R F z u (Err n) → Roomy R F z y (Err n)
+      roomy_shut n q = record { fit = sym (shut q); tail = tt; good = next-good q.good }
         where
           next-good : (length (undo_texts u) < top F.width → AllGood R F.width u) → length (undo_texts y) < top F.width → AllGood R F.width y
           next-good g k = good_step R F C v x t u s is h (g (omega (arith, texts_grow R F x t u))) k
 
-          shut : Roomy R F z u None → fits F z y ≡ false
+          shut : Roomy R F z u (Err n) → fits F z y ≡ false
           shut q =
               by_test (fits F z y ≡ false) (fits F z y)
               (λ f.
@@ -144,11 +144,11 @@ module _ (R : Repertoire) (F : Format) (z : Sizes) (w : z.texts < top F.width) w
               never (fits F z y ≡ false) (fits F z u) c (sym q.fit))
               (λ f. f)
 
-      pub roomy_open : (n : Tail) → Roomy R F z u (Some n) → (m : Tail) → m ≡ tail_of F y → Roomy R F z y (room_for z m)
+      pub roomy_open : (n : Tail) → Roomy R F z u (Ok n) → (m : Tail) → m ≡ tail_of F y → Roomy R F z y (room_for z m)
       roomy_open n q m e =
           record {
             fit =
-                some-if (leb m.records z.records && leb m.texts z.texts)
+                ok-if (leb m.records z.records && leb m.texts z.texts)
                 ∙ ap (λ (k : Tail). leb k.records z.records && leb k.texts z.texts) e
                 ∙ ap₂ (λ (a b : ℕ). leb a z.records && leb b z.texts) (tail-records F y) (tail-texts F y) ∙ sym (fits-lengths R F z w y next-good);
             tail = if-room (leb m.records z.records && leb m.texts z.texts);
@@ -158,25 +158,25 @@ module _ (R : Repertoire) (F : Format) (z : Sizes) (w : z.texts < top F.width) w
           next-good : length (undo_texts y) < top F.width → AllGood R F.width y
           next-good k = good_step R F C v x t u s is h (q.good (omega (arith, texts_grow R F x t u))) k
 
-          some-if : (b : Bool) → is_some (cond b (Some m) None) ≡ b
-          some-if true = refl
-          some-if false = refl
+          ok-if : (b : Bool) → is_ok (cond b (Ok m) (Err m)) ≡ b
+          ok-if true = refl
+          ok-if false = refl
 
-          if-room : (b : Bool) → IfSome (cond b (Some m) None) (λ k. k ≡ tail_of F y)
+          if-room : (b : Bool) → IfOk (cond b (Ok m) (Err m)) (λ k. k ≡ tail_of F y)
           if-room true = e
           if-room false = tt
 
   module _ (C : ℕ) (v : C < top F.width) (t : List ℕ) (u : List Change) (is : is_text R t ≡ true) (h : length t ≤ C) where
-    pub roomy_cut : (r : Option Tail) → Roomy R F z u r → (a b : ℕ) (j : Bool) → Suits R (cutting a b) t → j ≡ is_single R (clusters_of R (part t a b))
+    pub roomy_cut : (r : Result Tail Tail) → Roomy R F z u r → (a b : ℕ) (j : Bool) → Suits R (cutting a b) t → j ≡ is_single R (clusters_of R (part t a b))
         → Roomy R F z (recorded R (cutting a b) t u) (room_cut F z j a b r)
-    roomy_cut None q a b j s e = roomy_shut C v (cutting a b) t u s is h q
-    roomy_cut (Some n) q a b j s e =
+    roomy_cut (Err n) q a b j s e = roomy_shut C v (cutting a b) t u s is h n q
+    roomy_cut (Ok n) q a b j s e =
         roomy_open C v (cutting a b) t u s is h n q (tail_cut F j a b n) (ap (tail_cut F j a b) q.tail ∙ tail-cut F R t a b j u s e)
 
-    pub roomy_put : (r : Option Tail) → Roomy R F z u r → (p : ℕ) (x : List ℕ) → Suits R (pasted p x) t
+    pub roomy_put : (r : Result Tail Tail) → Roomy R F z u r → (p : ℕ) (x : List ℕ) → Suits R (pasted p x) t
         → Roomy R F z (recorded R (pasted p x) t u) (room_put F z p (length x) r)
-    roomy_put None q p x s = roomy_shut C v (pasted p x) t u s is h q
-    roomy_put (Some n) q p x s =
+    roomy_put (Err n) q p x s = roomy_shut C v (pasted p x) t u s is h n q
+    roomy_put (Ok n) q p x s =
         roomy_open C v (pasted p x) t u s is h n q (tail_put F p (length x) n) (ap (tail_put F p (length x)) q.tail ∙ tail-put F R t p x u)
 
 -- ---- the dry run's beginning: the list as it is
@@ -185,7 +185,7 @@ module _ (F : Format) (l : log.Lent) (h : log.Ready F l) where
   tail_now t is-tail =
       is-tail (take l.log.undo.texts l.texts) (log.undos catalogue F l) (lays F l h) (sym (length-take-le l.log.undo.texts l.texts (omega (arith, h.hold.space))))
 
-  pub roomy_now : Roomy catalogue F (log.sizes_of l) (log.value_of catalogue F l).undo (Some (tail_of F (log.value_of catalogue F l).undo))
+  pub roomy_now : Roomy catalogue F (log.sizes_of l) (log.value_of catalogue F l).undo (Ok (tail_of F (log.value_of catalogue F l).undo))
   roomy_now = record { fit = sym (fits_now F l h); tail = refl; good = λ e. good F l h }
 
 -- ---- the same of an edit that is lent l, whose log has buffers of its sizes and whose texts stay within C
@@ -196,11 +196,11 @@ module _ (F : Format) (l : Lent) (h : Ready F l) where
   high : length l.text < top F.width
   high = omega (arith, h.limit, h.log.fit.places, h.log.fit.lengths)
 
-  pub dry_now : Roomy catalogue F (sizes_of l) (state_of catalogue F l).log.undo (Some (tail_of F (state_of catalogue F l).log.undo))
+  pub dry_now : Roomy catalogue F (sizes_of l) (state_of catalogue F l).log.undo (Ok (tail_of F (state_of catalogue F l).log.undo))
   dry_now = roomy_now F (log_lent l) h.log
 
-  module _ (u : List Change) (r : Option Tail) (q : Roomy catalogue F (sizes_of l) u r) where
-    pub dry_in_range : (o n : ℕ) → top F.width ≤ 4294967296 → o ≤ text_max → n ≤ text_max → IfSome r (λ t. InRange t o n)
+  module _ (u : List Change) (r : Result Tail Tail) (q : Roomy catalogue F (sizes_of l) u r) where
+    pub dry_in_range : (o n : ℕ) → top F.width ≤ 4294967296 → o ≤ text_max → n ≤ text_max → IfOk r (λ t. InRange t o n)
     dry_in_range o n w a b = roomy_in_range catalogue F (sizes_of l) below_top u r o n q w (omega (arith, h.log.records, h.log.fit.records)) a b
 
     module _ (t : List ℕ) (is : is_text catalogue t ≡ true) (m : length t ≤ length l.text) where

@@ -2,7 +2,7 @@
 // two changes, a cut and then a text put in, of which it is decided before the first whether both fit.
 #![tactic(auto)]
 
-ghost use Rattle.std.specs.Prelude.{◌≡◌, true, not, ◌≤◌, ◌<◌, ◌+◌, ◌-◌, length, take, [], ◌∷◌, Some, IfSome, IfOk, OnOk};
+ghost use Rattle.std.specs.Prelude.{◌≡◌, true, not, ◌≤◌, ◌<◌, ◌+◌, ◌-◌, length, take, [], ◌∷◌, Ok, IfOk, OnOk};
 ghost use Rattle.checks.specs.Refused.{number_of, refused_by};
 ghost use Rattle.lists.specs.Lists.{part};
 ghost use Rattle.utf8.specs.Chars.{valid, boundary, In};
@@ -300,26 +300,32 @@ pub fn put_in(
     )
 }
 
-// The dry run of a plan is the tail of the undo list after its changes so far, where the log has room for them. It begins with the list
-// as it is, whose newest record begins at last.
-pub fn room_now(f: Format, records: &[u8], texts: &[u8], log: Log, last: usize) -> Option<Tail>
+// The dry run of a plan is the tail of the undo list after its changes so far: Ok where the log has room for them, else Err of the first
+// for which it has none. It begins with the list as it is, whose newest record begins at last.
+pub fn room_now(
+    f: Format,
+    records: &[u8],
+    texts: &[u8],
+    log: Log,
+    last: usize,
+) -> Result<Tail, Tail>
     requires fit { Fit f }
     requires log_ready { Log-as-Ready f (Log·lent records.now texts.now log) }
     requires last_at { LastAt catalogue f (take log.undo.records records.now) last }
-    ensures { result ≡ Some (tail_of f (value_of catalogue f (Log·lent records.now texts.now log)).undo) }
+    ensures { result ≡ Ok (tail_of f (value_of catalogue f (Log·lent records.now texts.now log)).undo) }
 {
     let ur = log.undo.records;
-    Some(tail_at(f, &records[..ur], last, log.undo.texts))
+    Ok(tail_at(f, &records[..ur], last, log.undo.texts))
 }
 
-// A tail, where the log has room for its list.
-fn room_for(records: &[u8], texts: &[u8], t: Tail) -> Option<Tail>
+// Has the log room for the list with a tail?
+fn room_for(records: &[u8], texts: &[u8], t: Tail) -> Result<Tail, Tail>
     ensures { result ≡ room_for (sizes_by records.now texts.now) t }
 {
     if (t.records <= records.len()) & (t.texts <= texts.len()) {
-        return Some(t);
+        return Ok(t);
     }
-    None
+    Err(t)
 }
 
 // The tail after a cut.
@@ -364,14 +370,14 @@ pub fn room_cut(
     f: Format,
     records: &[u8],
     texts: &[u8],
-    room: Option<Tail>,
+    room: Result<Tail, Tail>,
     joins: bool,
     from: usize,
     to: usize,
-) -> Option<Tail>
+) -> Result<Tail, Tail>
     requires fit { Fit f }
     requires from_le_to { from ≤ to }
-    requires in_range { IfSome room (λ t. InRange t (to - from) 0) }
+    requires in_range { IfOk room (λ t. InRange t (to - from) 0) }
     ensures { result ≡ room_cut f (sizes_by records.now texts.now) joins from to room }
 {
     let t = tail_cut(f, room?, joins, from, to);
@@ -383,12 +389,12 @@ pub fn room_put(
     f: Format,
     records: &[u8],
     texts: &[u8],
-    room: Option<Tail>,
+    room: Result<Tail, Tail>,
     at: usize,
     size: usize,
-) -> Option<Tail>
+) -> Result<Tail, Tail>
     requires fit { Fit f }
-    requires in_range { IfSome room (λ t. InRange t 0 size) }
+    requires in_range { IfOk room (λ t. InRange t 0 size) }
     ensures { result ≡ room_put f (sizes_by records.now texts.now) at size room }
 {
     let t = tail_put(f, room?, at, size);
@@ -418,7 +424,7 @@ fn pair_fits(
     let joins = is_single(&text[from..to]);
     let a = room_now(checked.format, records, texts, checked.log, checked.last);
     let b = room_cut(checked.format, records, texts, a, joins, from, to);
-    room_put(checked.format, records, texts, b, at, new.len()).is_some()
+    room_put(checked.format, records, texts, b, at, new.len()).is_ok()
 }
 
 // The bytes from a place up to another cut out, then a text put in at a place of what is left. 9 and 10 are decided

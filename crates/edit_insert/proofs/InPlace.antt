@@ -8,7 +8,7 @@ use lib.Dec.{eqb}
 use lib.ListN.{length, take, drop, take-append-drop}
 use lib.Seq.{length-take-le, take_at, drop_at}
 use borrow.Author.Tests.{le-ltb, eqb-true, eqb-false}
-use Rattle.std.specs.Prelude.{Option, Some, is_some, IfSome}
+use Rattle.std.specs.Prelude.{Result, Ok, is_ok, IfOk}
 use Rattle.lists.proofs.Bools.{by_test, never}
 use Rattle.numbers.proofs.Read.{top_max}
 use Rattle.utf8.specs.Chars.{In}
@@ -67,27 +67,27 @@ module _ (F : Format) (l : Lent) (h : Ready F l) (s : List ℕ) (is : is_text ca
   short = rw (le-ltb (length l.text) (length (made (pasted pos x) t)) (omega (arith, splice-length t pos pos x i.0 i.1, length-kept F l h, h.used, size)))
 
   -- ---- 10 by the dry run
-  module _ (r₀ : Option Tail) (e₀ : r₀ ≡ Some (tail_of F u)) where
+  module _ (r₀ : Result Tail Tail) (e₀ : r₀ ≡ Ok (tail_of F u)) where
     now_roomy : Roomy catalogue F (sizes_of l) u r₀
     now_roomy = subst (Roomy catalogue F (sizes_of l) u) (sym e₀) (dry_now F l h)
 
-    pub copies_in_range : IfSome r₀ (λ x. InRange x 0 (length s * n))
+    pub copies_in_range : IfOk r₀ (λ x. InRange x 0 (length s * n))
     copies_in_range = dry_in_range F l h u r₀ now_roomy 0 (length s * n) (top_max F.width h.log.fit.width.most) (omega arith)
         (omega (arith, h.limit, h.log.fit.text, h.used))
 
-    module _ (r₁ : Option Tail) (e₁ : r₁ ≡ room_put F (sizes_of l) pos (length s * n) r₀) where
-      room-is : is_some r₁ ≡ fits F (sizes_of l) (recorded catalogue (pasted pos x) t u)
+    module _ (r₁ : Result Tail Tail) (e₁ : r₁ ≡ room_put F (sizes_of l) pos (length s * n) r₀) where
+      room-is : is_ok r₁ ≡ fits F (sizes_of l) (recorded catalogue (pasted pos x) t u)
       room-is =
-          subst (λ (r : Option Tail). is_some r ≡ fits F (sizes_of l) (recorded catalogue (pasted pos x) t u)) (ap (λ (m : ℕ). room_put F (sizes_of l) pos m r₀) size ∙ sym e₁)
+          subst (λ (r : Result Tail Tail). is_ok r ≡ fits F (sizes_of l) (recorded catalogue (pasted pos x) t u)) (ap (λ (m : ℕ). room_put F (sizes_of l) pos m r₀) size ∙ sym e₁)
           (dry_put F l h u r₀ now_roomy t h.text (omega (arith, length-kept F l h, h.used)) pos x (i, text_x)).fit
 
-      pub copies_full : is_some r₁ ≡ false → (r : EditAnswer) → r ≡ says 10 l.line l.log
+      pub copies_full : is_ok r₁ ≡ false → (r : EditAnswer) → r ≡ says 10 l.line l.log
           → Edited F l (carried F l (once (pasted pos x) (pos + length x))) r l.text l.records l.texts
       unfolding list_after
       copies_full e r q = ten F l (once (pasted pos x) (pos + length x)) r short (sym room-is ∙ e) q
 
       -- ---- the copies in the text, and recorded from there
-      module _ (fit : is_some r₁ ≡ true) (some : length s * n ≡ 0 → ⊥) (t' : List ℕ) (et : take (l.line.len + length s * n) t' ≡ inserted t pos x) where
+      module _ (fit : is_ok r₁ ≡ true) (some : length s * n ≡ 0 → ⊥) (t' : List ℕ) (et : take (l.line.len + length s * n) t' ≡ inserted t pos x) where
         there : blank (insert pos x) ≡ false
         there = blank-insert pos x (omega (arith, size, some))
 
@@ -116,7 +116,7 @@ module _ (F : Format) (l : Lent) (h : Ready F l) (s : List ℕ) (is : is_text ca
           taken : a.number ≡ 0
           taken =
               by_test (a.number ≡ 0) (eqb a.number 0) (λ e. eqb-true a.number 0 e)
-              (λ e. never (a.number ≡ 0) (is_some r₁) fit
+              (λ e. never (a.number ≡ 0) (is_ok r₁) fit
               (room-is ∙ ap (fits F (sizes_of l)) as_noted
               ∙ (made-laws.was_refused F (log_lent l) (note false (insert pos x) u) (log.value_of catalogue F (log_lent l)) a rb tb q (eqb-false a.number 0 e)).full))
 

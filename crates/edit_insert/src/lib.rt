@@ -89,7 +89,7 @@ pub fn put_copies(
         return put_in(checked, text, records, texts, pos, &none[..0], end);
     }
     let now = room_now(checked.format, records, texts, checked.log, checked.last);
-    if room_put(checked.format, records, texts, now, pos, size).is_none() {
+    if room_put(checked.format, records, texts, now, pos, size).is_err() {
         return refused(Refused::LogFull, checked.line, checked.log);
     }
     insert_copies(text, len, pos, s, n);

@@ -75,7 +75,7 @@ pub fn words_fit(checked: Checked, text: &[u8], records: &[u8], texts: &[u8], w:
     let r1 = room_cut(checked.format, records, texts, r0, second, c, d);
     let r2 = room_put(checked.format, records, texts, r1, c, b - a);
     let r3 = room_cut(checked.format, records, texts, r2, first, a, b);
-    room_put(checked.format, records, texts, r3, a, d - c).is_some()
+    room_put(checked.format, records, texts, r3, a, d - c).is_ok()
 }
 
 // The two words put in for each other, where there is room for all four changes. After the first two changes the newest

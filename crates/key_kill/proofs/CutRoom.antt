@@ -6,7 +6,7 @@ use mathlib.Core.Bool.{Bool, true, false}
 use mathlib.Core.List.{List, [], ◌∷◌}
 use lib.ListN.{length}
 use borrow.Author.Tests.{le-ltb}
-use Rattle.std.specs.Prelude.{Option, Some, is_some, IfSome}
+use Rattle.std.specs.Prelude.{Result, Ok, is_ok, IfOk}
 use Rattle.lists.specs.Lists.{part}
 use Rattle.utf8.specs.Chars.{In}
 use Rattle.repertoire.specs.Repertoire.{catalogue}
@@ -44,18 +44,18 @@ module _ (F : Format) (l : Lent) (h : Ready F l) (a b : ℕ) (i : In (text_of l)
       rw (le-ltb (length l.text) (length (made (cutting a b) t)) k)
 
   -- ---- 10 by the dry run
-  module _ (w : top F.width ≤ 4294967296) (r₀ : Option Tail) (e₀ : r₀ ≡ Some (tail_of F u)) where
+  module _ (w : top F.width ≤ 4294967296) (r₀ : Result Tail Tail) (e₀ : r₀ ≡ Ok (tail_of F u)) where
     now_roomy : Roomy catalogue F (sizes_of l) u r₀
     now_roomy = subst (Roomy catalogue F (sizes_of l) u) (sym e₀) (dry_now F l h)
 
-    pub in_range : IfSome r₀ (λ x. InRange x (b - a) 0)
+    pub in_range : IfOk r₀ (λ x. InRange x (b - a) 0)
     in_range = dry_in_range F l h u r₀ now_roomy (b - a) 0 w (omega (arith, i.1, length-kept F l h, h.used, h.limit, h.log.fit.text)) (omega arith)
 
-    pub room : (j : Bool) → j ≡ is_single catalogue (clusters_of catalogue (part t a b)) → (r₁ : Option Tail) → r₁ ≡ room_cut F (sizes_of l) j a b r₀
-        → is_some r₁ ≡ fits F (sizes_of l) (list_after catalogue (cutting a b ∷ []) t u)
+    pub room : (j : Bool) → j ≡ is_single catalogue (clusters_of catalogue (part t a b)) → (r₁ : Result Tail Tail) → r₁ ≡ room_cut F (sizes_of l) j a b r₀
+        → is_ok r₁ ≡ fits F (sizes_of l) (list_after catalogue (cutting a b ∷ []) t u)
     unfolding list_after
     room j ej r₁ e₁ =
-        subst (λ (r : Option Tail). is_some r ≡ fits F (sizes_of l) (list_after catalogue (cutting a b ∷ []) t u)) (sym e₁)
+        subst (λ (r : Result Tail Tail). is_ok r ≡ fits F (sizes_of l) (list_after catalogue (cutting a b ∷ []) t u)) (sym e₁)
         (dry_cut F l h u r₀ now_roomy t h.text (omega (arith, length-kept F l h, h.used)) a b j i ej).fit
 
   -- ---- so the cut is refused by 10, or done

@@ -66,7 +66,7 @@ fn cut_fits(
 {
     let joins = is_single(&text[from..to]);
     let a = room_now(checked.format, records, texts, checked.log, checked.last);
-    room_cut(checked.format, records, texts, a, joins, from, to).is_some()
+    room_cut(checked.format, records, texts, a, joins, from, to).is_ok()
 }
 
 // The bytes from a place up to another cut out, and put into the ring.

@@ -1,11 +1,12 @@
 -- What holds of a lent ring that checks 2 and 8 pass, and the checks one by one. Assumes nothing.
 use Prim.Native.Nat.{◌*◌, ◌≤◌}
+use native.Mathlib.Omega.{arith}
 use mathlib.Core.Path.{◌≡◌, sym, ap, ap₂, ◌∙◌}
 use mathlib.Core.Bool.{Bool, true, false, true≢false}
 use lib.Dec.{ltb}
 use lib.ListN.{length}
-use borrow.Author.Tests.{ltb-false, le-ltb}
-use Rattle.lists.proofs.Bools.{or_none}
+use borrow.Author.Tests.{ltb-false, lt-ltb, le-ltb}
+use Rattle.lists.proofs.Bools.{or_none, by_less}
 use Rattle.repertoire.specs.Repertoire.{Repertoire}
 use Rattle.checks.specs.Checks.{both, refusal, own_tests}
 use Rattle.checks.proofs.Fit.{refusal-passed}
@@ -16,6 +17,10 @@ use Rattle.kill_ring.specs.Calls.{ring_tests, checked}
 -- ---- the slots in use
 pub in_use_all : (r : Ring) → r.count ≤ r.size → in_use r ≡ r.count
 in_use_all r h = rw (le-ltb r.size r.count h)
+
+-- at most the size
+pub in_use_most : (r : Ring) → in_use r ≤ r.size
+in_use_most r = by_less (in_use r ≤ r.size) r.size r.count (λ h. rw (lt-ltb r.size r.count h) (omega arith)) (λ h. rw (le-ltb r.size r.count h) h)
 
 -- ---- check 2 in its parts
 pub record Sized (l : Lent) : Type 0 where

@@ -3,3 +3,4 @@ pub mod Joins
 pub mod Newest
 pub mod Put
 pub mod Written
+pub mod ByNumber

@@ -76,7 +76,15 @@ module _ (F : Format) where
   unfolding tail_of
   tail-texts u = refl
 
-  -- the newest record's texts are among the list's, and its place is a number of the format
+  -- the newest record's texts are among the list's
+  pub tail_within : (u : List Change) → IfSome (tail_of F u).newest (λ y. y.old + y.new ≤ length (undo_texts u))
+  unfolding tail_of
+  tail_within [] = tt
+  tail_within (begin ∷ u) = tt
+  tail_within (end ∷ u) = tt
+  tail_within (edit x ∷ u) = omega (arith, texts-size (edit x) u, ap length (texts_are x), length-append (old x) (new x))
+
+  -- so are they in a list of whose changes all are good, and its place is a number of the format
   pub record Bounded (u : List Change) (y : EditRecord) : Type 0 where
     pub within : y.old + y.new ≤ length (undo_texts u)
     pub place : y.place < top F.width

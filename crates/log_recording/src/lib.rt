@@ -12,6 +12,8 @@ use buffer::insert_bytes;
 use formats::Format;
 use log_records::{EditKind, EditRecord, Kind, Record, edit_size, read_record, write_record};
 
+pub mod by_number;
+
 // An undo list by its used lengths, and its newest record where that is an edit's.
 #[derive(Clone, Copy)]
 pub struct Tail {

@@ -1,7 +1,7 @@
 -- The check of a list at a record, by the tests of the code. Assumes nothing.
 use Prim.Native.Nat.{ℕ, ◌+◌, ◌≤◌, ◌<◌}
 use native.Mathlib.Omega.{arith}
-use mathlib.Core.Path.{◌≡◌, refl, sym, ap, ◌∙◌}
+use mathlib.Core.Path.{◌≡◌, refl, sym, ap, subst, ◌∙◌}
 use mathlib.Core.List.{List}
 use mathlib.Core.Bool.{Bool, true, false, not, ◌&&◌, ◌||◌, and-true}
 use lib.Dec.{leb, eqb}
@@ -22,6 +22,7 @@ use Rattle.log_model.proofs.Decode.{change_begin, change_end, change_insert, cha
 use Rattle.log_model.proofs.Decode.{some_end, some_bad, some_step}
 use Rattle.log_model.proofs.Texts.{whole-text}
 use Rattle.log_model.proofs.Walk.{Come, come_end}
+use Rattle.log_records.specs.declared.EditKind.{EditKind}
 use Rattle.log_records.specs.declared.EditKind.TheVariants.{Insert, Delete, Replace}
 use Rattle.log_records.specs.declared.Kind.{Kind}
 use Rattle.log_records.specs.declared.Kind.TheVariants.{Begin, End, Edit}
@@ -114,6 +115,9 @@ module _ (R : Repertoire) (ts : List ℕ) (t o n : ℕ) (text : is_text R (drop 
 
 -- one of them is empty, or both
 module _ (R : Repertoire) (ts : List ℕ) (t : ℕ) where
+  none_both : t ≤ length ts → are_texts_at R ts t 0 0 ≡ true
+  none_both h = sym (second-says R ts t 0 0 true (sym (none_at R ts t 0 refl h)) (none_at R ts (t + 0) 0 refl (omega arith)))
+
   two_none : true ≡ two R ts t 0 0
   two_none = sym (rw (text_nil R))
 
@@ -136,6 +140,22 @@ module _ (R : Repertoire) (F : Format) (rs ts : List ℕ) (at t : ℕ) where
   fine_by (Edit Insert) = ap (ok_change R) (change_insert F rs ts at t (3 + F.offset) refl) ∙ two-new R ts t (first_len F rs at)
   fine_by (Edit Delete) = ap (ok_change R) (change_delete F rs ts at t (4 + F.offset) refl) ∙ two-old R ts t (first_len F rs at)
   fine_by (Edit Replace) = ap (ok_change R) (change_replace F rs ts at t (5 + F.offset) refl)
+
+  -- a record that is no edit's has no texts, and so they stand there
+  abbrev pub IsBare : Record → Type 0
+  IsBare r = ((x : EditKind) → r.kind ≡ Edit x → ⊥) → t ≤ length ts → are_texts_at R ts t r.old r.new ≡ true
+
+  bare_by : (k : Kind) → IsBare (record_by F rs at k)
+  bare_by Begin f h = none_both R ts t h
+  bare_by End f h = none_both R ts t h
+  bare_by (Edit Insert) f h = absurd (f Insert refl)
+  bare_by (Edit Delete) f h = absurd (f Delete refl)
+  bare_by (Edit Replace) f h = absurd (f Replace refl)
+
+  pub bare_texts : (r : Record) → Some r ≡ record_at F rs at → IsBare r
+  bare_texts r e =
+      let (k, q) = read F rs at r e in
+      subst IsBare (sym q.1) (bare_by k)
 
   -- no record
   pub no_record : None ≡ record_at F rs at → whole_at R F rs ts at t ≡ false

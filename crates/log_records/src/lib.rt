@@ -225,7 +225,7 @@ impl Newest {
 }
 
 // Are records and texts the layout of a list of changes? Then what stands at its end. One pass over each: the texts are looked at
-// as one text, and of each record's texts it is then asked where they end.
+// as one text, and of each record's texts it is then asked where they end. A Begin and an End have none.
 pub fn check_list(f: Format, records: &[u8], texts: &[u8]) -> Option<Newest>
     requires { Fit f }
     ensures sound { is_some result ≡ Layout·is_some (decode catalogue f records.now texts.now) }
@@ -240,7 +240,7 @@ pub fn check_list(f: Format, records: &[u8], texts: &[u8]) -> Option<Newest>
     // A turn passes a record, whose kind says how long it is: no index is counted.
     while at < records.len() {
         let r = read_record(f, records, at)?;
-        if !are_texts_at(texts, t, r.old, r.new) {
+        if matches!(r.kind, Kind::Edit(_)) && !are_texts_at(texts, t, r.old, r.new) {
             return None;
         }
         let next = at + r.size;

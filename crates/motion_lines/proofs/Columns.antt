@@ -4,12 +4,13 @@ use mathlib.Core.Bool.{cond}
 use mathlib.Core.List.{List, [], ◌∷◌, map}
 use Prim.Native.Nat.{ℕ, zero, suc, ◌+◌, ◌-◌, ◌<◌, ◌≤◌}
 use native.Mathlib.Omega.{arith}
-use lib.Dec.{ltb, leb-suc-suc}
+use lib.Dec.{eqb, ltb, leb-suc-suc}
 use lib.ListN.{length, take, drop}
 use lib.Seq.{drop-drop}
 use borrow.Author.Tests.{eq-eqb, ne_eqb, lt-ltb, le-ltb}
 use Rattle.std.specs.Prelude.{None, Some}
 use Rattle.lists.specs.Lists.{sum, part}
+use Rattle.lists.proofs.Bools.{by_test}
 use Rattle.lists.proofs.Parts.{part-tail}
 use Rattle.repertoire.specs.Repertoire.{Repertoire}
 use Rattle.cluster.specs.Clusters.{first_cluster, bytes, first_size}
@@ -124,6 +125,9 @@ module _ (s : List ℕ) where
       rw (ne_eqb e (length s) z, m) (ap (line_below s n (e + 1)) (sym q))
 
 -- ---- the same column above and below
+pub offset-le : (a prompt : ℕ) → offset a prompt ≤ prompt
+offset-le a prompt = by_test _ (eqb a 0) (λ t. rw t (omega arith)) (λ t. rw t (omega arith))
+
 module _ (R : Repertoire) (s : List ℕ) (pos n prompt : ℕ) where
   -- the cursor's line starts at own
   module _ (own : ℕ) (q : own ≡ start_of_line s pos) where

@@ -30,7 +30,7 @@ fn main(rt: HostRuntime) -> io::Result<()> {
     }
     let longest = Count {
         name: b"longest slips",
-        agreed: test_slip_line::longest::agreed(rt.alloc())?,
+        agreed: test_slip_line::longest::agreed(),
     };
     longest.print(&rt)
 }

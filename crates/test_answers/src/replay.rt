@@ -2,12 +2,11 @@
 // which do not. The comments at the head of a data file say what a line is. A line that begins with '#' is a comment; a line of any
 // other form is one that differs, and so is one with a text of over 65,536 bytes. The lines of one call stand together.
 use super::counts::Count;
-use std::alloc::{AllocError, Global};
 use std::fs::File;
 use std::io;
 use std::rt::Files;
 use std::str::from_utf8;
-use test_fields::{Fields, LineError, fill_from, well_formed};
+use test_fields::{Fields, Malformed, fill_from};
 
 // What is found of a line.
 #[derive(Clone, Copy, PartialEq, Eq)]
@@ -24,36 +23,36 @@ fn split_once(s: &[u8], b: u8) -> Option<(&[u8], &[u8])> {
 }
 
 // Does a line agree: a call's name, what it is lent, and behind '>' what is due? The byte at either side of '>' is skipped.
-fn agrees(alloc: Global, line: &[u8]) -> Result<bool, LineError> {
-    let (name, sides) = split_once(line, b' ').ok_or(LineError::Malformed)?;
-    let (lent, due) = split_once(sides, b'>').ok_or(LineError::Malformed)?;
+fn agrees(line: &[u8]) -> Result<bool, Malformed> {
+    let (name, sides) = split_once(line, b' ').ok_or(Malformed)?;
+    let (lent, due) = split_once(sides, b'>').ok_or(Malformed)?;
     let lent = Fields::new(from_utf8(&lent[..lent.len().saturating_sub(1)])?);
     let due = Fields::new(from_utf8(&due[due.len().min(1)..])?);
-    match from_utf8(name)?.split_once('_') {
-        Some(("ring", call)) => test_ring_line::agrees(alloc, call, lent, due),
-        Some(("line", "key")) => test_key_line::agrees(alloc, lent, due),
-        Some(("text", "slip")) => test_slip_line::agrees(alloc, lent, due),
-        Some((kind, call)) => test_state_line::agrees(alloc, kind, call, lent, due),
-        None => Err(LineError::Malformed),
-    }
+    Ok(match from_utf8(name)?.split_once('_') {
+        Some(("ring", call)) => test_ring_line::agrees(call, lent, due),
+        Some(("line", "key")) => test_key_line::agrees(lent, due),
+        Some(("text", "slip")) => test_slip_line::agrees(lent, due),
+        Some((kind, call)) => test_state_line::agrees(kind, call, lent, due),
+        None => false,
+    })
 }
 
-fn judged(alloc: Global, line: &[u8]) -> Result<Found, AllocError> {
+fn judged(line: &[u8]) -> Found {
     if line.starts_with(b"#") {
-        return Ok(Found::Comment);
+        return Found::Comment;
     }
-    match well_formed(agrees(alloc, line))? {
-        Some(true) => Ok(Found::Agrees),
-        _ => Ok(Found::Differs),
+    match agrees(line) {
+        Ok(true) => Found::Agrees,
+        _ => Found::Differs,
     }
 }
 
 // Replays all lines. The count of a call is printed where that of another begins, and at the end.
-fn replay(rt: &(impl Print + AllocGlobal), s: &[u8]) -> io::Result<()> {
+fn replay(rt: &impl Print, s: &[u8]) -> io::Result<()> {
     let mut count = Count::of(b"");
     for (i, line) in s.split_inclusive(|b| *b == b'\n').enumerate() {
         let line = line.strip_suffix(b"\n").unwrap_or(line);
-        let found = judged(rt.alloc(), line)?;
+        let found = judged(line);
         if found == Found::Comment {
             continue;
         }
@@ -77,8 +76,8 @@ fn replay(rt: &(impl Print + AllocGlobal), s: &[u8]) -> io::Result<()> {
 const LARGEST: usize = 262144;
 
 // Replays a file.
-pub fn run(rt: &(impl Files + Print + AllocGlobal), path: &str) -> io::Result<()> {
-    let mut input = vec![in rt.alloc(); 0u8; LARGEST]?;
+pub fn run(rt: &(impl Files + Print), path: &str) -> io::Result<()> {
+    let mut input = [0u8; LARGEST];
     let n = fill_from(&mut File::open(rt, path)?, &mut input)?;
     replay(rt, &input[..n])
 }

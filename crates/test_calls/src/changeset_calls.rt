@@ -13,7 +13,7 @@ fn log_call(
     new: &[u8],
     args: &[usize],
 ) -> Option<LogAnswer> {
-    let Buffers { records, texts, .. } = lent;
+    let (_text, records, texts) = lent.as_mut_slices();
     let answer = match (name, args) {
         ("new", []) => log_state::says(0, Log::new()),
         ("begin", []) => log_calls::begin(records, texts, log),
@@ -53,11 +53,7 @@ pub fn call(
     if let Some(a) = log_call(name, lent, log, buf, new, args) {
         return Some(with_line(a, line));
     }
-    let Buffers {
-        text,
-        records,
-        texts,
-    } = lent;
+    let (text, records, texts) = lent.as_mut_slices();
     match (name, args) {
         ("undo", [n]) => Some(undo::undo(text, records, texts, line, log, count_of(*n))),
         ("redo", [n]) => Some(undo_redo::redo(text, records, texts, line, log, count_of(*n))),

@@ -31,7 +31,7 @@ fn line_call(
     buf: &[u8],
     args: &[usize],
 ) -> Option<EditAnswer> {
-    if let Some(a) = line_calls::call(name, &lent.text, line, args) {
+    if let Some(a) = line_calls::call(name, lent.text.as_slice(), line, args) {
         return Some(with_log(a, log));
     }
     if let Some(a) = kill_calls::call(name, lent, line, log, args) {

@@ -14,11 +14,7 @@ pub fn call(
     buf: &[u8],
     args: &[usize],
 ) -> Option<EditAnswer> {
-    let Buffers {
-        text,
-        records,
-        texts,
-    } = lent;
+    let (text, records, texts) = lent.as_mut_slices();
     let answer = match (name, args) {
         ("insert", [ch, n]) => {
             edit_insert::insert(text, records, texts, line, log, code_of(*ch), count_of(*n))

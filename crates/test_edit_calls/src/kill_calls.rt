@@ -32,11 +32,7 @@ pub fn call(
     log: Log,
     args: &[usize],
 ) -> Option<EditAnswer> {
-    let Buffers {
-        text,
-        records,
-        texts,
-    } = lent;
+    let (text, records, texts) = lent.as_mut_slices();
     let answer = match (name, args) {
         ("kill_line", []) => edit_kill::kill_line(text, records, texts, line, log),
         ("kill_buffer", []) => edit_kill::kill_buffer(text, records, texts, line, log),

@@ -4,131 +4,66 @@
 #![tactic(auto)]
 
 mod buffers;
+mod text;
 
-ghost use Rattle.std.specs.Prelude.{◌≡◌, ◌-◌, ◌<◌, ◌≤◌, ◌^◌, min, length, take, IfOk, Ok, Err, Some, None};
+ghost use Rattle.std.specs.Prelude.{◌≡◌, ◌-◌, ◌<◌, ◌≤◌, ◌^◌, min, length, take, IfOk};
 ghost use Rattle.std.specs.Io.KnownBytes.{Consumes, IsAtEnd};
-ghost use Rattle.test_fields.specs.declared.LineError.TheVariants.{Malformed};
 
 pub use buffers::Buffers;
-use std::alloc::{AllocError, AllocFailed, Global};
 use std::io::{self, Read};
 use std::num::ParseIntError;
 use std::str::{Split, Utf8Error};
+pub use text::{Text, text_of};
 
-// The bytes of the longest text.
-const LONGEST: usize = 65536;
+// A line or a field has another form.
+#[derive(Clone, Copy, Debug)]
+pub struct Malformed;
 
-// Why a line cannot be judged: it has another form, or memory runs out.
-#[derive(Debug, Drop)]
-pub enum LineError {
-    Malformed,
-    OutOfMemory(AllocError),
-}
-
-impl From<AllocError> for LineError {
-    fn from(e: AllocError) -> LineError {
-        LineError::OutOfMemory(e)
+impl From<Utf8Error> for Malformed {
+    fn from(_e: Utf8Error) -> Malformed {
+        Malformed
     }
 }
 
-impl<T: Drop> From<AllocFailed<T>> for LineError {
-    fn from(e: AllocFailed<T>) -> LineError {
-        LineError::OutOfMemory(AllocError::from(e))
-    }
-}
-
-impl From<Utf8Error> for LineError {
-    ghost from_gives = { λ _ e. e ≡ Malformed };
-
-    fn from(_e: Utf8Error) -> LineError {
-        LineError::Malformed
-    }
-}
-
-impl From<ParseIntError> for LineError {
-    ghost from_gives = { λ _ e. e ≡ Malformed };
-
-    fn from(_e: ParseIntError) -> LineError {
-        LineError::Malformed
-    }
-}
-
-// What is read of a line, none where it has another form.
-pub fn well_formed<T>(read: Result<T, LineError>) -> Result<Option<T>, AllocError>
-    ensures some { IfOk read (λ x. result ≡ Ok (Some x)) }
-    ensures none { read ≡ Err Malformed → result ≡ Ok None }
-{
-    match read {
-        Ok(x) => Ok(Some(x)),
-        Err(LineError::Malformed) => Ok(None),
-        Err(LineError::OutOfMemory(e)) => Err(e),
-    }
-}
-
-// The value of a hexadecimal digit; letters are small.
-fn digit_of(b: u8) -> Result<u8, LineError>
-    ensures { IfOk result (λ digit. digit < 16) }
-{
-    match b {
-        b'0'..=b'9' => Ok(b - b'0'),
-        b'a'..=b'f' => Ok(b - b'a' + 10),
-        _ => Err(LineError::Malformed),
+impl From<ParseIntError> for Malformed {
+    fn from(_e: ParseIntError) -> Malformed {
+        Malformed
     }
 }
 
 // A decimal number of at most 64 bits. It has no sign, but `parse` takes a '+'.
-fn number_of(field: &str) -> Result<usize, LineError> {
+fn number_of(field: &str) -> Result<usize, Malformed> {
     if field.starts_with('+') {
-        return Err(LineError::Malformed);
+        return Err(Malformed);
     }
     Ok(field.parse::<usize>()?)
 }
 
-// Puts a byte so many times behind a text, where there is room.
-fn add(text: &mut Vec<u8>, b: u8, count: usize) -> Result<(), LineError> {
-    if LONGEST.saturating_sub(text.len()) < count {
-        return Err(LineError::Malformed);
-    }
-    text.resize(text.len() + count, b)?;
-    Ok(())
+// The most numbers of one side of a line.
+const MOST: usize = 24;
+
+// The numbers of one side of a line.
+#[derive(Clone, Copy)]
+pub struct Numbers {
+    values: [usize; MOST],
+    count: usize,
+    ghost fits: { count ≤ 24 },
 }
 
-// Puts the bytes that digits say behind a text.
-fn add_bytes(text: &mut Vec<u8>, digits: &str) -> Result<(), LineError> {
-    for pair in digits.as_bytes().chunks(2) {
-        let &[high, low] = pair else {
-            return Err(LineError::Malformed);
-        };
-        add(text, digit_of(high)? * 16 + digit_of(low)?, 1)?;
+impl Numbers {
+    // The numbers in their order.
+    pub fn as_slice(&self) -> &[usize]
+        ensures { result.now ≡ take self.now.count self.now.values }
+    {
+        &self.values[..self.count]
     }
-    Ok(())
-}
 
-// Puts a run behind a text: bytes, the last of them so many times in all as stands behind a '*'.
-fn add_run(text: &mut Vec<u8>, run: &str) -> Result<(), LineError> {
-    let Some((digits, count)) = run.split_once('*') else {
-        return add_bytes(text, run);
-    };
-    add_bytes(text, digits)?;
-    let more = number_of(count)?
-        .checked_sub(1)
-        .ok_or(LineError::Malformed)?;
-    match text.last().copied() {
-        Some(last) if !digits.is_empty() => add(text, last, more),
-        _ => Err(LineError::Malformed),
+    // Puts a number behind the others, where there is room.
+    fn push(&mut self, number: usize) -> Result<(), Malformed> {
+        *self.values.get_mut(self.count).ok_or(Malformed)? = number;
+        self.count += 1;
+        Ok(())
     }
-}
-
-// The text that a field says.
-pub fn text_of(alloc: Global, field: &str) -> Result<Vec<u8>, LineError> {
-    let mut text = Vec::new(alloc);
-    if field == "-" {
-        return Ok(text);
-    }
-    for run in field.split(',') {
-        add_run(&mut text, run)?;
-    }
-    Ok(text)
 }
 
 // The fields of one side of a line that are still to be read.
@@ -138,6 +73,7 @@ pub struct Fields<'a> {
 }
 
 impl<'a> Fields<'a> {
+    // The fields of a side, none of them read yet.
     pub fn new(side: &'a str) -> Self {
         Fields {
             rest: side.split(' '),
@@ -149,30 +85,27 @@ impl<'a> Fields<'a> {
         self.rest.next().unwrap_or("")
     }
 
-    // The text that the next field says.
-    pub fn next_text(&mut self, alloc: Global) -> Result<Vec<u8>, LineError> {
-        text_of(alloc, self.next_field())
-    }
-
-    // The numbers of all fields that are left.
-    pub fn numbers(self, alloc: Global) -> Result<Vec<usize>, LineError> {
-        self.rest.map(|field| number_of(field)).try_collect(alloc)
+    // The numbers of all fields that are left. No call has more than there is room for.
+    pub fn numbers(self) -> Result<Numbers, Malformed> {
+        let mut numbers = Numbers {
+            values: [0; MOST],
+            count: 0,
+        };
+        for field in self.rest {
+            numbers.push(number_of(field)?)?;
+        }
+        Ok(numbers)
     }
 }
 
-// Is a buffer left as a field says: its used part as the field, or the whole as it was lent where the field is '='?
-pub fn is_left(
-    alloc: Global,
-    due: &str,
-    lent: &[u8],
-    left: &[u8],
-    used: usize,
-) -> Result<bool, LineError> {
+// Is a buffer left as a field says: its used part as the field, or the whole as it was lent where the field is '='? The text of the
+// field is read in place of what was lent.
+pub fn is_left(due: &str, lent: &mut Text, left: &[u8], used: usize) -> Result<bool, Malformed> {
     if due == "=" {
-        return Ok(left == lent);
+        return Ok(left == lent.as_slice());
     }
-    let text = text_of(alloc, due)?;
-    Ok(left.get(..used).is_some_and(|part| part == text.as_slice()))
+    lent.read(due)?;
+    Ok(left.get(..used).is_some_and(|part| part == lent.as_slice()))
 }
 
 // A code or a code point: 4,294,967,295 where the number is over it.

@@ -10,8 +10,7 @@ use key_calls::key;
 use key_model::KeyAnswer;
 use kill_ring::Ring;
 use log_state::Log;
-use std::alloc::Global;
-use test_fields::{Buffers, Fields, LineError};
+use test_fields::{Buffers, Fields, Malformed, Text};
 use test_ring_line::{RingBuffers, ring_numbers, ring_of};
 use test_state_line::{answer_numbers, state_of, used};
 
@@ -24,12 +23,8 @@ fn press(
     ring: Ring,
     bytes: &[u8],
 ) -> KeyAnswer {
-    let Buffers {
-        text,
-        records,
-        texts,
-    } = state;
-    let RingBuffers { slots, lens } = rings;
+    let (text, records, texts) = state.as_mut_slices();
+    let (slots, lens) = rings.as_mut_slices();
     key(text, records, texts, slots, lens, line, log, ring, bytes)
 }
 
@@ -50,23 +45,40 @@ fn is_answer(numbers: &[usize], a: KeyAnswer) -> bool {
     }
 }
 
-// Does a line agree: a key, what it is lent, and what is due?
-pub fn agrees(alloc: Global, mut lent: Fields<'_>, mut due: Fields<'_>) -> Result<bool, LineError> {
-    let state = Buffers::read(alloc, &mut lent)?;
-    let rings = RingBuffers::read(alloc, &mut lent)?;
-    let bytes = lent.next_text(alloc)?;
-    let numbers = lent.numbers(alloc)?;
-    let (line, log, ring_numbers) = state_of(&numbers)?;
+// Replays a line: does a key, with what it is lent, leave and answer what is due?
+fn replays(mut lent: Fields<'_>, mut due: Fields<'_>) -> Result<bool, Malformed> {
+    let mut state = Buffers::new();
+    let mut state_after = Buffers::new();
+    let mut rings = RingBuffers::new();
+    let mut rings_after = RingBuffers::new();
+    let mut bytes = Text::new();
+    state.read(&mut lent)?;
+    rings.read(&mut lent)?;
+    bytes.read(lent.next_field())?;
+    let numbers = lent.numbers()?;
+    let (line, log, ring_numbers) = state_of(numbers.as_slice())?;
     let (ring, behind) = ring_of(ring_numbers)?;
     if !behind.is_empty() {
-        return Err(LineError::Malformed);
+        return Err(Malformed);
     }
-    let mut state_after = state.clone()?;
-    let mut rings_after = rings.clone()?;
-    let a = press(&mut state_after, &mut rings_after, line, log, ring, &bytes);
+    state_after.copy_from(&state);
+    rings_after.copy_from(&rings);
+    let a = press(
+        &mut state_after,
+        &mut rings_after,
+        line,
+        log,
+        ring,
+        bytes.as_slice(),
+    );
     Ok(
-        state_after.are_left(alloc, &mut due, &state, used(a.line, a.log))?
-            && rings_after.are_left(alloc, &mut due, &rings, a.ring.count)?
-            && is_answer(&due.numbers(alloc)?, a),
+        state_after.are_left(&mut due, &mut state, used(a.line, a.log))?
+            && rings_after.are_left(&mut due, &mut rings, a.ring.count)?
+            && is_answer(due.numbers()?.as_slice(), a),
     )
+}
+
+// Does a line agree: a key, what it is lent, and what is due? One of another form does not.
+pub fn agrees(lent: Fields<'_>, due: Fields<'_>) -> bool {
+    replays(lent, due).unwrap_or(false)
 }

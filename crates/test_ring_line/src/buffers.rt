@@ -1,16 +1,15 @@
 // A ring's slots and their lengths, two neighboring fields of either side of a line.
-use std::alloc::Global;
-use test_fields::{Fields, LineError, is_left, text_of};
+use test_fields::{Fields, Malformed, Text, is_left};
 
 // The bytes of a slot, and those of its length.
 const SLOT: usize = 4096;
 
 const LEN: usize = 2;
 
-#[derive(Clone, Drop)]
+#[derive(Clone, Copy)]
 pub struct RingBuffers {
-    pub slots: Vec<u8>,
-    pub lens: Vec<u8>,
+    pub slots: Text,
+    pub lens: Text,
 }
 
 // Are the texts of the first slots these bytes, one behind the other?
@@ -35,40 +34,53 @@ fn are_slots(due: &[u8], slots: &[u8], lens: &[u8], count: usize) -> bool {
 }
 
 impl RingBuffers {
-    // The buffers as the next fields lend them.
-    pub fn read(alloc: Global, lent: &mut Fields<'_>) -> Result<Self, LineError> {
-        let slots = lent.next_text(alloc)?;
-        let lens = lent.next_text(alloc)?;
-        Ok(RingBuffers { slots, lens })
-    }
-
-    // Are the slots left as a field says: the texts of those in use, or all as they were lent where the field is '='?
-    fn are_slots_left(
-        &self,
-        alloc: Global,
-        due: &str,
-        lent: &RingBuffers,
-        count: usize,
-    ) -> Result<bool, LineError> {
-        if due == "=" {
-            return Ok(self.slots == lent.slots);
+    // Empty buffers.
+    pub fn new() -> Self {
+        RingBuffers {
+            slots: Text::new(),
+            lens: Text::new(),
         }
-        let texts = text_of(alloc, due)?;
-        Ok(are_slots(&texts, &self.slots, &self.lens, count))
     }
 
-    // Are they left as the next fields say, with so many slots in use?
+    // Reads the buffers that the next fields lend.
+    pub fn read(&mut self, lent: &mut Fields<'_>) -> Result<(), Malformed> {
+        self.slots.read(lent.next_field())?;
+        self.lens.read(lent.next_field())
+    }
+
+    // Copies the texts of other buffers.
+    pub fn copy_from(&mut self, buffers: &RingBuffers) {
+        self.slots.copy_from(&buffers.slots);
+        self.lens.copy_from(&buffers.lens);
+    }
+
+    // The slots and their lengths, to be written.
+    pub fn as_mut_slices(&mut self) -> (&mut [u8], &mut [u8]) {
+        (self.slots.as_mut_slice(), self.lens.as_mut_slice())
+    }
+
+    // Are the slots left as a field says: the texts of those in use, or all as they were lent where the field is '='? The texts of the
+    // field are read in place of what was lent.
+    fn are_slots_left(&self, due: &str, lent: &mut Text, count: usize) -> Result<bool, Malformed> {
+        let slots = self.slots.as_slice();
+        if due == "=" {
+            return Ok(slots == lent.as_slice());
+        }
+        lent.read(due)?;
+        Ok(are_slots(lent.as_slice(), slots, self.lens.as_slice(), count))
+    }
+
+    // Are they left as the next fields say, with so many slots in use? The texts of the fields are read in place of what was lent.
     pub fn are_left(
         &self,
-        alloc: Global,
         due: &mut Fields<'_>,
-        lent: &RingBuffers,
+        lent: &mut RingBuffers,
         count: usize,
-    ) -> Result<bool, LineError> {
+    ) -> Result<bool, Malformed> {
         let used = count.saturating_add(count);
         Ok(
-            self.are_slots_left(alloc, due.next_field(), lent, count)?
-                && is_left(alloc, due.next_field(), &lent.lens, &self.lens, used)?,
+            self.are_slots_left(due.next_field(), &mut lent.slots, count)?
+                && is_left(due.next_field(), &mut lent.lens, self.lens.as_slice(), used)?,
         )
     }
 }

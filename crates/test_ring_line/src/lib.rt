@@ -11,11 +11,10 @@ mod ring_calls;
 pub use buffers::RingBuffers;
 use kill_ring::{Ring, RingAnswer};
 use ring_calls::call;
-use std::alloc::Global;
-use test_fields::{Fields, LineError};
+use test_fields::{Fields, Malformed, Text};
 
 // The record that the first numbers say, and the numbers behind them.
-pub fn ring_of(numbers: &[usize]) -> Result<(Ring, &[usize]), LineError>
+pub fn ring_of(numbers: &[usize]) -> Result<(Ring, &[usize]), Malformed>
     ensures ok { IfOk result (λ r. numbers.now ≡ r.0.size ∷ r.0.count ∷ r.0.index ∷ r.0.action ∷ r.0.yanked ∷ r.1.now) }
     ensures err { OnErr result (length numbers.now < 5) }
 {
@@ -30,7 +29,7 @@ pub fn ring_of(numbers: &[usize]) -> Result<(Ring, &[usize]), LineError>
             };
             Ok((ring, rest))
         }
-        _ => Err(LineError::Malformed),
+        _ => Err(Malformed),
     }
 }
 
@@ -52,21 +51,24 @@ fn is_answer(numbers: &[usize], a: RingAnswer, ring: Ring) -> bool {
     }
 }
 
-// Does a line agree: the call of a name, what it is lent, and what is due?
-pub fn agrees(
-    alloc: Global,
-    name: &str,
-    mut lent: Fields<'_>,
-    mut due: Fields<'_>,
-) -> Result<bool, LineError> {
-    let before = RingBuffers::read(alloc, &mut lent)?;
-    let text = lent.next_text(alloc)?;
-    let numbers = lent.numbers(alloc)?;
-    let (ring, args) = ring_of(&numbers)?;
-    let mut after = before.clone()?;
-    let a = call(name, &mut after, ring, &text, args).ok_or(LineError::Malformed)?;
+// Replays a line: does the call of a name, with what it is lent, leave and answer what is due?
+fn replays(name: &str, mut lent: Fields<'_>, mut due: Fields<'_>) -> Result<bool, Malformed> {
+    let mut before = RingBuffers::new();
+    let mut after = RingBuffers::new();
+    let mut text = Text::new();
+    before.read(&mut lent)?;
+    text.read(lent.next_field())?;
+    let numbers = lent.numbers()?;
+    let (ring, args) = ring_of(numbers.as_slice())?;
+    after.copy_from(&before);
+    let a = call(name, &mut after, ring, text.as_slice(), args).ok_or(Malformed)?;
     Ok(
-        after.are_left(alloc, &mut due, &before, a.ring.count)?
-            && is_answer(&due.numbers(alloc)?, a.answer, a.ring),
+        after.are_left(&mut due, &mut before, a.ring.count)?
+            && is_answer(due.numbers()?.as_slice(), a.answer, a.ring),
     )
+}
+
+// Does a line agree: the call of a name, what it is lent, and what is due? One of another form does not.
+pub fn agrees(name: &str, lent: Fields<'_>, due: Fields<'_>) -> bool {
+    replays(name, lent, due).unwrap_or(false)
 }

@@ -13,7 +13,7 @@ pub fn call(
     text: &[u8],
     args: &[usize],
 ) -> Option<AnswerAndRing> {
-    let RingBuffers { slots, lens } = lent;
+    let (slots, lens) = lent.as_mut_slices();
     let answer = match (name, args) {
         ("reset", []) => kill_ring::reset(slots, lens, ring),
         ("yank", []) => kill_ring::yank(slots, lens, ring),

@@ -1,6 +1,5 @@
 // The longest slip, which no line of a data file has room for: 4,096 newlines are 4,096 lines of 60 spaces.
 use slip_calls::slip;
-use std::alloc::{AllocError, Global};
 
 // The bytes of the text, and of the slip: its lines with their newlines.
 const TEXT: usize = 4096;
@@ -17,20 +16,20 @@ fn is_blank_line(line: &[u8]) -> bool {
 }
 
 // A page as long as the slip.
-fn fills_the_page(alloc: Global) -> Result<bool, AllocError> {
-    let mut page = vec![in alloc; 0x9Fu8; SLIP]?;
+fn fills_the_page() -> bool {
+    let mut page = [0x9Fu8; SLIP];
     let a = slip(&[b'\n'; TEXT], &mut page);
-    Ok(a.number == 0 && a.value == SLIP && page.chunks(COLUMNS + 1).all(is_blank_line))
+    a.number == 0 && a.value == SLIP && page.chunks(COLUMNS + 1).all(is_blank_line)
 }
 
 // A page one byte short.
-fn is_refused(alloc: Global) -> Result<bool, AllocError> {
-    let mut page = vec![in alloc; 0x9Fu8; SLIP - 1]?;
+fn is_refused() -> bool {
+    let mut page = [0x9Fu8; SLIP - 1];
     let a = slip(&[b'\n'; TEXT], &mut page);
-    Ok(a.number == 14 && a.value == 0 && page.iter().all(|b| *b == 0x9F))
+    a.number == 14 && a.value == 0 && page.iter().all(|b| *b == 0x9F)
 }
 
 // How many of the two agree.
-pub fn agreed(alloc: Global) -> Result<usize, AllocError> {
-    Ok(usize::from(fills_the_page(alloc)?) + usize::from(is_refused(alloc)?))
+pub fn agreed() -> usize {
+    usize::from(fills_the_page()) + usize::from(is_refused())
 }

@@ -9,12 +9,11 @@ ghost use Rattle.test_state_line.specs.Numbers.{log_numbers};
 use checks::Line;
 use edit::EditAnswer;
 use log_state::{Log, Used};
-use std::alloc::Global;
 use test_calls::call;
-use test_fields::{Buffers, Fields, LineError};
+use test_fields::{Buffers, Fields, Malformed, Text};
 
 // The line and the log that the first numbers say, and the numbers behind them.
-pub fn state_of(numbers: &[usize]) -> Result<(Line, Log, &[usize]), LineError>
+pub fn state_of(numbers: &[usize]) -> Result<(Line, Log, &[usize]), Malformed>
     ensures ok { IfOk result (λ r. numbers.now ≡ r.0.len ∷ r.0.cursor ∷ log_numbers r.1 r.2.now) }
     ensures err { OnErr result (length numbers.now < 7) }
 {
@@ -37,7 +36,7 @@ pub fn state_of(numbers: &[usize]) -> Result<(Line, Log, &[usize]), LineError>
             };
             Ok((line, log, rest))
         }
-        _ => Err(LineError::Malformed),
+        _ => Err(Malformed),
     }
 }
 
@@ -72,23 +71,41 @@ pub fn used(line: Line, log: Log) -> [usize; 3]
     ]
 }
 
-// Does a line agree: the call of a name, what it is lent, and what is due?
-pub fn agrees(
-    alloc: Global,
+// Replays a line: does the call of a name, with what it is lent, leave and answer what is due?
+fn replays(
     kind: &str,
     name: &str,
     mut lent: Fields<'_>,
     mut due: Fields<'_>,
-) -> Result<bool, LineError> {
-    let before = Buffers::read(alloc, &mut lent)?;
-    let buf = lent.next_text(alloc)?;
-    let new = lent.next_text(alloc)?;
-    let numbers = lent.numbers(alloc)?;
-    let (line, log, args) = state_of(&numbers)?;
-    let mut after = before.clone()?;
-    let a = call(kind, name, &mut after, line, log, &buf, &new, args).ok_or(LineError::Malformed)?;
-    Ok(
-        after.are_left(alloc, &mut due, &before, used(a.line, a.log))?
-            && due.numbers(alloc)?.as_slice() == answer_numbers(a).as_slice(),
+) -> Result<bool, Malformed> {
+    let mut before = Buffers::new();
+    let mut after = Buffers::new();
+    let mut buf = Text::new();
+    let mut new = Text::new();
+    before.read(&mut lent)?;
+    buf.read(lent.next_field())?;
+    new.read(lent.next_field())?;
+    let numbers = lent.numbers()?;
+    let (line, log, args) = state_of(numbers.as_slice())?;
+    after.copy_from(&before);
+    let a = call(
+        kind,
+        name,
+        &mut after,
+        line,
+        log,
+        buf.as_slice(),
+        new.as_slice(),
+        args,
     )
+    .ok_or(Malformed)?;
+    Ok(
+        after.are_left(&mut due, &mut before, used(a.line, a.log))?
+            && due.numbers()?.as_slice() == answer_numbers(a).as_slice(),
+    )
+}
+
+// Does a line agree: the call of a name, what it is lent, and what is due? One of another form does not.
+pub fn agrees(kind: &str, name: &str, lent: Fields<'_>, due: Fields<'_>) -> bool {
+    replays(kind, name, lent, due).unwrap_or(false)
 }

@@ -85,7 +85,7 @@ pub returns : goal.returns
 returns c =
     let a = c.args in
     let l = lent a.text.now a.records.now a.texts.now a.checked.line a.checked.log in
-    c.is_some.ensures ∙ pair_room a.checked.format l c.requires.ready a.from a.to a.at a.new.now c.requires.all_suit (top_max a.checked.format.width c.requires.fit.width.most) _
+    c.is_ok.ensures.value ∙ pair_room a.checked.format l c.requires.ready a.from a.to a.at a.new.now c.requires.all_suit (top_max a.checked.format.width c.requires.fit.width.most) _
     c.room_now-a.ensures _
     (c.is_single-joins.ensures
     ∙ ap (λ (x : List ℕ). is_single catalogue (clusters_of catalogue x))

@@ -1,6 +1,6 @@
 use native.Mathlib.Omega.{arith}
 use mathlib.Core.Path.{sym, ap}
-use Rattle.std.specs.Prelude.{Some}
+use Rattle.std.specs.Prelude.{Ok}
 use lib.Seq.{length-take-le}
 use Rattle.log_recording.specs.declared.Tail.{Tail}
 use Rattle.log_state.specs.Calls.{lent}
@@ -16,5 +16,5 @@ tail_at-requires c = record { fit = c.requires.fit; last_at = c.requires.last_at
 pub returns : goal.returns
 returns c =
     let a = c.args in
-    ap (λ (t : Tail). Some t)
+    ap (λ (t : Tail). Ok t)
     (tail_now a.f (lent a.records.now a.texts.now a.log) c.requires.log_ready _ c.tail_at.ensures)

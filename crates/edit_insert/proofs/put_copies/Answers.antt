@@ -52,12 +52,12 @@ room_put-requires c =
           c.if-text-len.false _ c.room_now-now.ensures;
     }
 
-pub returns-then-is_none : goal.returns-then-is_none
-returns-then-is_none c =
+pub returns-then-is_err : goal.returns-then-is_err
+returns-then-is_err c =
     let a = c.args in
     copies_full a.checked.format (lent a.text.now a.records.now a.texts.now a.checked.line a.checked.log) c.requires.ready a.s.now c.requires.s_value a.n
     c.if-text-len.false
-    _ c.room_now-now.ensures _ c.room_put.ensures (c.is_none.ensures ∙ ap not c.if-is_none.true) _ c.refused-then-is_none.ensures
+    _ c.room_now-now.ensures _ c.room_put.ensures (c.is_err.ensures.negation ∙ ap not c.if-is_err.true) _ c.refused-then-is_err.ensures
 
 pub insert_copies-requires : goal.insert_copies-requires
 insert_copies-requires c = (c.requires.ready.within, omega (arith, c.if-text-len.false, c.requires.ready.used))
@@ -76,7 +76,7 @@ record-a-requires c =
       numbered = record { kind = refl; place = refl; old = refl; new = refl };
       ok = new-text a.checked.format (lent a.text.now a.records.now a.texts.now a.checked.line a.checked.log) c.requires.ready a.s.now c.requires.s_value
           a.n c.if-text-len.false _ c.room_now-now.ensures _ c.room_put.ensures
-          (c.is_none.ensures ∙ ap not c.if-is_none.false) c.if-size-eq0.false _ c.insert_copies.ensures;
+          (c.is_err.ensures.negation ∙ ap not c.if-is_err.false) c.if-size-eq0.false _ c.insert_copies.ensures;
     }
 
 pub overflow_add-made : goal.overflow_add-made
@@ -88,5 +88,5 @@ returns c =
     let a = c.args in
     copies-made a.checked.format (lent a.text.now a.records.now a.texts.now a.checked.line a.checked.log) c.requires.ready a.s.now c.requires.s_value a.n
     c.if-text-len.false
-    _ c.room_now-now.ensures _ c.room_put.ensures (c.is_none.ensures ∙ ap not c.if-is_none.false) c.if-size-eq0.false _
+    _ c.room_now-now.ensures _ c.room_put.ensures (c.is_err.ensures.negation ∙ ap not c.if-is_err.false) c.if-size-eq0.false _
     c.insert_copies.ensures _ _ _ c.record-a.ensures _ c.says.ensures

@@ -131,7 +131,7 @@ returns c =
     let a = c.args in
     let l = lent a.text.now a.records.now a.texts.now a.checked.line a.checked.log in
     let length-kept1 = length-kept a.checked.format l c.requires.ready in
-    c.is_some.ensures ∙ four-room a.checked.format l c.requires.ready a.w c.requires.apart c.requires.text_value _ c.room_now-r0.ensures _
+    c.is_ok.ensures.value ∙ four-room a.checked.format l c.requires.ready a.w c.requires.apart c.requires.text_value _ c.room_now-r0.ensures _
     (c.is_single-second.ensures
     ∙ ap (λ (x : List ℕ). is_single catalogue (clusters_of catalogue x))
     (sym

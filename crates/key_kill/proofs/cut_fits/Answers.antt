@@ -55,6 +55,6 @@ room_cut-requires c = record {
 pub returns : goal.returns
 returns c =
     let here = goal.at.returns c in
-    c.is_some.ensures ∙ room c.args.checked.format (lending here.Start) c.requires.ready c.args.from c.args.to c.requires.in_text
+    c.is_ok.ensures.value ∙ room c.args.checked.format (lending here.Start) c.requires.ready c.args.from c.args.to c.requires.in_text
     (top_max c.args.checked.format.width c.requires.ready.log.fit.width.most) _ c.room_now-a.ensures _
     (c.is_single-joins.ensures ∙ ap single (sym (same-part here.Start))) _ c.room_cut.ensures

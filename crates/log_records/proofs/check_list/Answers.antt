@@ -1,16 +1,19 @@
 use native.Mathlib.Omega.{arith}
 use mathlib.Core.Path.{◌≡◌, sym, ◌∙◌}
+use mathlib.Core.Bool.{true, true≢false}
 use lib.Dec.{eqb}
 use lib.ListN.{length}
 use borrow.Author.Tests.{eq-eqb, ne_eqb}
 use Rattle.repertoire.specs.Repertoire.{catalogue}
 use Rattle.log_model.specs.Layout.{is_some, decode}
 use Rattle.log_model.proofs.Texts.{no_text}
+use Rattle.log_records.specs.Check.{are_texts_at}
 use Rattle.log_records.specs.Walks.{NewestAt}
 use Rattle.log_records.proofs.Walks.{newest-same, passes}
-use Rattle.log_records.proofs.Check.{no_record, no_texts, looks_first, looks_bad, looks_on, looks_end}
+use Rattle.log_records.proofs.Check.{no_record, bare_texts, no_texts, looks_first, looks_bad, looks_on, looks_end}
 use Rattle.log_records.proofs.check_list.Goals as goal
-use Rattle.log_records.proofs.check_list.Goals.{After-loop-at}
+use Rattle.log_records.proofs.check_list.Goals.{After-loop-at, in-Edit, in_default}
+use Rattle.log_records.proofs.check_list.Goals.{else-matches-via-then-matches+else-not-are_texts_at, else-matches-via-else-matches}
 
 pub returns-then-not-check_text-clause-sound : goal.returns-then-not-check_text-clause-sound
 returns-then-not-check_text-clause-sound c = sym
@@ -46,8 +49,20 @@ loop-at-smaller c =
     omega (arith, w.1, w.2)
 
 pub loop-at-preserved : goal.loop-at-preserved
-loop-at-preserved c = looks_on catalogue c.args.f c.args.records.now c.args.texts.now c.loop-at.newest c.loop-at.at c.loop-at.t
-    c.loop-at.invariant _ c.in_ok-r.ensures.same (sym c.are_texts_at.ensures ∙ c.if-not-are_texts_at.false) _ c.pass-newest.ensures
+loop-at-preserved c =
+    let a = c.args in
+    let r = c.in_ok-r.r in
+    -- an edit's texts were asked for, and a Begin and an End have none
+    let stand : are_texts_at catalogue a.texts.now c.loop-at.t r.old r.new ≡ true = elim c.else-matches.branch [
+      | else-matches-via-then-matches+else-not-are_texts_at w ↦ sym w.are_texts_at.ensures ∙ w.if-not-are_texts_at.false
+      | else-matches-via-else-matches w ↦ elim c.match-matches.branch [
+        | in-Edit v ↦ absurd (true≢false (sym v.matches-is ∙ w.if-matches.false))
+        | in_default v ↦ bare_texts catalogue a.f a.records.now a.texts.now c.loop-at.at c.loop-at.t r c.in_ok-r.ensures.same
+            v.in_default.not-Edit c.loop-at.invariant.texts
+      ]
+    ] in
+    looks_on catalogue a.f a.records.now a.texts.now c.loop-at.newest c.loop-at.at c.loop-at.t c.loop-at.invariant _ c.in_ok-r.ensures.same
+    stand _ c.pass-newest.ensures
 
 -- all records are passed
 passed : (c : After-loop-at) → (eqb c.loop-at.t (length c.args.texts.now) ≡
