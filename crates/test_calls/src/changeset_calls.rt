@@ -2,18 +2,18 @@
 use checks::Line;
 use edit::EditAnswer;
 use log_state::{Log, LogAnswer};
-use test_fields::{Buffers, code_of, count_of};
+use test_fields::{Lend, code_of, count_of};
 
 // The answer of a call that is lent a log alone, and the empty log of new; none where there is no such call.
 fn log_call(
     name: &str,
-    lent: &mut Buffers,
+    lent: &mut impl Lend,
     log: Log,
     buf: &[u8],
     new: &[u8],
     args: &[usize],
 ) -> Option<LogAnswer> {
-    let (_text, records, texts) = lent.as_mut_slices();
+    let (_text, records, texts) = lent.lend();
     let answer = match (name, args) {
         ("new", []) => log_state::says(0, Log::new()),
         ("begin", []) => log_calls::begin(records, texts, log),
@@ -43,7 +43,7 @@ fn with_line(a: LogAnswer, line: Line) -> EditAnswer {
 // The answer of the call with a name, with these texts and these other arguments; none where there is no such call.
 pub fn call(
     name: &str,
-    lent: &mut Buffers,
+    lent: &mut impl Lend,
     line: Line,
     log: Log,
     buf: &[u8],
@@ -53,7 +53,7 @@ pub fn call(
     if let Some(a) = log_call(name, lent, log, buf, new, args) {
         return Some(with_line(a, line));
     }
-    let (text, records, texts) = lent.as_mut_slices();
+    let (text, records, texts) = lent.lend();
     match (name, args) {
         ("undo", [n]) => Some(undo::undo(text, records, texts, line, log, count_of(*n))),
         ("redo", [n]) => Some(undo_redo::redo(text, records, texts, line, log, count_of(*n))),

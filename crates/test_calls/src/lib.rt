@@ -9,7 +9,7 @@ use checks::{Line, LineAnswer};
 use edit::EditAnswer;
 use log_state::Log;
 use test_edit_calls::{edit_calls, kill_calls};
-use test_fields::Buffers;
+use test_fields::Lend;
 
 // The answer of a call that is lent a text alone: the log is as it was.
 fn with_log(a: LineAnswer, log: Log) -> EditAnswer {
@@ -25,13 +25,14 @@ fn with_log(a: LineAnswer, log: Log) -> EditAnswer {
 // The answer of a call of `line`, as insert, with this text and these other arguments; none where there is no such call.
 fn line_call(
     name: &str,
-    lent: &mut Buffers,
+    lent: &mut impl Lend,
     line: Line,
     log: Log,
     buf: &[u8],
     args: &[usize],
 ) -> Option<EditAnswer> {
-    if let Some(a) = line_calls::call(name, lent.text.as_slice(), line, args) {
+    let (text, _records, _texts) = lent.lend();
+    if let Some(a) = line_calls::call(name, text, line, args) {
         return Some(with_log(a, log));
     }
     if let Some(a) = kill_calls::call(name, lent, line, log, args) {
@@ -44,7 +45,7 @@ fn line_call(
 pub fn call(
     kind: &str,
     name: &str,
-    lent: &mut Buffers,
+    lent: &mut impl Lend,
     line: Line,
     log: Log,
     buf: &[u8],

@@ -3,18 +3,18 @@ use crate::kill_calls::movement_codes;
 use checks::Line;
 use edit::EditAnswer;
 use log_state::Log;
-use test_fields::{Buffers, amount_of, code_of, count_of};
+use test_fields::{Lend, amount_of, code_of, count_of};
 
 // The answer of the call with a name, with this text to put in and these other arguments; none where there is no such call.
 pub fn call(
     name: &str,
-    lent: &mut Buffers,
+    lent: &mut impl Lend,
     line: Line,
     log: Log,
     buf: &[u8],
     args: &[usize],
 ) -> Option<EditAnswer> {
-    let (text, records, texts) = lent.as_mut_slices();
+    let (text, records, texts) = lent.lend();
     let answer = match (name, args) {
         ("insert", [ch, n]) => {
             edit_insert::insert(text, records, texts, line, log, code_of(*ch), count_of(*n))

@@ -3,7 +3,7 @@ use checks::Line;
 use edit::EditAnswer;
 use keymap::MovementCodes;
 use log_state::Log;
-use test_fields::{Buffers, code_of, count_of};
+use test_fields::{Lend, code_of, count_of};
 
 // The numbers that name a movement, in the order of a call's arguments.
 pub fn movement_codes(
@@ -27,12 +27,12 @@ pub fn movement_codes(
 // The answer of the call with a name and these arguments, none where there is no such call.
 pub fn call(
     name: &str,
-    lent: &mut Buffers,
+    lent: &mut impl Lend,
     line: Line,
     log: Log,
     args: &[usize],
 ) -> Option<EditAnswer> {
-    let (text, records, texts) = lent.as_mut_slices();
+    let (text, records, texts) = lent.lend();
     let answer = match (name, args) {
         ("kill_line", []) => edit_kill::kill_line(text, records, texts, line, log),
         ("kill_buffer", []) => edit_kill::kill_buffer(text, records, texts, line, log),

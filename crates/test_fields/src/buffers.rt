@@ -1,6 +1,12 @@
 // A text and a log's two buffers, the first three fields of either side of a line.
 use super::{Fields, Malformed, Text, is_left};
 
+// A text and a log's two buffers that a call is lent, of any lengths: those of `Buffers`, or a caller's own.
+pub trait Lend {
+    // The text, the records and the texts, to be written.
+    fn lend(&mut self) -> (&mut [u8], &mut [u8], &mut [u8]);
+}
+
 #[derive(Clone, Copy)]
 pub struct Buffers {
     pub text: Text,
@@ -65,5 +71,11 @@ impl Buffers {
                     texts,
                 )?,
         )
+    }
+}
+
+impl Lend for Buffers {
+    fn lend(&mut self) -> (&mut [u8], &mut [u8], &mut [u8]) {
+        self.as_mut_slices()
     }
 }

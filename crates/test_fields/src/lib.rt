@@ -6,10 +6,11 @@
 mod buffers;
 mod text;
 
-ghost use Rattle.std.specs.Prelude.{◌≡◌, ◌-◌, ◌<◌, ◌≤◌, ◌^◌, min, length, take, IfOk};
+ghost use Rattle.std.specs.Prelude.{◌≡◌, ◌⊎◌, ◌↔◌, ◌+◌, ◌-◌, ◌<◌, ◌≤◌, ◌^◌, false, min, length, take, [], ◌∷◌, IfOk, IsOkAnd, IsTrue};
+ghost use Rattle.std.specs.Str.Iter.{split_has_more, split_parts_left};
 ghost use Rattle.std.specs.Io.KnownBytes.{Consumes, IsAtEnd};
 
-pub use buffers::Buffers;
+pub use buffers::{Buffers, Lend};
 use std::io::{self, Read};
 use std::num::ParseIntError;
 use std::str::{Split, Utf8Error};
@@ -85,7 +86,7 @@ impl<'a> Fields<'a> {
         self.rest.next().unwrap_or("")
     }
 
-    // The numbers of all fields that are left. No call has more than there is room for.
+    // The numbers of all fields that are left. No call has more than there is room for; more are malformed.
     pub fn numbers(self) -> Result<Numbers, Malformed> {
         let mut numbers = Numbers {
             values: [0; MOST],
@@ -95,6 +96,22 @@ impl<'a> Fields<'a> {
             numbers.push(number_of(field)?)?;
         }
         Ok(numbers)
+    }
+
+    // Reads the next numbers into out, as many as it has room for, and answers how many: fewer only where no field is left.
+    // Wrong answers ruled out: an end before a field that is left; a number counted that no field says.
+    pub fn read_numbers(&mut self, out: &mut [usize]) -> Result<usize, Malformed>
+        ensures bound { IfOk result (λ n. n ≤ length out.old) }
+        ensures end { IfOk result (λ n. n < length out.old → split_has_more self.new.rest ≡ false) }
+        ensures left { IfOk result (λ n. split_parts_left self.new.rest + n ≤ split_parts_left self.old.rest) }
+    {
+        for i in 0..out.len() {
+            let Some(field) = self.rest.next() else {
+                return Ok(i);
+            };
+            out[i] = number_of(field)?;
+        }
+        Ok(out.len())
     }
 }
 
@@ -106,6 +123,26 @@ pub fn is_left(due: &str, lent: &mut Text, left: &[u8], used: usize) -> Result<b
     }
     lent.read(due)?;
     Ok(left.get(..used).is_some_and(|part| part == lent.as_slice()))
+}
+
+// The same of a buffer of any length, where what was lent is kept: the text of the field is read into room, and is malformed where it
+// does not fit there.
+// Wrong answers ruled out: where the field is '=', the lengths compared alone; of more bytes in use than there are, those that there are.
+pub fn is_left_in(
+    due: &str,
+    lent: &[u8],
+    left: &[u8],
+    used: usize,
+    room: &mut [u8],
+) -> Result<bool, Malformed>
+    ensures whole { due.now ≡ 61 ∷ [] → IsOkAnd result (λ b. IsTrue b ↔ (left.now ≡ lent.now)) }
+    ensures part { IfOk result (λ b. IsTrue b → (due.now ≡ 61 ∷ []) ⊎ (used ≤ length left.now)) }
+{
+    if due == "=" {
+        return Ok(left == lent);
+    }
+    let len = text_of(due, room)?;
+    Ok(left.get(..used).is_some_and(|part| part == &room[..len]))
 }
 
 // A code or a code point: 4,294,967,295 where the number is over it.

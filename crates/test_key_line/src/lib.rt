@@ -45,8 +45,8 @@ fn is_answer(numbers: &[usize], a: KeyAnswer) -> bool {
     }
 }
 
-// Replays a line: does a key, with what it is lent, leave and answer what is due?
-fn replays(mut lent: Fields<'_>, mut due: Fields<'_>) -> Result<bool, Malformed> {
+// Replays a line: does a key, with what it is lent, leave and answer what is due? Err of a line of another form.
+pub fn replays(mut lent: Fields<'_>, mut due: Fields<'_>) -> Result<bool, Malformed> {
     let mut state = Buffers::new();
     let mut state_after = Buffers::new();
     let mut rings = RingBuffers::new();

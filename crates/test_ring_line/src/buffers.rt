@@ -1,5 +1,7 @@
 // A ring's slots and their lengths, two neighboring fields of either side of a line.
-use test_fields::{Fields, Malformed, Text, is_left};
+ghost use Rattle.std.specs.Prelude.{◌≡◌, ◌⊎◌, ◌↔◌, ◌/◌, ◌≤◌, length, [], ◌∷◌, IfOk, IsOkAnd, IsTrue};
+
+use test_fields::{Fields, Malformed, Text, is_left, text_of};
 
 // The bytes of a slot, and those of its length.
 const SLOT: usize = 4096;
@@ -13,7 +15,9 @@ pub struct RingBuffers {
 }
 
 // Are the texts of the first slots these bytes, one behind the other?
-fn are_slots(due: &[u8], slots: &[u8], lens: &[u8], count: usize) -> bool {
+fn are_slots(due: &[u8], slots: &[u8], lens: &[u8], count: usize) -> bool
+    ensures { IsTrue result → count ≤ length slots.now / 4096 }
+{
     if slots.len() / SLOT < count || lens.len() / LEN < count {
         return false;
     }
@@ -31,6 +35,28 @@ fn are_slots(due: &[u8], slots: &[u8], lens: &[u8], count: usize) -> bool {
         rest = behind;
     }
     rest.is_empty()
+}
+
+// Are the slots of a ring of any size left as a field says: the texts of those in use, or all as they were lent where the field is '='?
+// The texts of the field are read into room, and are malformed where they do not fit there.
+// Wrong answers ruled out: where the field is '=', slots that are never as they were lent; of more slots in use than there are, those
+// that there are.
+pub fn are_slots_left_in(
+    due: &str,
+    lent: &[u8],
+    slots: &[u8],
+    lens: &[u8],
+    count: usize,
+    room: &mut [u8],
+) -> Result<bool, Malformed>
+    ensures whole { due.now ≡ 61 ∷ [] → IsOkAnd result (λ b. IsTrue b ↔ (slots.now ≡ lent.now)) }
+    ensures in_use { IfOk result (λ b. IsTrue b → (due.now ≡ 61 ∷ []) ⊎ (count ≤ length slots.now / 4096)) }
+{
+    if due == "=" {
+        return Ok(slots == lent);
+    }
+    let len = text_of(due, room)?;
+    Ok(are_slots(&room[..len], slots, lens, count))
 }
 
 impl RingBuffers {

@@ -8,7 +8,7 @@ ghost use Rattle.std.specs.Prelude.{◌≡◌, ◌<◌, length, [], ◌∷◌, I
 mod buffers;
 mod ring_calls;
 
-pub use buffers::RingBuffers;
+pub use buffers::{RingBuffers, are_slots_left_in};
 use kill_ring::{Ring, RingAnswer};
 use ring_calls::call;
 use test_fields::{Fields, Malformed, Text};
@@ -51,8 +51,8 @@ fn is_answer(numbers: &[usize], a: RingAnswer, ring: Ring) -> bool {
     }
 }
 
-// Replays a line: does the call of a name, with what it is lent, leave and answer what is due?
-fn replays(name: &str, mut lent: Fields<'_>, mut due: Fields<'_>) -> Result<bool, Malformed> {
+// Replays a line: does the call of a name, with what it is lent, leave and answer what is due? Err of a line of another form.
+pub fn replays(name: &str, mut lent: Fields<'_>, mut due: Fields<'_>) -> Result<bool, Malformed> {
     let mut before = RingBuffers::new();
     let mut after = RingBuffers::new();
     let mut text = Text::new();

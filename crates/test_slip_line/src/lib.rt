@@ -8,8 +8,9 @@ pub mod longest;
 use slip_calls::slip;
 use test_fields::{Fields, Malformed, Text, is_left};
 
-// Replays a line: does a slip, with what it is lent, leave and answer what is due? The page is left whole.
-fn replays(mut lent: Fields<'_>, mut due: Fields<'_>) -> Result<bool, Malformed> {
+// Replays a line: does a slip, with what it is lent, leave and answer what is due? The page is left whole. Err of a line of another
+// form.
+pub fn replays(mut lent: Fields<'_>, mut due: Fields<'_>) -> Result<bool, Malformed> {
     let mut text = Text::new();
     let mut before = Text::new();
     let mut after = Text::new();

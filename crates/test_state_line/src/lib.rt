@@ -71,8 +71,8 @@ pub fn used(line: Line, log: Log) -> [usize; 3]
     ]
 }
 
-// Replays a line: does the call of a name, with what it is lent, leave and answer what is due?
-fn replays(
+// Replays a line: does the call of a name, with what it is lent, leave and answer what is due? Err of a line of another form.
+pub fn replays(
     kind: &str,
     name: &str,
     mut lent: Fields<'_>,
