@@ -1,4 +1,6 @@
 // The calls of `Changeset`.
+ghost use Rattle.std.specs.Prelude.{◌≤◌, length, IsSome};
+
 use checks::Line;
 use edit::EditAnswer;
 use log_state::{Log, LogAnswer};
@@ -12,7 +14,9 @@ fn log_call(
     buf: &[u8],
     new: &[u8],
     args: &[usize],
-) -> Option<LogAnswer> {
+) -> Option<LogAnswer>
+    ensures { IsSome result → length args.now ≤ 2 }
+{
     let (_text, records, texts) = lent.lend();
     let answer = match (name, args) {
         ("new", []) => log_state::says(0, Log::new()),
@@ -49,7 +53,9 @@ pub fn call(
     buf: &[u8],
     new: &[u8],
     args: &[usize],
-) -> Option<EditAnswer> {
+) -> Option<EditAnswer>
+    ensures { IsSome result → length args.now ≤ 2 }
+{
     if let Some(a) = log_call(name, lent, log, buf, new, args) {
         return Some(with_line(a, line));
     }

@@ -2,6 +2,8 @@
 // The arguments besides texts stand in the order of the call's parameters.
 #![tactic(auto)]
 
+ghost use Rattle.std.specs.Prelude.{◌≤◌, length, IsSome};
+
 mod changeset_calls;
 mod line_calls;
 
@@ -30,7 +32,9 @@ fn line_call(
     log: Log,
     buf: &[u8],
     args: &[usize],
-) -> Option<EditAnswer> {
+) -> Option<EditAnswer>
+    ensures { IsSome result → length args.now ≤ 8 }
+{
     let (text, _records, _texts) = lent.lend();
     if let Some(a) = line_calls::call(name, text, line, args) {
         return Some(with_log(a, log));
@@ -41,7 +45,9 @@ fn line_call(
     edit_calls::call(name, lent, line, log, buf, args)
 }
 
-// The answer of a call of `line` or `log`, with these texts and these other arguments; none where there is no such call.
+// The answer of a call of `line` or `log`, with these texts and these other arguments; none where there is no such call. No call has
+// more than 8.
+// Wrong answers ruled out: a call made whatever stands behind its arguments; a call that takes a ninth.
 pub fn call(
     kind: &str,
     name: &str,
@@ -51,7 +57,9 @@ pub fn call(
     buf: &[u8],
     new: &[u8],
     args: &[usize],
-) -> Option<EditAnswer> {
+) -> Option<EditAnswer>
+    ensures { IsSome result → length args.now ≤ 8 }
+{
     match kind {
         "line" => line_call(name, lent, line, log, buf, args),
         "log" => changeset_calls::call(name, lent, line, log, buf, new, args),

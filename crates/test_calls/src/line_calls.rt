@@ -1,10 +1,14 @@
 // The calls that are lent a text and do not write.
+ghost use Rattle.std.specs.Prelude.{◌≤◌, length, IsSome};
+
 use checks::{Line, LineAnswer};
 use test_edit_calls::kill_calls::movement_codes;
 use test_fields::{code_of, count_of};
 
 // The answer of the call with a name and these arguments, none where there is no such call.
-pub fn call(name: &str, text: &[u8], line: Line, args: &[usize]) -> Option<LineAnswer> {
+pub fn call(name: &str, text: &[u8], line: Line, args: &[usize]) -> Option<LineAnswer>
+    ensures { IsSome result → length args.now ≤ 6 }
+{
     let answer = match (name, args) {
         ("is_cursor_at_end", []) => motion_calls::is_cursor_at_end(text, line),
         ("is_end_of_input", []) => motion_calls::is_end_of_input(text, line),

@@ -1,11 +1,15 @@
 // The calls of `edit_insert`, `edit_range`, `edit_transpose`, `edit_case` and `edit_indent`.
+ghost use Rattle.std.specs.Prelude.{◌≤◌, length, IsSome};
+
 use crate::kill_calls::movement_codes;
 use checks::Line;
 use edit::EditAnswer;
 use log_state::Log;
 use test_fields::{Lend, amount_of, code_of, count_of};
 
-// The answer of the call with a name, with this text to put in and these other arguments; none where there is no such call.
+// The answer of the call with a name, with this text to put in and these other arguments; none where there is no such call. No call has
+// more than 8.
+// Wrong answers ruled out: a call made whatever stands behind its arguments; a call that takes a ninth.
 pub fn call(
     name: &str,
     lent: &mut impl Lend,
@@ -13,7 +17,9 @@ pub fn call(
     log: Log,
     buf: &[u8],
     args: &[usize],
-) -> Option<EditAnswer> {
+) -> Option<EditAnswer>
+    ensures { IsSome result → length args.now ≤ 8 }
+{
     let (text, records, texts) = lent.lend();
     let answer = match (name, args) {
         ("insert", [ch, n]) => {

@@ -1,4 +1,6 @@
 // The calls of `edit_kill`.
+ghost use Rattle.std.specs.Prelude.{◌≤◌, length, IsSome};
+
 use checks::Line;
 use edit::EditAnswer;
 use keymap::MovementCodes;
@@ -24,14 +26,17 @@ pub fn movement_codes(
     }
 }
 
-// The answer of the call with a name and these arguments, none where there is no such call.
+// The answer of the call with a name and these arguments, none where there is no such call. No call has more than 6.
+// Wrong answers ruled out: a call made whatever stands behind its arguments; a call that takes a seventh.
 pub fn call(
     name: &str,
     lent: &mut impl Lend,
     line: Line,
     log: Log,
     args: &[usize],
-) -> Option<EditAnswer> {
+) -> Option<EditAnswer>
+    ensures { IsSome result → length args.now ≤ 6 }
+{
     let (text, records, texts) = lent.lend();
     let answer = match (name, args) {
         ("kill_line", []) => edit_kill::kill_line(text, records, texts, line, log),

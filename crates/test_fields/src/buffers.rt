@@ -3,7 +3,7 @@ use super::{Fields, Malformed, Text, is_left};
 
 // A text and a log's two buffers that a call is lent, of any lengths: those of `Buffers`, or a caller's own.
 pub trait Lend {
-    // The text, the records and the texts, to be written.
+    // The text, the records and the texts, to be written. A call may ask for them more than once: they are the same each time.
     fn lend(&mut self) -> (&mut [u8], &mut [u8], &mut [u8]);
 }
 

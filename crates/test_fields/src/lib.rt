@@ -99,7 +99,7 @@ impl<'a> Fields<'a> {
     }
 
     // Reads the next numbers into out, as many as it has room for, and answers how many: fewer only where no field is left.
-    // Wrong answers ruled out: an end before a field that is left; a number counted that no field says.
+    // Wrong answers ruled out: an end before a field that is left; a number counted where no field is left.
     pub fn read_numbers(&mut self, out: &mut [usize]) -> Result<usize, Malformed>
         ensures bound { IfOk result (λ n. n ≤ length out.old) }
         ensures end { IfOk result (λ n. n < length out.old → split_has_more self.new.rest ≡ false) }
@@ -125,9 +125,9 @@ pub fn is_left(due: &str, lent: &mut Text, left: &[u8], used: usize) -> Result<b
     Ok(left.get(..used).is_some_and(|part| part == lent.as_slice()))
 }
 
-// The same of a buffer of any length, where what was lent is kept: the text of the field is read into room, and is malformed where it
-// does not fit there.
-// Wrong answers ruled out: where the field is '=', the lengths compared alone; of more bytes in use than there are, those that there are.
+// The same of a buffer of any length, and what was lent is kept: the text of the field is read into room, and is malformed where it does
+// not fit there.
+// Wrong answers ruled out: the lengths compared, and not the bytes; more bytes in use than the buffer has, and those that it has compared.
 pub fn is_left_in(
     due: &str,
     lent: &[u8],
@@ -136,7 +136,7 @@ pub fn is_left_in(
     room: &mut [u8],
 ) -> Result<bool, Malformed>
     ensures whole { due.now ≡ 61 ∷ [] → IsOkAnd result (λ b. IsTrue b ↔ (left.now ≡ lent.now)) }
-    ensures part { IfOk result (λ b. IsTrue b → (due.now ≡ 61 ∷ []) ⊎ (used ≤ length left.now)) }
+    ensures part { IfOk result (λ b. IsTrue b → (due.now ≡ 61 ∷ []) ⊎ ((used ≤ length left.now) × (take used left.now ≡ take used room.new))) }
 {
     if due == "=" {
         return Ok(left == lent);

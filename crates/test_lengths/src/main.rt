@@ -139,6 +139,8 @@ fn print_calls(rt: &impl Print) -> io::Result<()> {
         let answer = call(kind, name, &mut lent, line, log, &[], &[], &[]);
         print_answer(rt, name, answer)?;
     }
+    let too_many = call("line", "kill_line", &mut lent, line, log, &[], &[], &[1]);
+    print_answer(rt, "kill_line of 1", too_many)?;
     let yanked = edit_calls::call("yank", &mut lent, line, log, b"b", &[1]);
     print_answer(rt, "yank", yanked)?;
     let backspaced = kill_calls::call("backspace", &mut lent, line, log, &[1]);
