@@ -126,7 +126,7 @@ pub fn is_left(due: &str, lent: &mut Text, left: &[u8], used: usize) -> Result<b
 }
 
 // The same of a buffer of any length, and what was lent is kept: the text of the field is read into room, and is malformed where it does
-// not fit there.
+// not fit there. 61 is '='.
 // Wrong answers ruled out: the lengths compared, and not the bytes; more bytes in use than the buffer has, and those that it has compared.
 pub fn is_left_in(
     due: &str,
@@ -136,7 +136,8 @@ pub fn is_left_in(
     room: &mut [u8],
 ) -> Result<bool, Malformed>
     ensures whole { due.now ≡ 61 ∷ [] → IsOkAnd result (λ b. IsTrue b ↔ (left.now ≡ lent.now)) }
-    ensures part { IfOk result (λ b. IsTrue b → (due.now ≡ 61 ∷ []) ⊎ ((used ≤ length left.now) × (take used left.now ≡ take used room.new))) }
+    ensures part { IfOk result (λ b. IsTrue b
+        → (due.now ≡ 61 ∷ []) ⊎ ((used ≤ length left.now) × (take used left.now ≡ take used room.new))) }
 {
     if due == "=" {
         return Ok(left == lent);

@@ -38,7 +38,7 @@ fn are_slots(due: &[u8], slots: &[u8], lens: &[u8], count: usize) -> bool
 }
 
 // Are the slots of a ring of any size left as a field says: the texts of those in use, or all as they were lent where the field is '='?
-// The texts of the field are read into room, and are malformed where they do not fit there.
+// The texts of the field are read into room, and are malformed where they do not fit there. 61 is '='.
 // Wrong answers ruled out: where the field is '=', slots that are never as they were lent; more slots in use than there are, or than have
 // a length, and those that there are compared.
 pub fn are_slots_left_in(
@@ -50,7 +50,8 @@ pub fn are_slots_left_in(
     room: &mut [u8],
 ) -> Result<bool, Malformed>
     ensures whole { due.now ≡ 61 ∷ [] → IsOkAnd result (λ b. IsTrue b ↔ (slots.now ≡ lent.now)) }
-    ensures in_use { IfOk result (λ b. IsTrue b → (due.now ≡ 61 ∷ []) ⊎ ((count ≤ length slots.now / 4096) × (count ≤ length lens.now / 2))) }
+    ensures in_use { IfOk result (λ b. IsTrue b
+        → (due.now ≡ 61 ∷ []) ⊎ ((count ≤ length slots.now / 4096) × (count ≤ length lens.now / 2))) }
 {
     if due == "=" {
         return Ok(slots == lent);
