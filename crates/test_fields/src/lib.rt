@@ -7,8 +7,8 @@ mod buffers;
 mod text;
 
 ghost use Rattle.std.specs.Prelude.{◌≡◌, ◌⊎◌, ◌↔◌, ◌+◌, ◌-◌, ◌<◌, ◌≤◌, ◌^◌, false, min, length, take, [], ◌∷◌, IfOk, IsOkAnd, IsTrue};
-ghost use Rattle.std.specs.Str.Iter.{split_has_more, split_parts_left};
 ghost use Rattle.std.specs.Io.KnownBytes.{Consumes, IsAtEnd};
+ghost use Rattle.test_fields.specs.Fields.{has_field, most_left};
 
 pub use buffers::{Buffers, Lend};
 use std::io::{self, Read};
@@ -102,8 +102,8 @@ impl<'a> Fields<'a> {
     // Wrong answers ruled out: an end before a field that is left; a number counted where no field is left.
     pub fn read_numbers(&mut self, out: &mut [usize]) -> Result<usize, Malformed>
         ensures bound { IfOk result (λ n. n ≤ length out.old) }
-        ensures end { IfOk result (λ n. n < length out.old → split_has_more self.new.rest ≡ false) }
-        ensures left { IfOk result (λ n. split_parts_left self.new.rest + n ≤ split_parts_left self.old.rest) }
+        ensures end { IfOk result (λ n. n < length out.old → has_field self.new ≡ false) }
+        ensures left { IfOk result (λ n. most_left self.new + n ≤ most_left self.old) }
     {
         for i in 0..out.len() {
             let Some(field) = self.rest.next() else {
